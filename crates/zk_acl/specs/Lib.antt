@@ -1,0 +1,1 @@
+pub use Rattle.zk_path.specs.Paths

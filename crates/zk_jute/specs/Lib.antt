@@ -1,0 +1,4 @@
+pub use Rattle.zk_path.specs.Paths
+pub mod Faults
+pub mod Records
+pub mod Reading

@@ -1,0 +1,97 @@
+//! Fields of a record, each read from the front of the bytes that are left.
+
+ghost use Rattle.std.specs.Int.{w32, w64};
+ghost use Rattle.zk_jute.specs.Reading.{Takes, TakesBy, number_at, bytes_at, count_at, text_at, path_at, content_at, boolean_at};
+
+use crate::fault::JuteFault;
+use bytes::Buf;
+use std::alloc::Global;
+use zk_acl::Text;
+use zk_path::Path;
+use zk_table::Content;
+
+pub(crate) fn int(input: &mut &[u8]) -> Result<i32, JuteFault>
+    ensures { Takes result input.new.now (number_at w32 input.old.now) }
+{
+    input.try_get_i32().map_err(|_| JuteFault::Short)
+}
+
+pub(crate) fn long(input: &mut &[u8]) -> Result<i64, JuteFault>
+    ensures { Takes result input.new.now (number_at w64 input.old.now) }
+{
+    input.try_get_i64().map_err(|_| JuteFault::Short)
+}
+
+/// A length, or the number of elements of a vector.
+#[tactic(auto, unfolding(crate::specs::Reading::count_at))]
+pub(crate) fn count(input: &mut &[u8]) -> Result<u32, JuteFault>
+    ensures { Takes result input.new.now (count_at input.old.now) }
+{
+    let count = int(input)?;
+    u32::try_from(count).map_err(|_| JuteFault::Length)
+}
+
+/// So many bytes.
+fn taken<'a>(input: &mut &'a [u8], len: usize) -> Result<&'a [u8], JuteFault>
+    ensures { TakesBy (λ x. x.now) result input.new.now (bytes_at len input.old.now) }
+{
+    if input.remaining() < len {
+        return Err(JuteFault::Short);
+    }
+    let (front, rest) = input.split_at(len);
+    *input = rest;
+    Ok(front)
+}
+
+/// A `ustring`, lent.
+#[tactic(auto, using(crate::proofs::Texts::is_text, crate::proofs::Texts::is_no_text), unfolding(crate::specs::Reading::text_at))]
+fn utf8<'a>(input: &mut &'a [u8]) -> Result<&'a str, JuteFault>
+    ensures { TakesBy (λ x. x.now) result input.new.now (text_at input.old.now) }
+{
+    let len = count(input)?;
+    let bytes = taken(input, len as usize)?;
+    std::str::from_utf8(bytes).map_err(|_| JuteFault::Text)
+}
+
+/// A `ustring`.
+pub(crate) fn text(alloc: Global, input: &mut &[u8]) -> Result<Text, JuteFault>
+    ensures { Takes result input.new.now (text_at input.old.now) }
+{
+    let text = utf8(input)?;
+    Ok(Text::read(alloc, text)?)
+}
+
+/// A `ustring` that is the path of a node.
+#[tactic(auto, unfolding(crate::specs::Reading::path_at))]
+pub(crate) fn path(alloc: Global, input: &mut &[u8]) -> Result<Path, JuteFault>
+    ensures { Takes result input.new.now (path_at input.old.now) }
+{
+    let text = utf8(input)?;
+    Ok(Path::read(alloc, text)?)
+}
+
+/// A `buffer`, whose length -1 stands for null.
+#[tactic(auto, unfolding(crate::specs::Reading::content_at))]
+pub(crate) fn content(alloc: Global, input: &mut &[u8]) -> Result<Option<Content>, JuteFault>
+    ensures { Takes result input.new.now (content_at input.old.now) }
+{
+    let len = int(input)?;
+    if len == -1 {
+        return Ok(None);
+    }
+    let len = u32::try_from(len).map_err(|_| JuteFault::Length)?;
+    let bytes = taken(input, len as usize)?;
+    Ok(Some(Content::read(alloc, bytes)?))
+}
+
+#[tactic(auto, unfolding(crate::specs::Reading::boolean_at))]
+pub(crate) fn boolean(input: &mut &[u8]) -> Result<bool, JuteFault>
+    ensures { Takes result input.new.now (boolean_at input.old.now) }
+{
+    let byte = input.try_get_u8().map_err(|_| JuteFault::Short)?;
+    match byte {
+        0 => Ok(false),
+        1 => Ok(true),
+        _ => Err(JuteFault::Boolean),
+    }
+}

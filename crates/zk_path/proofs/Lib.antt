@@ -1,0 +1,4 @@
+pub mod Children
+pub mod FaultLaw
+pub mod Faults
+pub mod Slashes

@@ -1,0 +1,17 @@
+//! Paths of nodes, and the one refusal that all crates share.
+//!
+//! ZooKeeper Programmer's Guide, "The ZooKeeper Data Model".
+#![tactic(auto)]
+
+mod fault;
+mod grammar;
+pub mod laws;
+mod memory;
+mod path;
+
+pub use fault::PathFault;
+pub use memory::NoMemory;
+pub use path::Path;
+
+#[cfg(test)]
+mod tests;

@@ -1,0 +1,128 @@
+ghost use Rattle.std.specs.Prelude.{◌≡◌, ◌≢◌, [], false, None, Some, IfOk, IfErr, IsOkUnless, if◌then◌else◌};
+ghost use Rattle.std.specs.Result.{IsErrOf};
+ghost use Rattle.std.specs.List.{AllByRecursion};
+ghost use Rattle.std.specs.Option.{ForSome, option_copied};
+ghost use Rattle.zk_path.specs.Paths.{IsPath, IsName, fault_of, name_fault, is_slash, is_root, before_last_slash, after_last_slash, parent_of, name_of, child_of};
+
+use crate::fault::PathFault;
+use crate::grammar::{check_name, check_path};
+use crate::memory::NoMemory;
+use std::alloc::Global;
+use std::marker::Model;
+
+/// The path of a node: `/`, or names each preceded by `/`.
+///
+/// ZooKeeper Programmer's Guide, "The ZooKeeper Data Model".
+#[derive(Debug, Drop)]
+pub struct Path {
+    text: String,
+}
+
+impl Model for Path {
+    ghost use Rattle.std.specs.Prelude.{◌≡◌, List, ℕ, None};
+    ghost use Rattle.std.specs.String.{string_bytes};
+    ghost use Rattle.zk_path.specs.Paths.{fault_of};
+
+    ghost Value = { List ℕ };
+
+    ghost view = { λ path. string_bytes path.text };
+
+    ghost invariant = { λ path. fault_of (string_bytes path.text) ≡ None };
+}
+
+impl Path {
+    /// Reads a path.
+    ///
+    /// Refuses a text that is none with the first of its faults, and a path
+    /// with [`PathFault::NoMemory`] where memory is refused.
+    pub fn read(alloc: Global, text: &str) -> Result<Path, PathFault>
+        ensures found { IfOk result (λ path. path ≡ text.now) }
+        ensures is_path { IfOk result (λ _. IsPath text.now) }
+        ensures only { IsPath text.now → IsOkUnless result PathFault.NoMemory }
+        ensures fault { IfErr result (λ fault. fault ≢ PathFault.NoMemory → fault_of text.now ≡ Some fault) }
+        ensures refused { ForSome (fault_of text.now) (IsErrOf result) }
+    {
+        check_path(text)?;
+        Ok(Path {
+            text: String::from_str(alloc, text)?,
+        })
+    }
+
+    /// The path as it is written.
+    pub fn text(&self) -> &str
+        ensures text { result.now ≡ self.now }
+        ensures is_path { fault_of self.now ≡ None }
+    {
+        self.text.as_str()
+    }
+
+    /// The text of the parent's path. The root has none, and is nobody's child.
+    pub fn parent(&self) -> Option<&str>
+        ensures { option_copied result ≡ parent_of self.now }
+    {
+        if self.text() == "/" {
+            return None;
+        }
+        let (above, _) = self.around_last_slash();
+        if above.is_empty() {
+            return Some("/");
+        }
+        Some(above)
+    }
+
+    /// The last name, or nothing for the root.
+    pub fn name(&self) -> &str
+        ensures { result.now ≡ name_of self.now }
+    {
+        let (_, name) = self.around_last_slash();
+        name
+    }
+
+    /// The path of a child with this name, which is not empty and has no slash.
+    ///
+    /// Refuses a name that no node may have with its fault, and any other with
+    /// [`PathFault::NoMemory`] where memory is refused.
+    pub fn child(&self, name: &str) -> Result<Path, PathFault>
+        requires filled { name.now ≢ [] }
+        requires whole { AllByRecursion (λ b. is_slash b ≡ false) name.now }
+        ensures found { IfOk result (λ path. path ≡ child_of self.now name.now) }
+        ensures is_name { IfOk result (λ _. IsName name.now) }
+        ensures only { IsName name.now → IsOkUnless result PathFault.NoMemory }
+        ensures fault { IfErr result (λ fault. fault ≢ PathFault.NoMemory → name_fault name.now ≡ Some fault) }
+        ensures refused { ForSome (name_fault name.now) (IsErrOf result) }
+    {
+        check_name(name)?;
+        let mut text = String::from_str(*self.text.allocator(), self.before_names())?;
+        text.push('/')?;
+        text.push_str(name)?;
+        Ok(Path { text })
+    }
+
+    /// A path of the same text. Want of memory is the only refusal.
+    pub fn copy(&self) -> Result<Path, NoMemory>
+        ensures { IfOk result (λ copy. copy ≡ self.now) }
+    {
+        Ok(Path {
+            text: self.text.clone()?,
+        })
+    }
+
+    /// What stands before the slash of a child's name.
+    fn before_names(&self) -> &str
+        ensures { result.now ≡ (if is_root self.now then [] else self.now) }
+    {
+        let text = self.text();
+        if text == "/" {
+            return "";
+        }
+        text
+    }
+
+    /// What stands before the last slash, and behind it.
+    fn around_last_slash(&self) -> (&str, &str)
+        ensures before { result.0.now ≡ before_last_slash self.now }
+        ensures behind { result.1.now ≡ after_last_slash self.now }
+    {
+        self.text().rsplit_once('/').unwrap()
+    }
+}

@@ -1,0 +1,22 @@
+-- The codes of refusals, as the 3.4 server and its clients number them.
+use Rattle.std.specs.Prelude.{ℤ, negsuc}
+
+-- -8
+abbrev pub bad_arguments : ℤ
+bad_arguments = negsuc 7
+
+-- -101
+abbrev pub no_node : ℤ
+no_node = negsuc 100
+
+-- -108
+abbrev pub no_children_for_ephemerals : ℤ
+no_children_for_ephemerals = negsuc 107
+
+-- -110
+abbrev pub node_exists : ℤ
+node_exists = negsuc 109
+
+-- -111
+abbrev pub not_empty : ℤ
+not_empty = negsuc 110

@@ -1,0 +1,11 @@
+//! The codes of refusals, as the 3.4 server and its clients number them.
+
+pub(crate) const BAD_ARGUMENTS: i32 = -8;
+
+pub(crate) const NO_NODE: i32 = -101;
+
+pub(crate) const NO_CHILDREN_FOR_EPHEMERALS: i32 = -108;
+
+pub(crate) const NODE_EXISTS: i32 = -110;
+
+pub(crate) const NOT_EMPTY: i32 = -111;

@@ -1,0 +1,20 @@
+//! The tree's table: what each transaction does to the nodes and the sessions, and what it answers.
+//!
+//! ZooKeeper Programmer's Guide, "The ZooKeeper Data Model"; `zookeeper.jute`, module `org.apache.zookeeper.txn`.
+#![tactic(auto)]
+
+mod codes;
+mod content;
+mod node;
+mod nodes;
+mod operations;
+mod plain;
+mod result;
+mod sessions;
+mod txn;
+
+pub use content::Content;
+pub use node::Node;
+pub use plain::Plain;
+pub use result::{PartResult, PartResults, TxnResult};
+pub use txn::{Op, Txn};

@@ -1,0 +1,159 @@
+ghost use Rattle.std.specs.Prelude.{◌≡◌, ◌<◌, ◌≤◌, length, MatchResult, OnOk, OnErr};
+ghost use Rattle.std.specs.FinMap as finite;
+ghost use Rattle.std.specs.Option.{option_copied};
+ghost use Rattle.zk_table.specs.Nodes.{with_child, without_child, written};
+ghost use Rattle.zk_table.specs.Places.{place_of};
+ghost use Rattle.zk_table.specs.States.{path_cmp, is_child_of, children_of, changed};
+
+use crate::content::Content;
+use crate::node::Node;
+use crate::txn::Txn;
+use std::alloc::Global;
+use std::cmp::Ordering;
+use std::marker::Model;
+use zk_path::{NoMemory, Path};
+
+/// Nodes by their paths: a list in the paths' order.
+#[derive(Debug, Drop)]
+pub(crate) struct Nodes {
+    entries: Vec<(Path, Node)>,
+}
+
+impl Model for Nodes {
+    ghost use Rattle.std.specs.Prelude.{List, ℕ, IsTrue};
+    ghost use Rattle.std.specs.Coded.{coded_list, coded_ℕ};
+    ghost use Rattle.std.specs.FinMap as finite;
+    ghost use Rattle.zk_table.specs.contracts.node.Node as node;
+    ghost use Rattle.zk_table.specs.States.{NodeMap, path_cmp};
+
+    ghost Value = { NodeMap };
+
+    ghost coded = { finite.code (coded_list coded_ℕ) node.the_row.coded };
+
+    ghost view = { λ nodes. finite.from_sorted nodes.entries.items };
+
+    ghost invariant = { λ nodes. IsTrue (finite.is_sorted path_cmp nodes.entries.items) };
+}
+
+/// Where a path stands, or else where it would go.
+fn place_of(entries: &[(Path, Node)], path: &str) -> Result<usize, usize>
+    ensures place { result ≡ place_of path_cmp path.now entries.now }
+    ensures within { MatchResult result (λ at. at < length entries.now) (λ at. at ≤ length entries.now) }
+{
+    let mut at = 0;
+    for (known, _) in entries {
+        match path.cmp(known.text()) {
+            Ordering::Less => return Err(at),
+            Ordering::Equal => return Ok(at),
+            Ordering::Greater => at += 1,
+        }
+    }
+    Err(at)
+}
+
+/// Whether the first path is that of a child of the second.
+fn is_child_of(path: &Path, parent: &str) -> bool
+    ensures { result ≡ is_child_of parent.now path.now }
+{
+    match path.parent() {
+        Some(above) => above == parent,
+        None => false,
+    }
+}
+
+impl Nodes {
+    /// No node.
+    pub(crate) fn new(alloc: Global) -> Nodes
+        ensures { result ≡ finite.empty }
+    {
+        Nodes {
+            entries: Vec::new(alloc),
+        }
+    }
+
+    /// The memory that the nodes stand in.
+    pub(crate) fn allocator(&self) -> Global {
+        *self.entries.allocator()
+    }
+
+    /// The paths and their nodes, in order.
+    pub(crate) fn as_slice(&self) -> &[(Path, Node)]
+        ensures { result.now ≡ finite.entries self.now }
+    {
+        self.entries.as_slice()
+    }
+
+    /// The node at a path.
+    pub(crate) fn get(&self, path: &str) -> Option<&Node>
+        ensures { option_copied result ≡ finite.get self.now path.now }
+    {
+        match place_of(&self.entries, path) {
+            Ok(at) => Some(&self.entries[at].1),
+            Err(_) => None,
+        }
+    }
+
+    /// How many children a path has.
+    pub(crate) fn child_count(&self, path: &str) -> usize
+        ensures { result ≡ length (children_of self.now path.now) }
+    {
+        let mut count = 0;
+        for (known, _) in self.as_slice() {
+            if is_child_of(known, path) {
+                count += 1;
+            }
+        }
+        count
+    }
+
+    /// Puts a node at a path, in place of the one that stands there. After [`NoMemory`] nothing is changed.
+    pub(crate) fn insert(&mut self, path: Path, node: Node) -> Result<(), NoMemory>
+        ensures inserted { OnOk result (self.new ≡ finite.insert self.old path node) }
+        ensures unchanged { OnErr result (self.new ≡ self.old) }
+    {
+        match place_of(&self.entries, path.text()) {
+            Ok(at) => self.entries[at].1 = node,
+            Err(at) => self.entries.insert(at, (path, node))?,
+        }
+        Ok(())
+    }
+
+    /// Takes the node at a path away, where there is one.
+    pub(crate) fn remove(&mut self, path: &str)
+        ensures { self.new ≡ finite.remove self.old path.now }
+    {
+        if let Ok(at) = place_of(&self.entries, path) {
+            self.entries.remove(at);
+        }
+    }
+
+    /// Counts a child that the node at a path got.
+    pub(crate) fn add_child(&mut self, path: &str, zxid: i64, count: i32)
+        ensures { self.new ≡ changed self.old path.now (with_child zxid count) }
+    {
+        if let Ok(at) = place_of(&self.entries, path) {
+            let (_, node) = &mut self.entries[at];
+            node.add_child(zxid, count);
+        }
+    }
+
+    /// Notes that the node at a path lost a child.
+    pub(crate) fn lose_child(&mut self, path: &str, zxid: i64)
+        ensures { self.new ≡ changed self.old path.now (without_child zxid) }
+    {
+        if let Ok(at) = place_of(&self.entries, path) {
+            let (_, node) = &mut self.entries[at];
+            node.lose_child(zxid);
+        }
+    }
+
+    /// Sets the content of the node at a path.
+    pub(crate) fn write(&mut self, path: &str, txn: &Txn, content: Option<Content>, version: i32)
+        ensures { self.new ≡ changed self.old path.now (written txn.now content version) }
+    {
+        if let Ok(at) = place_of(&self.entries, path) {
+            let (_, node) = &mut self.entries[at];
+            node.write(txn, content, version);
+        }
+    }
+}

@@ -1,0 +1,178 @@
+//! What each operation does to the nodes, alone or as a part of a multi.
+
+ghost use Rattle.std.specs.Prelude.{◌≡◌, pos, Some, None, IfOk, OnErr};
+ghost use Rattle.zk_table.specs.Nodes.{with_child, without_child};
+ghost use Rattle.zk_table.specs.States.{parent_changed, stat_at, stat_of};
+ghost use Rattle.zk_table.specs.Steps.{create, create_fault, delete, delete_fault, missing_fault, set_data};
+
+use crate::codes::{BAD_ARGUMENTS, NO_CHILDREN_FOR_EPHEMERALS, NO_NODE, NODE_EXISTS, NOT_EMPTY};
+use crate::content::Content;
+use crate::node::{self, Node};
+use crate::nodes::Nodes;
+use crate::result::PartResult;
+use crate::txn::Txn;
+use zk_acl::{Acls, Stat};
+use zk_path::{NoMemory, Path};
+
+impl Nodes {
+    /// Makes a node. After [`NoMemory`] nothing is changed.
+    pub(crate) fn create(
+        &mut self,
+        txn: &Txn,
+        path: &Path,
+        content: &Option<Content>,
+        acl: &Acls,
+        ephemeral: bool,
+        count: i32,
+    ) -> Result<PartResult, NoMemory>
+        ensures done { IfOk result (λ answer. create self.old txn.now path.now content.now acl.now ephemeral count ≡ record { nodes = self.new; answer = answer }) }
+        ensures unchanged { OnErr result (self.new ≡ self.old) }
+    {
+        let told = path.copy()?;
+        if let Some(code) = self.create_fault(path) {
+            return Ok(refused(told, code));
+        }
+        let node = Node::created(txn, content, acl, ephemeral)?;
+        self.insert(path.copy()?, node)?;
+        self.parent_gains(path, txn.zxid, count);
+        Ok(done(told, None))
+    }
+
+    /// Removes a node that has no children. After [`NoMemory`] nothing is changed.
+    pub(crate) fn delete(&mut self, txn: &Txn, path: &Path) -> Result<PartResult, NoMemory>
+        ensures done { IfOk result (λ answer. delete self.old txn.now path.now ≡ record { nodes = self.new; answer = answer }) }
+        ensures unchanged { OnErr result (self.new ≡ self.old) }
+    {
+        let told = path.copy()?;
+        if let Some(code) = self.delete_fault(path) {
+            return Ok(refused(told, code));
+        }
+        self.remove(path.text());
+        self.parent_loses(path, txn.zxid);
+        Ok(done(told, None))
+    }
+
+    /// Sets a node's content and its version. After [`NoMemory`] nothing is changed.
+    pub(crate) fn set_data(
+        &mut self,
+        txn: &Txn,
+        path: &Path,
+        content: &Option<Content>,
+        version: i32,
+    ) -> Result<PartResult, NoMemory>
+        ensures done { IfOk result (λ answer. set_data self.old txn.now path.now content.now version ≡ record { nodes = self.new; answer = answer }) }
+        ensures unchanged { OnErr result (self.new ≡ self.old) }
+    {
+        let told = path.copy()?;
+        if let Some(code) = self.missing_fault(path) {
+            return Ok(refused(told, code));
+        }
+        let content = node::copy_of(content)?;
+        self.write(path.text(), txn, content, version);
+        let stat = self.stat_at(path.text());
+        Ok(done(told, stat))
+    }
+
+    /// Why a node can't be made at a path.
+    fn create_fault(&self, path: &Path) -> Option<i32>
+        ensures { result ≡ create_fault self.now path.now }
+    {
+        if self.get(path.text()).is_some() {
+            return Some(NODE_EXISTS);
+        }
+        let Some(parent) = path.parent() else {
+            return Some(NO_NODE);
+        };
+        let Some(node) = self.get(parent) else {
+            return Some(NO_NODE);
+        };
+        if node.owner == 0 {
+            None
+        } else {
+            Some(NO_CHILDREN_FOR_EPHEMERALS)
+        }
+    }
+
+    /// Why the node at a path can't be removed.
+    fn delete_fault(&self, path: &Path) -> Option<i32>
+        ensures { result ≡ delete_fault self.now path.now }
+    {
+        if path.parent().is_none() {
+            return Some(BAD_ARGUMENTS);
+        }
+        if self.get(path.text()).is_none() {
+            return Some(NO_NODE);
+        }
+        if self.child_count(path.text()) > 0 {
+            Some(NOT_EMPTY)
+        } else {
+            None
+        }
+    }
+
+    /// Why nothing can be set at a path.
+    fn missing_fault(&self, path: &Path) -> Option<i32>
+        ensures { result ≡ missing_fault self.now path.now }
+    {
+        if self.get(path.text()).is_some() {
+            None
+        } else {
+            Some(NO_NODE)
+        }
+    }
+
+    /// Counts a new child of the parent of a path.
+    fn parent_gains(&mut self, path: &Path, zxid: i64, count: i32)
+        ensures { self.new ≡ parent_changed self.old path.now (with_child zxid count) }
+    {
+        if let Some(parent) = path.parent() {
+            self.add_child(parent, zxid, count);
+        }
+    }
+
+    /// Notes that the parent of a path lost a child.
+    fn parent_loses(&mut self, path: &Path, zxid: i64)
+        ensures { self.new ≡ parent_changed self.old path.now (without_child zxid) }
+    {
+        if let Some(parent) = path.parent() {
+            self.lose_child(parent, zxid);
+        }
+    }
+
+    /// The stat of the node at a path.
+    fn stat_at(&self, path: &str) -> Option<Stat>
+        ensures { result ≡ stat_at self.now path.now }
+    {
+        let node = self.get(path)?;
+        Some(self.stat_of(path, node))
+    }
+
+    /// The stat that a node has at a path.
+    pub(crate) fn stat_of(&self, path: &str, node: &Node) -> Stat
+        ensures { result ≡ stat_of self.now path.now node.now }
+    {
+        node.stat(self.child_count(path))
+    }
+}
+
+/// The answer of an operation that was refused.
+fn refused(path: Path, err: i32) -> PartResult
+    ensures { result ≡ record { err = err; path = Some path; stat = None } }
+{
+    PartResult {
+        err,
+        path: Some(path),
+        stat: None,
+    }
+}
+
+/// The answer of an operation that was applied.
+fn done(path: Path, stat: Option<Stat>) -> PartResult
+    ensures { result ≡ record { err = pos 0; path = Some path; stat = stat } }
+{
+    PartResult {
+        err: 0,
+        path: Some(path),
+        stat,
+    }
+}

@@ -1,0 +1,160 @@
+ghost use Rattle.std.specs.Prelude.{◌≡◌, [], IfOk, OnErr};
+ghost use Rattle.std.specs.FinMap as finite;
+ghost use Rattle.zk_table.specs.States.{start_state, stat_of};
+ghost use Rattle.zk_table.specs.Steps.{on_nodes, open_session, step};
+
+use crate::node::Node;
+use crate::nodes::Nodes;
+use crate::result::{PartResult, PartResults, TxnResult};
+use crate::sessions::Sessions;
+use crate::txn::{Op, Txn};
+use std::alloc::Global;
+use std::marker::Model;
+use zk_acl::Stat;
+use zk_path::{NoMemory, Path};
+
+/// The table by the plainest means: a list of nodes and a list of sessions.
+#[derive(Debug, Drop)]
+pub struct Plain {
+    nodes: Nodes,
+    sessions: Sessions,
+    last: i64,
+}
+
+impl Model for Plain {
+    ghost use Rattle.zk_table.specs.contracts.node.Node as node;
+    ghost use Rattle.zk_table.specs.States.{State, state_code};
+
+    ghost Value = { State };
+
+    ghost coded = { state_code node.the_row.coded };
+
+    ghost view = { λ plain. record { nodes = plain.nodes; sessions = plain.sessions; last = plain.last } };
+}
+
+impl Plain {
+    /// The start state: the root, `/zookeeper` and `/zookeeper/quota`, no session, and no transaction.
+    pub fn new(alloc: Global) -> Result<Plain, NoMemory>
+        ensures { IfOk result (λ plain. plain ≡ start_state) }
+    {
+        let mut nodes = Nodes::new(alloc);
+        nodes.insert(fixed_path(alloc, "/")?, Node::first(alloc)?)?;
+        nodes.insert(fixed_path(alloc, "/zookeeper")?, Node::first(alloc)?)?;
+        nodes.insert(fixed_path(alloc, "/zookeeper/quota")?, Node::first(alloc)?)?;
+        Ok(Plain {
+            nodes,
+            sessions: Sessions::new(alloc),
+            last: 0,
+        })
+    }
+
+    /// Applies a transaction. After [`NoMemory`] nothing is changed.
+    pub fn apply(&mut self, txn: &Txn) -> Result<TxnResult, NoMemory>
+        ensures step { IfOk result (λ answer. (self.new, answer) ≡ step self.old txn.now) }
+        ensures unchanged { OnErr result (self.new ≡ self.old) }
+    {
+        match &txn.op {
+            Op::Create {
+                path,
+                content,
+                acl,
+                ephemeral,
+                count,
+            } => {
+                let answer = self
+                    .nodes
+                    .create(txn, path, content, acl, *ephemeral, *count)?;
+                Ok(self.on_nodes(txn, answer))
+            }
+            Op::Delete { path } => {
+                let answer = self.nodes.delete(txn, path)?;
+                Ok(self.on_nodes(txn, answer))
+            }
+            Op::SetData {
+                path,
+                content,
+                version,
+            } => {
+                let answer = self.nodes.set_data(txn, path, content, *version)?;
+                Ok(self.on_nodes(txn, answer))
+            }
+            Op::OpenSession { timeout } => self.open_session(txn, *timeout),
+        }
+    }
+
+    /// Notes a transaction whose operation on the nodes answered so.
+    fn on_nodes(&mut self, txn: &Txn, answer: PartResult) -> TxnResult
+        ensures { (self.new, result) ≡ on_nodes self.old txn.now (record { nodes = self.old.nodes; answer = answer }) }
+    {
+        self.last = txn.zxid;
+        TxnResult {
+            zxid: txn.zxid,
+            err: answer.err,
+            path: answer.path,
+            stat: answer.stat,
+            parts: self.no_parts(),
+        }
+    }
+
+    /// Opens the session of a transaction. After [`NoMemory`] nothing is changed.
+    fn open_session(&mut self, txn: &Txn, timeout: i32) -> Result<TxnResult, NoMemory>
+        ensures opened { IfOk result (λ answer. (self.new, answer) ≡ open_session self.old txn.now timeout) }
+        ensures unchanged { OnErr result (self.new ≡ self.old) }
+    {
+        self.sessions.open(txn.session, timeout)?;
+        self.last = txn.zxid;
+        Ok(TxnResult {
+            zxid: txn.zxid,
+            err: 0,
+            path: None,
+            stat: None,
+            parts: self.no_parts(),
+        })
+    }
+
+    /// The answers of a transaction that has no parts, without memory.
+    fn no_parts(&self) -> PartResults
+        ensures { result ≡ [] }
+    {
+        PartResults::new(Vec::new(self.nodes.allocator()))
+    }
+
+    /// What a client is told of a node at a path.
+    pub fn stat(&self, path: &Path, node: &Node) -> Stat
+        ensures { result ≡ stat_of self.now.nodes path.now node.now }
+    {
+        self.nodes.stat_of(path.text(), node)
+    }
+
+    /// The last transaction, and 0 before the first.
+    pub fn last(&self) -> i64
+        ensures { result ≡ self.now.last }
+    {
+        self.last
+    }
+
+    /// The paths and their nodes, in order.
+    pub fn nodes(&self) -> &[(Path, Node)]
+        ensures { result.now ≡ finite.entries self.now.nodes }
+    {
+        self.nodes.as_slice()
+    }
+
+    /// The open sessions, by the unsigned number that their sixteen digits spell, and their timeouts in milliseconds,
+    /// in order.
+    pub fn sessions(&self) -> &[(u64, i32)]
+        ensures { result.now ≡ finite.entries self.now.sessions }
+    {
+        self.sessions.as_slice()
+    }
+}
+
+/// The path of a text that is one, so that it is refused for want of memory alone.
+fn fixed_path(alloc: Global, text: &str) -> Result<Path, NoMemory>
+    ensures { IfOk result (λ path. path ≡ text.now) }
+{
+    match Path::read(alloc, text) {
+        Ok(path) => Ok(path),
+        Err(_) => Err(NoMemory),
+    }
+}

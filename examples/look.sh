@@ -1,0 +1,16 @@
+#!/usr/bin/env bash
+# Looks at the first log from several sides. Run it in a checkout where `rt ci`, or `rt run` in crates/zk_cli, has left
+# the proved program.
+cd "$(dirname "$0")/.."
+zk=crates/zk_cli/out/zk_cli
+
+echo "The tree after the last transaction of the log's first two entries:"
+"$zk" show examples/first_log_head.log last
+
+echo
+echo "The same log as of its first transaction, from standard input:"
+"$zk" show @ 0000000100000001 <examples/first_log_head.log
+
+echo
+echo "The same log, torn in its second entry:"
+head -c 100 examples/first_log_head.log | "$zk" show @ last
