@@ -15,7 +15,7 @@ use Rattle.zk_table.specs.declared.txn.Op.TheVariants.{Create, Delete, SetData, 
 use Rattle.zk_table.specs.declared.txn.Txn.{Txn}
 use Rattle.zk_table.specs.Codes.{bad_arguments, no_node, no_children_for_ephemerals, node_exists, not_empty}
 use Rattle.zk_table.specs.Nodes.{created, with_child, without_child, written}
-use Rattle.zk_table.specs.States.{NodeMap, State, children_of, stat_at, changed, parent_changed}
+use Rattle.zk_table.specs.States.{NodeMap, SessionMap, State, children_of, stat_at, changed, parent_changed}
 
 -- ---- one operation on the nodes, alone or as a part of a multi
 
@@ -60,14 +60,22 @@ set_data nodes txn path content version =
 
 -- ---- a transaction
 
+-- an operation that names no path, applied or refused
+abbrev pub plain_answer : ℤ → PartResult
+plain_answer code = record { err = code; path = None; stat = None }
+
+-- the state after an operation that left these nodes and sessions, and the transaction's result
+abbrev pub told : Txn → NodeMap → SessionMap → PartResult → List PartResult → State × TxnResult
+told txn nodes sessions answer parts =
+    (record { nodes = nodes; sessions = sessions; last = txn.zxid }, record { zxid = txn.zxid; err = answer.err; path = answer.path; stat = answer.stat; parts = parts })
+
 -- an operation on nodes leaves the sessions
 abbrev pub on_nodes : State → Txn → Done → State × TxnResult
-on_nodes state txn d = (record state { nodes = d.nodes; last = txn.zxid }, record { zxid = txn.zxid; err = d.answer.err; path = d.answer.path; stat = d.answer.stat; parts = [] })
+on_nodes state txn d = told txn d.nodes state.sessions d.answer []
 
 -- a session that is open already gets the new timeout
 abbrev pub open_session : State → Txn → ℤ → State × TxnResult
-open_session state txn timeout =
-    (record state { sessions = insert state.sessions (cast_unsigned w64 txn.session) timeout; last = txn.zxid }, record { zxid = txn.zxid; err = pos 0; path = None; stat = None; parts = [] })
+open_session state txn timeout = told txn state.nodes (insert state.sessions (cast_unsigned w64 txn.session) timeout) (plain_answer (pos 0)) []
 
 abbrev pub step_by : State → Txn → Op → State × TxnResult
 step_by state txn (Create path content acl ephemeral count) = on_nodes state txn (create state.nodes txn path content acl ephemeral count)

@@ -11,6 +11,8 @@ mod operations;
 mod plain;
 mod result;
 mod sessions;
+#[cfg(test)]
+mod tests;
 mod txn;
 
 pub use content::Content;

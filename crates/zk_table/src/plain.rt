@@ -1,7 +1,7 @@
 ghost use Rattle.std.specs.Prelude.{◌≡◌, [], IfOk, OnErr};
 ghost use Rattle.std.specs.FinMap as finite;
 ghost use Rattle.zk_table.specs.States.{start_state, stat_of};
-ghost use Rattle.zk_table.specs.Steps.{on_nodes, open_session, step};
+ghost use Rattle.zk_table.specs.Steps.{told, open_session, step};
 
 use crate::node::Node;
 use crate::nodes::Nodes;
@@ -64,11 +64,11 @@ impl Plain {
                 let answer = self
                     .nodes
                     .create(txn, path, content, acl, *ephemeral, *count)?;
-                Ok(self.on_nodes(txn, answer))
+                Ok(self.told(txn, answer))
             }
             Op::Delete { path } => {
                 let answer = self.nodes.delete(txn, path)?;
-                Ok(self.on_nodes(txn, answer))
+                Ok(self.told(txn, answer))
             }
             Op::SetData {
                 path,
@@ -76,23 +76,9 @@ impl Plain {
                 version,
             } => {
                 let answer = self.nodes.set_data(txn, path, content, *version)?;
-                Ok(self.on_nodes(txn, answer))
+                Ok(self.told(txn, answer))
             }
             Op::OpenSession { timeout } => self.open_session(txn, *timeout),
-        }
-    }
-
-    /// Notes a transaction whose operation on the nodes answered so.
-    fn on_nodes(&mut self, txn: &Txn, answer: PartResult) -> TxnResult
-        ensures { (self.new, result) ≡ on_nodes self.old txn.now (record { nodes = self.old.nodes; answer = answer }) }
-    {
-        self.last = txn.zxid;
-        TxnResult {
-            zxid: txn.zxid,
-            err: answer.err,
-            path: answer.path,
-            stat: answer.stat,
-            parts: self.no_parts(),
         }
     }
 
@@ -102,21 +88,26 @@ impl Plain {
         ensures unchanged { OnErr result (self.new ≡ self.old) }
     {
         self.sessions.open(txn.session, timeout)?;
-        self.last = txn.zxid;
-        Ok(TxnResult {
-            zxid: txn.zxid,
+        let answer = PartResult {
             err: 0,
             path: None,
             stat: None,
-            parts: self.no_parts(),
-        })
+        };
+        Ok(self.told(txn, answer))
     }
 
-    /// The answers of a transaction that has no parts, without memory.
-    fn no_parts(&self) -> PartResults
-        ensures { result ≡ [] }
+    /// Notes a transaction that changed the nodes and sessions, and tells its answer.
+    fn told(&mut self, txn: &Txn, answer: PartResult) -> TxnResult
+        ensures { (self.new, result) ≡ told txn.now self.old.nodes self.old.sessions answer [] }
     {
-        PartResults::new(Vec::new(self.nodes.allocator()))
+        self.last = txn.zxid;
+        TxnResult {
+            zxid: txn.zxid,
+            err: answer.err,
+            path: answer.path,
+            stat: answer.stat,
+            parts: PartResults::new(Vec::new(self.nodes.allocator())),
+        }
     }
 
     /// What a client is told of a node at a path.

@@ -1,0 +1,5 @@
+pub mod Acting
+pub mod Reports
+pub mod Showing
+pub mod Spelling
+pub mod Writing

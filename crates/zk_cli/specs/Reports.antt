@@ -1,0 +1,36 @@
+-- The lines of reports on a tree.
+use Rattle.std.specs.Prelude.{ℕ, ℤ, List, [], ◌∷◌, ◌++◌, codes}
+use Rattle.std.specs.Fmt.{signed_decimal}
+use Rattle.std.specs.FinMap.{entries}
+use Rattle.std.specs.List.{flat_map}
+use Rattle.zk_acl.specs.declared.stat.Stat.{Stat}
+use Rattle.zk_table.specs.declared.node.Node.{Node}
+use Rattle.zk_table.specs.States.{NodeMap, State, stat_of}
+use Rattle.zk_cli.specs.Spelling.{quoted, content_text, acl_text, stat_text, sixteen_digits, id_digits}
+
+-- a line, with the newline that ends it
+abbrev pub line : List ℕ → List ℕ
+line text = text ++ 10 ∷ []
+
+-- a node: its path, content, access control list and stat
+unfoldable pub node_line : List ℕ → Node → Stat → List ℕ
+node_line path node stat = quoted path ++ 32 ∷ content_text node.content ++ 32 ∷ acl_text node.acl ++ 32 ∷ stat_text stat
+
+-- the last transaction
+unfoldable pub zxid_line : ℤ → List ℕ
+zxid_line zxid = codes "zxid " ++ id_digits zxid
+
+-- an open session, by its 64 bits, and its timeout in milliseconds
+unfoldable pub session_line : ℕ × ℤ → List ℕ
+session_line session = codes "session " ++ sixteen_digits session.0 ++ 32 ∷ signed_decimal session.1
+
+-- a node of a tree
+abbrev pub tree_node_line : NodeMap → List ℕ × Node → List ℕ
+tree_node_line nodes entry = node_line entry.0 entry.1 (stat_of nodes entry.0 entry.1)
+
+-- the last transaction, the open sessions in order, and the nodes in the order of their paths
+unfoldable pub tree_report : State → List ℕ
+tree_report state =
+    line (zxid_line state.last)
+    ++ flat_map (λ session. line (session_line session)) (entries state.sessions)
+    ++ flat_map (λ entry. line (tree_node_line state.nodes entry)) (entries state.nodes)

@@ -1,0 +1,42 @@
+ghost use Rattle.std.specs.Prelude.{◌≡◌, ◌+◌, ◌-◌, ◌<◌, ◌^◌};
+ghost use Rattle.zk_cli.specs.Acting.{Acts};
+ghost use Rattle.zk_log.specs.Devices.{reads_of, read_failures_of, writes_of, write_failures_of};
+
+use crate::show::show;
+use std::alloc::Global;
+use std::io::{Read, Write};
+use zk_log::{Sink, Source};
+use zk_path::NoMemory;
+
+/// What the program is told to do.
+#[derive(Clone, Copy, Debug, PartialEq, Eq)]
+pub enum Order {
+    /// Shows the tree of a log up to a transaction, or at its last one.
+    Show { upto: Option<i64> },
+}
+
+/// Does what an order asks for, and answers the exit status: 0, or 1 for a refused input or a failed output, with one
+/// line on `faults`.
+///
+/// `script` is for orders that read a second input; the present one leaves it.
+pub fn act<F: Read, S: Read, O: Write, E: Write>(
+    alloc: Global,
+    order: &Order,
+    file: &mut Source<F>,
+    _script: &mut Source<S>,
+    output: &mut Sink<O>,
+    faults: &mut Sink<E>,
+) -> Result<u8, NoMemory>
+    requires reads { reads_of file.old + 1048576 < 2 ^ 64 }
+    requires read_failures { read_failures_of file.old < 2 ^ 64 - 1 }
+    requires output { write_failures_of output.old < 2 ^ 64 - 1 }
+    requires faults { write_failures_of faults.old < 2 ^ 64 - 1 }
+    requires faults_room { writes_of faults.old + 10 < 2 ^ 64 }
+    ensures acts { Acts F.remaining O.contents E.contents order.now file.old file.new
+        output.old output.new faults.old faults.new result }
+    ensures script { _script.new ≡ _script.old }
+{
+    match order {
+        Order::Show { upto } => show(alloc, *upto, file, output, faults),
+    }
+}

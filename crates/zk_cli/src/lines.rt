@@ -1,0 +1,64 @@
+ghost use Rattle.std.specs.Prelude.{◌≡◌, ◌+◌, ◌-◌, ◌<◌, ◌^◌, ◌↔◌, IsTrue, length};
+ghost use Rattle.std.specs.String.{string_bytes};
+ghost use Rattle.zk_cli.specs.Reports.{line};
+ghost use Rattle.zk_cli.specs.Writing.{Writes};
+ghost use Rattle.zk_cli.specs.declared.lines.LineFault.TheVariants as faults;
+ghost use Rattle.zk_log.specs.Devices.{writes_of, write_failures_of};
+
+use std::alloc::AllocError;
+use std::io::Write;
+use zk_log::{Sink, WriteFault};
+use zk_path::NoMemory;
+
+/// Why a line could not be written.
+#[derive(Clone, Copy, Debug, PartialEq, Eq)]
+pub(crate) enum LineFault {
+    /// The writer failed: a part of the line may be out.
+    Write,
+    /// Memory was refused. Nothing of the line is out.
+    NoMemory,
+}
+
+impl From<WriteFault> for LineFault {
+    ghost from_gives = { λ _ fault. fault ≡ faults.Write };
+
+    fn from(_failed: WriteFault) -> LineFault {
+        LineFault::Write
+    }
+}
+
+impl From<NoMemory> for LineFault {
+    ghost from_gives = { λ _ fault. fault ≡ faults.NoMemory };
+
+    fn from(_refused: NoMemory) -> LineFault {
+        LineFault::NoMemory
+    }
+}
+
+impl From<AllocError> for LineFault {
+    ghost from_gives = { λ _ fault. fault ≡ faults.NoMemory };
+
+    fn from(_refused: AllocError) -> LineFault {
+        LineFault::NoMemory
+    }
+}
+
+/// Writes a text and the newline that ends its line.
+pub(crate) fn write_line<O: Write>(output: &mut Sink<O>, mut text: String) -> Result<(), LineFault>
+    requires { write_failures_of output.old < 2 ^ 64 - 1 }
+    ensures { Writes O.contents output.old (line (string_bytes text)) result output.new }
+{
+    text.push('\n')?;
+    if !has_room(output, text.as_str()) {
+        return Err(LineFault::NoMemory);
+    }
+    output.write_all(text.as_bytes())?;
+    Ok(())
+}
+
+/// Whether a sink can count the writes of a text: a writer may take each byte in a write of its own.
+pub(crate) fn has_room<W: Write>(sink: &Sink<W>, text: &str) -> bool
+    ensures { IsTrue result ↔ (writes_of sink.now + length text.now < 2 ^ 64) }
+{
+    text.len() as u64 <= u64::MAX - sink.writes()
+}

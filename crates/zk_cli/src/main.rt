@@ -1,0 +1,82 @@
+//! The program `zk`: a look at transaction logs of ZooKeeper 3.4.
+#![tactic(auto)]
+
+mod act;
+mod command;
+mod lines;
+mod report;
+mod show;
+mod spelling;
+#[cfg(test)]
+mod tests;
+
+use act::{Order, act};
+use clap::error::ErrorKind;
+use command::{Job, read_command_line};
+use std::io::Read;
+use std::process::ExitCode;
+use std::{env, fs, io};
+use zk_log::{Sink, Source};
+use zk_path::NoMemory;
+
+fn main(rt: HostRuntime) -> ExitCode {
+    match run(&rt) {
+        Ok(status) => ExitCode::from(status),
+        Err(NoMemory) => ExitCode::from(refuse(&rt, "memory")),
+    }
+}
+
+/// Reads the command line and does what it asks for. Answers the exit status.
+fn run(rt: &HostRuntime) -> Result<u8, NoMemory> {
+    let Ok(args) = env::args(rt) else {
+        return Err(NoMemory);
+    };
+    let words = args.collect::<Vec<_>>(rt.alloc())?;
+    let texts = words
+        .iter()
+        .map(|word| word.as_str())
+        .collect::<Vec<_>>(rt.alloc())?;
+    match read_command_line(rt.alloc(), texts.as_slice()) {
+        Ok(job) => open_and_act(rt, &job),
+        Err(error) if error.kind() == ErrorKind::OutOfMemory => Err(NoMemory),
+        Err(error) => {
+            // Where the text can't be printed there is nobody left to tell.
+            let _ = error.print(rt);
+            Ok(if error.use_stderr() { 2 } else { 0 })
+        }
+    }
+}
+
+/// Opens the input, and acts. Answers the exit status.
+fn open_and_act(rt: &HostRuntime, job: &Job) -> Result<u8, NoMemory> {
+    if job.file == "@" {
+        return act_on(rt, &job.order, rt.reader());
+    }
+    match fs::open(rt, job.file) {
+        Ok(file) => act_on(rt, &job.order, file),
+        Err(_) => Ok(refuse(rt, "read")),
+    }
+}
+
+/// Acts on an open input, with the standard output and the standard error. Answers the exit status.
+fn act_on<F: Read + Drop>(rt: &HostRuntime, order: &Order, file: F) -> Result<u8, NoMemory> {
+    let mut file = Source::new(file);
+    let mut script = Source::new(io::empty());
+    let mut output = Sink::new(io::writer(rt));
+    let mut faults = Sink::new(rt.stderr());
+    act(
+        rt.alloc(),
+        order,
+        &mut file,
+        &mut script,
+        &mut output,
+        &mut faults,
+    )
+}
+
+/// Tells why nothing more is done. Answers the exit status.
+fn refuse(rt: &HostRuntime, reason: &str) -> u8 {
+    // Where that fails too, there is nobody left to tell.
+    let _ = eprintln!(rt; "zk: {reason}");
+    1
+}

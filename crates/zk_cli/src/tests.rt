@@ -1,0 +1,237 @@
+use crate::act::{Order, act};
+use crate::command::{Job, read_command_line};
+use clap::Error;
+use clap::error::ErrorKind;
+use std::process::Abort;
+use std::test::Fail;
+use zk_log::{DripIn, DripOut, Sink, Source};
+
+/// The header of a log with dbid 0.
+const HEADER: &str = "5a4b4c47000000020000000000000000";
+
+/// The entries of the first log: a session, `/a`, and the session's end.
+const OPEN: &str =
+    "0000000023a4058800000024010000000000000100000000000000010000000100000000000003e8fffffff60000753042";
+
+const CREATE: &str =
+    "000000009d9707220000004c010000000000000100000001000000010000000200000000000007d000000001000000022f61000000026869000000010000001f00000005776f726c6400000006616e796f6e65000000000142";
+
+const CLOSE: &str =
+    "000000000e8104be0000002001000000000000010000000200000001000000030000000000000bb8fffffff542";
+
+/// Two sessions, first the one whose digits begin with 8.
+const HIGH_SESSION: &str =
+    "000000002cb905110000002480000000000000010000000000000000000000010000000000000000fffffff60000138842";
+
+const LOW_SESSION: &str =
+    "000000001aba047e0000002400000000000000010000000000000000000000020000000000000000fffffff60000177042";
+
+/// A node whose path and identities have characters to escape, with null content.
+const QUOTES: &str =
+    "0000000049b91c510000005e0000000000000000000000000000000000000001fffffffffffffffb00000001000000032f225cffffffff000000020000001f00000005776f726c6400000006616e796f6e65ffffffff0000000361226200000004017fc3a900ffffffff42";
+
+/// The lines of nodes that nothing changed.
+const NEW_ROOT: &str =
+    "\"/\" x 1 31 \"world\" \"anyone\" 0000000000000000 0000000000000000 0 0 0 -1 0 0000000000000000 0 1 0000000000000000\n";
+
+const ZOOKEEPER: &str =
+    "\"/zookeeper\" x 1 31 \"world\" \"anyone\" 0000000000000000 0000000000000000 0 0 0 -1 0 0000000000000000 0 1 0000000000000000\n";
+
+const QUOTA: &str =
+    "\"/zookeeper/quota\" x 1 31 \"world\" \"anyone\" 0000000000000000 0000000000000000 0 0 0 0 0 0000000000000000 0 0 0000000000000000\n";
+
+/// The lines of the first log's second tree, down to the node `/a`.
+const SECOND_TREE: &str =
+    "zxid 0000000100000002\nsession 0100000000000001 30000\n\"/\" x 1 31 \"world\" \"anyone\" 0000000000000000 0000000000000000 0 0 0 0 0 0000000000000000 0 2 0000000100000002\n\"/a\" x6869 1 31 \"world\" \"anyone\" 0000000100000002 0000000100000002 2000 2000 0 0 0 0000000000000000 2 0 0000000100000002\n";
+
+/// The lines of the first log's first tree, down to its session.
+const FIRST_TREE: &str = "zxid 0000000100000001\nsession 0100000000000001 30000\n";
+
+/// The bytes that some texts spell in hexadecimal digits.
+fn log_of(rt: &(impl Abort + AllocGlobal), parts: &[&str]) -> Result<Vec<u8>, Fail> {
+    let mut digits = String::new(rt.alloc());
+    for part in parts {
+        digits.push_str(part)?;
+    }
+    Ok(hex::decode(rt.alloc(), digits.as_str())?)
+}
+
+/// Shows the tree of a log, and compares the status and what is written.
+fn check(
+    rt: &(impl Abort + AllocGlobal),
+    file: DripIn,
+    output: DripOut,
+    upto: Option<i64>,
+    expected: (u8, &[&str], &str),
+) -> Result<(), Fail> {
+    let mut file = Source::new(file);
+    let mut script = Source::new(DripIn::new(b"", 1, None));
+    let mut output = Sink::new(output);
+    let mut faults = Sink::new(DripOut::new(rt.alloc(), 64, None));
+    let order = Order::Show { upto };
+    let status = act(
+        rt.alloc(),
+        &order,
+        &mut file,
+        &mut script,
+        &mut output,
+        &mut faults,
+    )?;
+    let mut report = String::new(rt.alloc());
+    for part in expected.1 {
+        report.push_str(part)?;
+    }
+    assert_eq!(rt; status, expected.0);
+    assert_eq!(rt; output.into_inner().bytes(), report.as_bytes());
+    assert_eq!(rt; faults.into_inner().bytes(), expected.2.as_bytes());
+    Ok(())
+}
+
+/// Shows the tree of a log that is read and written without a failure.
+fn check_log(
+    rt: &(impl Abort + AllocGlobal),
+    log: &[u8],
+    upto: Option<i64>,
+    report: &[&str],
+) -> Result<(), Fail> {
+    let output = DripOut::new(rt.alloc(), 5, None);
+    check(rt, DripIn::new(log, 7, None), output, upto, (0, report, ""))
+}
+
+/// Shows the tree of a log that is refused.
+fn check_refused(rt: &(impl Abort + AllocGlobal), log: &[u8], fault: &str) -> Result<(), Fail> {
+    let output = DripOut::new(rt.alloc(), 5, None);
+    check(rt, DripIn::new(log, 7, None), output, None, (1, &[], fault))
+}
+
+#[test]
+fn first_log_shows_its_tree(rt: HostRuntime) -> Result<(), Fail> {
+    let log = log_of(&rt, &[HEADER, OPEN, CREATE])?;
+    let second = [SECOND_TREE, ZOOKEEPER, QUOTA, "end whole\n"];
+    check_log(&rt, &log, None, &second)?;
+    check_log(&rt, &log, Some(0x1_0000_0002), &second)?;
+    let first = [FIRST_TREE, NEW_ROOT, ZOOKEEPER, QUOTA, "end whole\n"];
+    check_log(&rt, &log, Some(0x1_0000_0001), &first)?;
+    let start = [
+        "zxid 0000000000000000\n",
+        NEW_ROOT,
+        ZOOKEEPER,
+        QUOTA,
+        "end whole\n",
+    ];
+    check_log(&rt, &log, Some(i64::MIN), &start)
+}
+
+#[test]
+fn torn_padded_and_damaged_logs(rt: HostRuntime) -> Result<(), Fail> {
+    let mut torn = log_of(&rt, &[HEADER, OPEN, CREATE])?;
+    torn.truncate(153);
+    let report = [FIRST_TREE, NEW_ROOT, ZOOKEEPER, QUOTA, "end torn 65\n"];
+    check_log(&rt, &torn, None, &report)?;
+    let padded = log_of(&rt, &[HEADER, OPEN, CREATE, "000000000000000000000000"])?;
+    check_log(
+        &rt,
+        &padded,
+        None,
+        &[SECOND_TREE, ZOOKEEPER, QUOTA, "end padding\n"],
+    )?;
+    let mut damaged = log_of(&rt, &[HEADER, OPEN, CREATE])?;
+    assert_eq!(rt; damaged.len(), 154);
+    damaged[72] = 0;
+    check_refused(&rt, &damaged, "zk: G2 65\n")?;
+    torn.truncate(15);
+    check_refused(&rt, &torn, "zk: G1\n")?;
+    let twice = log_of(&rt, &[HEADER, OPEN, CREATE, CREATE])?;
+    check_refused(&rt, &twice, "zk: G4 154\n")?;
+    let closed = log_of(&rt, &[HEADER, OPEN, CREATE, CLOSE])?;
+    check_refused(&rt, &closed, "zk: G3 154\n")
+}
+
+#[test]
+fn sessions_stand_in_the_order_of_their_digits(rt: HostRuntime) -> Result<(), Fail> {
+    let log = log_of(&rt, &[HEADER, HIGH_SESSION, LOW_SESSION])?;
+    let report = [
+        "zxid 0000000000000002\nsession 0000000000000001 6000\nsession 8000000000000001 5000\n",
+        NEW_ROOT,
+        ZOOKEEPER,
+        QUOTA,
+        "end whole\n",
+    ];
+    check_log(&rt, &log, None, &report)
+}
+
+#[test]
+fn texts_are_escaped_and_null_content_is_a_minus(rt: HostRuntime) -> Result<(), Fail> {
+    let log = log_of(&rt, &[HEADER, QUOTES])?;
+    let report = [
+        "zxid 0000000000000001\n",
+        "\"/\" x 1 31 \"world\" \"anyone\" 0000000000000000 0000000000000000 0 0 0 0 0 0000000000000000 0 2 0000000000000001\n",
+        "\"/\\\"\\\\\" - 2 31 \"world\" \"anyone\" -1 \"a\\\"b\" \"\\u{1}\\u{7f}\u{e9}\" 0000000000000001 0000000000000001 -5 -5 0 0 0 0000000000000000 0 0 0000000000000001\n",
+        ZOOKEEPER,
+        QUOTA,
+        "end whole\n",
+    ];
+    check_log(&rt, &log, None, &report)
+}
+
+#[test]
+fn failing_devices_are_told(rt: HostRuntime) -> Result<(), Fail> {
+    let log = log_of(&rt, &[HEADER, OPEN, CREATE])?;
+    let output = DripOut::new(rt.alloc(), 5, Some(3));
+    let report = ["zxid 0000000100"];
+    check(
+        &rt,
+        DripIn::new(&log, 7, None),
+        output,
+        None,
+        (1, &report, "zk: write\n"),
+    )?;
+    let output = DripOut::new(rt.alloc(), 5, None);
+    check(
+        &rt,
+        DripIn::new(&log, 7, Some(4)),
+        output,
+        None,
+        (1, &[], "zk: G6\n"),
+    )
+}
+
+#[test]
+fn command_lines_name_an_order(rt: HostRuntime) -> Result<(), Fail> {
+    let words = ["zk", "show", "a.log", "8000000000000000"];
+    let job = read_command_line(rt.alloc(), words.as_slice())?;
+    assert_eq!(rt; job.file, "a.log");
+    assert!(rt;
+        job.order
+            == Order::Show {
+                upto: Some(i64::MIN)
+            }
+    );
+    let words = ["zk", "show", "@", "last"];
+    let job = read_command_line(rt.alloc(), words.as_slice())?;
+    assert!(rt; job.order == Order::Show { upto: None });
+    for zxid in [
+        "0",
+        "+000000000000001",
+        "00000001000000020",
+        "000000010000000A",
+        "Last",
+    ] {
+        let words = ["zk", "show", "@", zxid];
+        let refused = read_command_line(rt.alloc(), words.as_slice());
+        assert_eq!(rt; kind_of(refused), Some(ErrorKind::ValueValidation));
+    }
+    let help = read_command_line(rt.alloc(), ["zk", "show", "--help"].as_slice());
+    assert_eq!(rt; kind_of(help), Some(ErrorKind::DisplayHelp));
+    let none = read_command_line(rt.alloc(), ["zk"].as_slice());
+    assert_eq!(rt; kind_of(none), Some(ErrorKind::MissingSubcommand));
+    Ok(())
+}
+
+/// The kind of a command line's refusal.
+fn kind_of(read: Result<Job, Error>) -> Option<ErrorKind> {
+    match read {
+        Ok(_) => None,
+        Err(error) => Some(error.kind()),
+    }
+}
