@@ -1,2 +1,3 @@
+pub mod DigitsLaws
 pub mod SpelledLaws
 pub mod LinesLaws

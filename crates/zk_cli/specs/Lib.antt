@@ -1,4 +1,5 @@
 pub mod Acting
+pub mod Commands
 pub mod Reports
 pub mod Showing
 pub mod Spelling

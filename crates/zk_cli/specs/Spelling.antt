@@ -20,6 +20,11 @@ sixteen_digits bits = encode_lower (to_be_bytes w64 bits)
 abbrev pub id_digits : ℤ → List ℕ
 id_digits id = sixteen_digits (cast_unsigned w64 id)
 
+-- up to which transaction others count: its number, or "last"
+abbrev pub upto_text : Option ℤ → List ℕ
+upto_text None = codes "last"
+upto_text (Some zxid) = id_digits zxid
+
 -- ---- texts
 
 -- A character between the quotes. Quotes and backslashes stand behind a backslash, the control characters of ASCII by

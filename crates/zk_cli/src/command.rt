@@ -1,7 +1,13 @@
+ghost use Rattle.std.specs.Prelude.{IfOk};
+ghost use Rattle.zk_cli.specs.Commands.{ReadsDigits, ReadsUpto};
+
 use crate::act::Order;
+use crate::spelling::push_digits;
 use clap::error::ErrorKind;
 use clap::{Arg, Command, Error};
+use hex::FromHex;
 use std::alloc::{AllocError, Global};
+use zk_path::NoMemory;
 
 /// What a command line asks for: an order, and the inputs that it names.
 #[derive(Clone, Copy, Debug)]
@@ -22,7 +28,7 @@ pub fn read_command_line<'a>(alloc: Global, words: &'a [&'a str]) -> Result<Job<
     let (Some(file), Some(zxid)) = (show.get_str("FILE"), show.get_str("ZXID")) else {
         return Err(refusal(alloc, "a file or a zxid is missing")?);
     };
-    let Some(upto) = read_upto(zxid) else {
+    let Some(upto) = read_upto(alloc, zxid).map_err(|_| AllocError)? else {
         return Err(refusal(
             alloc,
             "ZXID is neither sixteen hexadecimal digits nor `last`",
@@ -57,22 +63,34 @@ fn refusal(alloc: Global, message: &str) -> Result<Error, AllocError> {
     command(alloc)?.error(ErrorKind::ValueValidation, message)
 }
 
-/// The transaction up to which others count, none for the last, from sixteen lower-case hexadecimal digits of its 64
-/// bits or `last`. Answers none for another word.
-fn read_upto(word: &str) -> Option<Option<i64>> {
+/// The transaction up to which others count, none for the last: sixteen lower-case hexadecimal digits of its 64 bits,
+/// or `last`. Answers none for another word.
+fn read_upto(alloc: Global, word: &str) -> Result<Option<Option<i64>>, NoMemory>
+    ensures { IfOk result (λ read. ReadsUpto word.now read) }
+{
     if word == "last" {
-        return Some(None);
+        return Ok(Some(None));
     }
-    if word.len() != 16 || !is_lower_hex(word) {
-        return None;
-    }
-    match u64::from_str_radix(word, 16) {
-        Ok(bits) => Some(Some(bits.cast_signed())),
-        Err(_) => None,
+    match read_digits(alloc, word)? {
+        Some(bits) => Ok(Some(Some(bits.cast_signed()))),
+        None => Ok(None),
     }
 }
 
-/// Whether each character is a lower-case hexadecimal digit.
-fn is_lower_hex(word: &str) -> bool {
-    word.bytes().all(|b| matches!(b, b'0'..=b'9' | b'a'..=b'f'))
+/// The 64 bits that sixteen lower-case hexadecimal digits spell. Answers none for another word.
+fn read_digits(alloc: Global, word: &str) -> Result<Option<u64>, NoMemory>
+    ensures { IfOk result (λ read. ReadsDigits word.now read) }
+{
+    let Ok(bytes) = <[u8; 8] as FromHex>::from_hex(word) else {
+        return Ok(None);
+    };
+    let bits = u64::from_be_bytes(bytes);
+    // Digits of both cases were read, so the word is compared with the bits' own digits.
+    let mut digits = String::new(alloc);
+    push_digits(&mut digits, bits)?;
+    if digits.as_str() == word {
+        Ok(Some(bits))
+    } else {
+        Ok(None)
+    }
 }

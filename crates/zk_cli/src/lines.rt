@@ -49,6 +49,7 @@ pub(crate) fn write_line<O: Write>(output: &mut Sink<O>, mut text: String) -> Re
     ensures { Writes O.contents output.old (line (string_bytes text)) result output.new }
 {
     text.push('\n')?;
+    // A count of writes that can't grow by so much is told as want of memory; 2^64 writes are never made.
     if !has_room(output, text.as_str()) {
         return Err(LineFault::NoMemory);
     }

@@ -19,6 +19,10 @@ const CREATE: &str =
 const CLOSE: &str =
     "000000000e8104be0000002001000000000000010000000200000001000000030000000000000bb8fffffff542";
 
+/// An entry of a type that is none.
+const NO_KIND: &str =
+    "00000000049800cf0000002001000000000000010000000200000001000000030000000000000bb80000000342";
+
 /// Two sessions, first the one whose digits begin with 8.
 const HIGH_SESSION: &str =
     "000000002cb905110000002480000000000000010000000000000000000000010000000000000000fffffff60000138842";
@@ -43,6 +47,10 @@ const QUOTA: &str =
 /// The lines of the first log's second tree, down to the node `/a`.
 const SECOND_TREE: &str =
     "zxid 0000000100000002\nsession 0100000000000001 30000\n\"/\" x 1 31 \"world\" \"anyone\" 0000000000000000 0000000000000000 0 0 0 0 0 0000000000000000 0 2 0000000100000002\n\"/a\" x6869 1 31 \"world\" \"anyone\" 0000000100000002 0000000100000002 2000 2000 0 0 0 0000000000000000 2 0 0000000100000002\n";
+
+/// The lines of the first log's last tree, down to the node `/a`, which no session owned.
+const LAST_TREE: &str =
+    "zxid 0000000100000003\n\"/\" x 1 31 \"world\" \"anyone\" 0000000000000000 0000000000000000 0 0 0 0 0 0000000000000000 0 2 0000000100000002\n\"/a\" x6869 1 31 \"world\" \"anyone\" 0000000100000002 0000000100000002 2000 2000 0 0 0 0000000000000000 2 0 0000000100000002\n";
 
 /// The lines of the first log's first tree, down to its session.
 const FIRST_TREE: &str = "zxid 0000000100000001\nsession 0100000000000001 30000\n";
@@ -106,9 +114,13 @@ fn check_refused(rt: &(impl Abort + AllocGlobal), log: &[u8], fault: &str) -> Re
 
 #[test]
 fn first_log_shows_its_tree(rt: HostRuntime) -> Result<(), Fail> {
-    let log = log_of(&rt, &[HEADER, OPEN, CREATE])?;
+    let log = log_of(&rt, &[HEADER, OPEN, CREATE, CLOSE])?;
+    assert_eq!(rt; log.len(), 199);
+    let last = [LAST_TREE, ZOOKEEPER, QUOTA, "end whole\n"];
+    check_log(&rt, &log, None, &last)?;
+    let head = log_of(&rt, &[HEADER, OPEN, CREATE])?;
     let second = [SECOND_TREE, ZOOKEEPER, QUOTA, "end whole\n"];
-    check_log(&rt, &log, None, &second)?;
+    check_log(&rt, &head, None, &second)?;
     check_log(&rt, &log, Some(0x1_0000_0002), &second)?;
     let first = [FIRST_TREE, NEW_ROOT, ZOOKEEPER, QUOTA, "end whole\n"];
     check_log(&rt, &log, Some(0x1_0000_0001), &first)?;
@@ -143,8 +155,8 @@ fn torn_padded_and_damaged_logs(rt: HostRuntime) -> Result<(), Fail> {
     check_refused(&rt, &torn, "zk: G1\n")?;
     let twice = log_of(&rt, &[HEADER, OPEN, CREATE, CREATE])?;
     check_refused(&rt, &twice, "zk: G4 154\n")?;
-    let closed = log_of(&rt, &[HEADER, OPEN, CREATE, CLOSE])?;
-    check_refused(&rt, &closed, "zk: G3 154\n")
+    let unknown = log_of(&rt, &[HEADER, OPEN, CREATE, NO_KIND])?;
+    check_refused(&rt, &unknown, "zk: G3 154\n")
 }
 
 #[test]

@@ -1,5 +1,10 @@
+pub mod Creates
+pub mod Fitting
+pub mod Joined
+pub mod Lengths
 pub mod Numbers
-pub mod Operations
+pub mod Ops
+pub mod Parts
 pub mod Texts
 pub mod Turns
 pub mod Vectors

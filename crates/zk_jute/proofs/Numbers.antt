@@ -1,15 +1,15 @@
 -- What a reader takes from the front, and numbers.
-use Rattle.std.proofs.Common.{◌≡◌, ℕ, ℤ, pos, ◌+◌, ◌^◌, ◌<◌, ◌≤◌, Bool, true, false, cond, ltb, List, [], ◌∷◌, ◌++◌, length, get_or, take, drop, Result, Ok, Err, refl, sym, ap, subst, ◌∙◌, append_assoc, arith, inl, inr}
+use Rattle.std.proofs.Common.{◌≡◌, ℕ, ℤ, pos, ◌+◌, ◌^◌, ◌<◌, ◌≤◌, Bool, true, false, cond, ltb, eqb, List, [], ◌∷◌, ◌++◌, length, get_or, take, drop, Result, Ok, Err, refl, sym, ap, subst, ◌∙◌, append_assoc, arith, inl, inr}
 use Rattle.std.specs.Prelude.{FitsSigned}
 use Rattle.std.specs.Int.{Width, w32, w64, byte_len, from_be_bytes, to_be_bytes, cast_signed, cast_unsigned}
 use Rattle.std.proofs.Math.Facts.{sfits_to_z, Fits-of_z}
-use Rattle.std.proofs.lemmas.Bool.{cases_lt, ltb-false, le-ltb}
+use Rattle.std.proofs.lemmas.Bool.{cases_lt, ltb-false, le-ltb, eqb-true}
 use Rattle.std.proofs.lemmas.Int.{to_z-of_z, of_z-to_z}
-use Rattle.std.proofs.lemmas.List.{take_at, drop_at, take-append-drop, length-append, length-take, get_or-drop, get_or-take, get_or_past}
+use Rattle.std.proofs.lemmas.List.{take_at, drop_at, take-append-drop, length-append, length-take, get_or-drop, get_or-take, get_or_past, get_or_append_left, get_or-append-add, nil_from_length, append-nil}
 use Rattle.std.proofs.lemmas.Nat.{be_bytes_4, be_bytes_8, from_be_bytes-to_be_bytes_4, from_be_bytes-to_be_bytes_8}
 use Rattle.zk_jute.specs.declared.fault.JuteFault.{JuteFault}
 use Rattle.zk_jute.specs.declared.fault.JuteFault.TheVariants as faults
-use Rattle.zk_jute.specs.Reading.{◌>>=◌, number_at, bytes_at}
+use Rattle.zk_jute.specs.Reading.{◌>>=◌, number_at, bytes_at, made_of, whole}
 
 abbrev pub IsBytes : List ℕ → Type 0
 IsBytes bytes = (i : ℕ) → get_or bytes i 0 < 256
@@ -23,6 +23,21 @@ IsBytes-take n bytes h i =
       | inl lt ↦ rw (get_or-take n bytes i 0 lt) (h i)
       | inr le ↦ rw (get_or_past (take n bytes) i 0 (omega (arith, length-take n bytes))) (omega arith)
     ]
+
+IsBytes-front : (front rest : List ℕ) → IsBytes (front ++ rest) → IsBytes front
+IsBytes-front front rest h i =
+    elim (cases_lt i (length front)) [
+      | inl lt ↦ rw (← get_or_append_left front rest 0 i lt) (h i)
+      | inr le ↦ rw (get_or_past front i 0 le) (omega arith)
+    ]
+
+IsBytes-back : (front rest : List ℕ) → IsBytes (front ++ rest) → IsBytes rest
+IsBytes-back front rest h i = rw (← get_or-append-add front rest i 0) (h (length front + i))
+
+-- what lies between
+pub IsBytes-between : (bytes front middle rest : List ℕ) → bytes ≡ (front ++ middle) ++ rest → IsBytes bytes → IsBytes middle
+IsBytes-between bytes front middle rest parts fits =
+    IsBytes-back front middle (IsBytes-front (front ++ middle) rest (subst IsBytes parts fits))
 
 -- ---- readers
 
@@ -38,6 +53,10 @@ pub record IsField {A : Type 0} (read : List ℕ → Result (A × List ℕ) Jute
 
 pub TakesFront-then : (a x b y c : List ℕ) → TakesFront a x b → TakesFront b y c → TakesFront a (x ++ y) c
 TakesFront-then a x b y c p q = record { parts = p.parts ∙ ap (λ (t : List ℕ). x ++ t) q.parts ∙ sym (append_assoc x y c); rest_fits = q.rest_fits }
+
+-- what was taken with nothing left
+pub took_all : (bytes front : List ℕ) → TakesFront bytes front [] → bytes ≡ front
+took_all bytes front took = took.parts ∙ append-nil front
 
 -- the value of a step that did not fail
 pub bind_ok : {A B : Type 0} (r : Result A JuteFault) (f : A → Result B JuteFault) (y : B) → (r >>= f) ≡ Ok y → (x : A) × (r ≡ Ok x) × (f x ≡ Ok y)
@@ -66,7 +85,7 @@ pub guard_ended : {A : Type 0} (b : Bool) (d : JuteFault) (x y : A) → cond b (
 guard_ended true d x y e = (refl, cc)
 guard_ended false d x y e = absurd cc
 
-abbrev done : {A : Type 0} → A → Result A JuteFault
+abbrev pub done : {A : Type 0} → A → Result A JuteFault
 done x = Ok x
 
 pub ok_is : {A : Type 0} (x y : A) → done x ≡ done y → x ≡ y
@@ -75,6 +94,26 @@ ok_is x y e = cc
 -- what holds of the value that was made holds of the answer
 pub at_ok : {A : Type 0} (P : A → Type 0) (x y : A) → done x ≡ done y → P x → P y
 at_ok P x y e h = subst P (ok_is x y e) h
+
+-- the same where a value is made of what was read
+pub made_takes : {A B : Type 0} (read : List ℕ → Result (A × List ℕ) JuteFault) (spell : A → List ℕ) (Fits : A → Type 0) → IsField read spell Fits → (make : A → B) (bytes : List ℕ) (x : B × List ℕ) (P : B × List ℕ → Type 0) → IsBytes bytes → made_of make (read bytes) ≡ Ok x
+    → ((y : A) (rest : List ℕ) → TakesFront bytes (spell y) rest → Fits y → P (make y, rest)) → P x
+made_takes {A} {B} read spell Fits field make bytes x P fits e holds =
+    let a = first_read read spell Fits field bytes (λ y. Ok (make y.0, y.1)) x fits e in
+    let made : B × List ℕ = (make a.got.0, a.got.1) in
+    at_ok P made x a.goes (holds a.got.0 a.got.1 a.took a.fits)
+
+-- what was read whole
+pub whole_ok : {A : Type 0} (read : Result (A × List ℕ) JuteFault) (y : A) → whole read ≡ Ok y → read ≡ Ok (y, [])
+whole_ok {A} (Ok x) y e =
+    let g = guard_ended (eqb (length x.1) 0) faults.Trailing x.0 y e in
+    ap (λ (z : A). Ok (z, x.1)) g.1 ∙ ap (λ (r : List ℕ). Ok (y, r)) (nil_from_length x.1 (eqb-true _ _ g.0))
+whole_ok (Err fault) y e = absurd cc
+
+-- one of two readers answered, by a test
+pub either : {A : Type 0} (b : Bool) (first second : Result A JuteFault) (x : A) (P : Type 0) → ((b ≡ true) → first ≡ Ok x → P) → (second ≡ Ok x → P) → cond b first second ≡ Ok x → P
+either true first second x P here there e = here refl e
+either false first second x P here there e = there e
 
 -- ---- numbers
 

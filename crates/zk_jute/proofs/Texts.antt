@@ -11,8 +11,8 @@ use Rattle.zk_path.specs.declared.fault.PathFault.{PathFault}
 use Rattle.zk_jute.specs.declared.fault.JuteFault.{JuteFault}
 use Rattle.zk_jute.specs.declared.fault.JuteFault.TheVariants as faults
 use Rattle.zk_jute.specs.Records.{int, long, ustring, buffer, boolean, IsShort, IsText, IsPathText, IsContent}
-use Rattle.zk_jute.specs.Reading.{◌>>=◌, number_at, bytes_at, not_negative, count_at, text_at, path_at, content_of, content_at, boolean_at}
-use Rattle.zk_jute.proofs.Numbers.{IsBytes, TakesFront, TakesFront-then, IsField, FirstRead, first_read, bind_ok, guard_ended, ok_is, wide32, wide64, number_field, bytes_take, bytes_again}
+use Rattle.zk_jute.specs.Reading.{◌>>=◌, number_at, bytes_at, not_negative, count_at, counted_at, text_at, path_at, content_of, content_at, boolean_at}
+use Rattle.zk_jute.proofs.Numbers.{IsBytes, TakesFront, TakesFront-then, IsField, FirstRead, first_read, bind_ok, guard_ended, ok_is, at_ok, wide32, wide64, number_field, bytes_take, bytes_again}
 
 -- ---- the test of a text's bytes
 
@@ -64,21 +64,32 @@ count_field = record { takes = count_takes; again = count_again }
 
 -- ---- texts
 
+counted_takes : (bytes : List ℕ) (x : List ℕ × List ℕ) → IsBytes bytes → counted_at bytes ≡ Ok x → TakesFront bytes (ustring x.0) x.1 × IsShort x.0
+unfolding counted_at
+counted_takes bytes x fits e =
+    let a = first_read count_at count IsCount count_field bytes (λ len. bytes_at len.0 len.1) x fits e in
+    let t = bytes_take a.got.0 a.got.1 x a.took.rest_fits a.goes in
+    let both = TakesFront-then bytes (count a.got.0) a.got.1 x.0 x.1 a.took t.0 in
+    (subst (λ (k : ℕ). TakesFront bytes (count k ++ x.0) x.1) (sym t.1) both, subst (λ (k : ℕ). k < 2 ^ 31) (sym t.1) a.fits)
+
+counted_again : (content rest : List ℕ) → IsShort content → counted_at (ustring content ++ rest) ≡ Ok (content, rest)
+unfolding counted_at
+counted_again content rest short =
+    ap counted_at (append_assoc (count (length content)) content rest) ∙ rw (count_field.again (length content) (content ++ rest) short, bytes_again content rest) refl
+
+pub counted_field : IsField counted_at ustring IsShort
+counted_field = record { takes = counted_takes; again = counted_again }
+
 text_takes : (bytes : List ℕ) (x : List ℕ × List ℕ) → IsBytes bytes → text_at bytes ≡ Ok x → TakesFront bytes (ustring x.0) x.1 × IsText x.0
 unfolding text_at
 text_takes bytes x fits e =
-    let a = first_read count_at count IsCount count_field bytes (λ len. bytes_at len.0 len.1 >>= λ text. cond (is_utf8 text.0) (Ok text) (Err faults.Text)) x fits e in
-    let b = bind_ok {A = List ℕ × List ℕ} {B = List ℕ × List ℕ} (bytes_at a.got.0 a.got.1) (λ text. cond (is_utf8 text.0) (Ok text) (Err faults.Text)) x a.goes in
-    let t = bytes_take a.got.0 a.got.1 b.0 a.took.rest_fits b.1 in
-    let g = guard_ended (is_utf8 b.0.0) faults.Text b.0 x b.2 in
-    let both = TakesFront-then bytes (count a.got.0) a.got.1 b.0.0 b.0.1 a.took t.0 in
-    let whole : TakesFront bytes (ustring b.0.0) b.0.1 = subst (λ (k : ℕ). TakesFront bytes (count k ++ b.0.0) b.0.1) (sym t.1) both in
-    subst (λ (y : List ℕ × List ℕ). TakesFront bytes (ustring y.0) y.1 × IsText y.0) g.1 (whole, record { utf8 = IsUtf8-from_is_utf8 b.0.0 g.0; short = subst (λ (k : ℕ). k < 2 ^ 31) (sym t.1) a.fits })
+    let a = first_read _ _ _ counted_field bytes (λ text. cond (is_utf8 text.0) (Ok text) (Err faults.Text)) x fits e in
+    let g = guard_ended (is_utf8 a.got.0) faults.Text a.got x a.goes in
+    at_ok (λ (y : List ℕ × List ℕ). TakesFront bytes (ustring y.0) y.1 × IsText y.0) a.got x (ap Ok g.1) (a.took, record { utf8 = IsUtf8-from_is_utf8 a.got.0 g.0; short = a.fits })
 
 text_again : (text rest : List ℕ) → IsText text → text_at (ustring text ++ rest) ≡ Ok (text, rest)
 unfolding text_at
-text_again text rest is =
-    ap text_at (append_assoc (count (length text)) text rest) ∙ rw (count_field.again (length text) (text ++ rest) is.short, bytes_again text rest, is_text text is.utf8) refl
+text_again text rest is = rw (counted_field.again text rest is.short, is_text text is.utf8) refl
 
 pub text_field : IsField text_at ustring IsText
 text_field = record { takes = text_takes; again = text_again }

@@ -6,55 +6,47 @@ use Rattle.std.specs.List.{flat_map, AllByRecursion}
 use Rattle.std.proofs.lemmas.List.Concat.{flat_map-cons}
 use Rattle.zk_acl.specs.declared.acl.Acl.{Acl}
 use Rattle.zk_jute.specs.declared.fault.JuteFault.{JuteFault}
-use Rattle.zk_jute.specs.Records.{int, ustring, acl_entry, acl_vector, IsText, IsAcl, AreAcls}
-use Rattle.zk_jute.specs.Reading.{◌>>=◌, number_at, text_at, many_at, acl_at, acl_vector_at, count_at}
+use Rattle.zk_jute.specs.Records.{int, ustring, vector, acl_entry, acl_vector, IsText, AreElements, IsAcl, AreAcls}
+use Rattle.zk_jute.specs.Reading.{◌>>=◌, number_at, text_at, count_at, many_at, vector_at, acl_at}
 use Rattle.zk_jute.proofs.Numbers.{IsBytes, TakesFront, TakesFront-then, IsField, first_read, bind_ok, ok_is, at_ok}
 use Rattle.zk_jute.proofs.Texts.{int_field, count, IsCount, count_field, text_field}
 
 -- ---- so many elements
 
-pub many_take : {A : Type 0} (read : List ℕ → Result (A × List ℕ) JuteFault) (spell : A → List ℕ) (Fits : A → Type 0) → IsField read spell Fits → (n : ℕ) (bytes : List ℕ) (x : List A × List ℕ) → IsBytes bytes → many_at read n bytes ≡ Ok x → TakesFront bytes (flat_map spell x.0) x.1 × (length x.0 ≡ n) × AllByRecursion Fits x.0
+pub many_take : {A : Type 0} (read : List ℕ → Result (A × List ℕ) JuteFault) (element : A → List ℕ) (Fits : A → Type 0) → IsField read element Fits → (n : ℕ) (bytes : List ℕ) (x : List A × List ℕ) → IsBytes bytes → many_at read n bytes ≡ Ok x → TakesFront bytes (flat_map element x.0) x.1 × (length x.0 ≡ n) × AllByRecursion Fits x.0
 unfolding many_at
-many_take {A} read spell Fits field zero bytes x fits e =
+many_take {A} read element Fits field zero bytes x fits e =
     let made : List A × List ℕ = ([], bytes) in
-    subst (λ (y : List A × List ℕ). TakesFront bytes (flat_map spell y.0) y.1 × (length y.0 ≡ 0) × AllByRecursion Fits y.0) (ok_is made x e) (record { parts = refl; rest_fits = fits }, refl, tt)
-many_take {A} read spell Fits field (suc n) bytes x fits e =
-    let a = first_read read spell Fits field bytes (λ first. many_at read n first.1 >>= λ others. Ok (first.0 ∷ others.0, others.1)) x fits e in
+    subst (λ (y : List A × List ℕ). TakesFront bytes (flat_map element y.0) y.1 × (length y.0 ≡ 0) × AllByRecursion Fits y.0) (ok_is made x e) (record { parts = refl; rest_fits = fits }, refl, tt)
+many_take {A} read element Fits field (suc n) bytes x fits e =
+    let a = first_read read element Fits field bytes (λ first. many_at read n first.1 >>= λ others. Ok (first.0 ∷ others.0, others.1)) x fits e in
     let b = bind_ok {A = List A × List ℕ} {B = List A × List ℕ} (many_at read n a.got.1) (λ others. Ok (a.got.0 ∷ others.0, others.1)) x a.goes in
-    let others = many_take read spell Fits field n a.got.1 b.0 a.took.rest_fits b.1 in
-    let both = TakesFront-then bytes (spell a.got.0) a.got.1 (flat_map spell b.0.0) b.0.1 a.took others.0 in
+    let others = many_take read element Fits field n a.got.1 b.0 a.took.rest_fits b.1 in
+    let both = TakesFront-then bytes (element a.got.0) a.got.1 (flat_map element b.0.0) b.0.1 a.took others.0 in
     let made : List A × List ℕ = (a.got.0 ∷ b.0.0, b.0.1) in
-    subst (λ (y : List A × List ℕ). TakesFront bytes (flat_map spell y.0) y.1 × (length y.0 ≡ suc n) × AllByRecursion Fits y.0) (ok_is made x b.2) (rw flat_map-cons both, ap suc others.1, (a.fits, others.2))
+    subst (λ (y : List A × List ℕ). TakesFront bytes (flat_map element y.0) y.1 × (length y.0 ≡ suc n) × AllByRecursion Fits y.0) (ok_is made x b.2) (rw flat_map-cons both, ap suc others.1, (a.fits, others.2))
 
-pub many_again : {A : Type 0} (read : List ℕ → Result (A × List ℕ) JuteFault) (spell : A → List ℕ) (Fits : A → Type 0) → IsField read spell Fits → (xs : List A) (rest : List ℕ) → AllByRecursion Fits xs → many_at read (length xs) (flat_map spell xs ++ rest) ≡ Ok (xs, rest)
+pub many_again : {A : Type 0} (read : List ℕ → Result (A × List ℕ) JuteFault) (element : A → List ℕ) (Fits : A → Type 0) → IsField read element Fits → (xs : List A) (rest : List ℕ) → AllByRecursion Fits xs → many_at read (length xs) (flat_map element xs ++ rest) ≡ Ok (xs, rest)
 unfolding many_at
-many_again read spell Fits field [] rest fits = refl
-many_again read spell Fits field (x ∷ xs) rest fits =
-    let regrouped : flat_map spell (x ∷ xs) ++ rest ≡ spell x ++ (flat_map spell xs ++ rest) = ap (λ (ys : List ℕ). ys ++ rest) (flat_map-cons spell x xs) ∙ append_assoc (spell x) (flat_map spell xs) rest in
-    ap (many_at read (suc (length xs))) regrouped ∙ rw (field.again x (flat_map spell xs ++ rest) fits.0, many_again read spell Fits field xs rest fits.1) refl
+many_again read element Fits field [] rest fits = refl
+many_again read element Fits field (x ∷ xs) rest fits =
+    let regrouped : flat_map element (x ∷ xs) ++ rest ≡ element x ++ (flat_map element xs ++ rest) = ap (λ (ys : List ℕ). ys ++ rest) (flat_map-cons element x xs) ∙ append_assoc (element x) (flat_map element xs) rest in
+    ap (many_at read (suc (length xs))) regrouped ∙ rw (field.again x (flat_map element xs ++ rest) fits.0, many_again read element Fits field xs rest fits.1) refl
 
 -- ---- a vector
 
-abbrev pub vector : {A : Type 0} → (A → List ℕ) → List A → List ℕ
-vector spell xs = int (pos (length xs)) ++ flat_map spell xs
-
-abbrev pub vector_at : {A : Type 0} → (List ℕ → Result (A × List ℕ) JuteFault) → List ℕ → Result (List A × List ℕ) JuteFault
-vector_at read bytes = count_at bytes >>= λ count. many_at read count.0 count.1
-
-pub record AreElements {A : Type 0} (Fits : A → Type 0) (xs : List A) : Type 0 where
-  pub count : length xs < 2 ^ 31
-  pub each : AllByRecursion Fits xs
-
-pub vector_takes : {A : Type 0} (read : List ℕ → Result (A × List ℕ) JuteFault) (spell : A → List ℕ) (Fits : A → Type 0) → IsField read spell Fits → (bytes : List ℕ) (x : List A × List ℕ) → IsBytes bytes → vector_at read bytes ≡ Ok x → TakesFront bytes (vector spell x.0) x.1 × AreElements Fits x.0
-vector_takes {A} read spell Fits field bytes x fits e =
+pub vector_takes : {A : Type 0} (read : List ℕ → Result (A × List ℕ) JuteFault) (element : A → List ℕ) (Fits : A → Type 0) → IsField read element Fits → (bytes : List ℕ) (x : List A × List ℕ) → IsBytes bytes → vector_at read bytes ≡ Ok x → TakesFront bytes (vector element x.0) x.1 × AreElements Fits x.0
+unfolding vector_at
+vector_takes {A} read element Fits field bytes x fits e =
     let a = first_read count_at count IsCount count_field bytes (λ n. many_at read n.0 n.1) x fits e in
-    let b = many_take read spell Fits field a.got.0 a.got.1 x a.took.rest_fits a.goes in
-    let both = TakesFront-then bytes (count a.got.0) a.got.1 (flat_map spell x.0) x.1 a.took b.0 in
-    (subst (λ (k : ℕ). TakesFront bytes (count k ++ flat_map spell x.0) x.1) (sym b.1) both, record { count = subst (λ (k : ℕ). k < 2 ^ 31) (sym b.1) a.fits; each = b.2 })
+    let b = many_take read element Fits field a.got.0 a.got.1 x a.took.rest_fits a.goes in
+    let both = TakesFront-then bytes (count a.got.0) a.got.1 (flat_map element x.0) x.1 a.took b.0 in
+    (subst (λ (k : ℕ). TakesFront bytes (count k ++ flat_map element x.0) x.1) (sym b.1) both, record { count = subst (λ (k : ℕ). k < 2 ^ 31) (sym b.1) a.fits; each = b.2 })
 
-pub vector_again : {A : Type 0} (read : List ℕ → Result (A × List ℕ) JuteFault) (spell : A → List ℕ) (Fits : A → Type 0) → IsField read spell Fits → (xs : List A) (rest : List ℕ) → AreElements Fits xs → vector_at read (vector spell xs ++ rest) ≡ Ok (xs, rest)
-vector_again read spell Fits field xs rest are =
-    ap (vector_at read) (append_assoc (count (length xs)) (flat_map spell xs) rest) ∙ rw (count_field.again (length xs) (flat_map spell xs ++ rest) are.count) (many_again read spell Fits field xs rest are.each)
+pub vector_again : {A : Type 0} (read : List ℕ → Result (A × List ℕ) JuteFault) (element : A → List ℕ) (Fits : A → Type 0) → IsField read element Fits → (xs : List A) (rest : List ℕ) → AreElements Fits xs → vector_at read (vector element xs ++ rest) ≡ Ok (xs, rest)
+unfolding vector_at
+vector_again read element Fits field xs rest are =
+    ap (vector_at read) (append_assoc (count (length xs)) (flat_map element xs) rest) ∙ rw (count_field.again (length xs) (flat_map element xs ++ rest) are.count) (many_again read element Fits field xs rest are.each)
 
 -- ---- access control lists
 
@@ -81,15 +73,11 @@ acl_again acl rest is =
 pub acl_field : IsField acl_at acl_entry IsAcl
 acl_field = record { takes = acl_takes; again = acl_again }
 
-acl_vector_takes : (bytes : List ℕ) (x : List Acl × List ℕ) → IsBytes bytes → acl_vector_at bytes ≡ Ok x → TakesFront bytes (acl_vector x.0) x.1 × AreAcls x.0
-unfolding acl_vector_at
-acl_vector_takes bytes x fits e =
-    let took = vector_takes acl_at acl_entry IsAcl acl_field bytes x fits e in
-    (took.0, record { count = took.1.count; each = took.1.each })
+pub vector_field : {A : Type 0} (read : List ℕ → Result (A × List ℕ) JuteFault) (element : A → List ℕ) (Fits : A → Type 0) → IsField read element Fits → IsField (vector_at read) (vector element) (AreElements Fits)
+vector_field read element Fits field = record {
+  takes = λ bytes x fits e. vector_takes read element Fits field bytes x fits e;
+  again = λ xs rest are. vector_again read element Fits field xs rest are;
+}
 
-acl_vector_again : (acls : List Acl) (rest : List ℕ) → AreAcls acls → acl_vector_at (acl_vector acls ++ rest) ≡ Ok (acls, rest)
-unfolding acl_vector_at
-acl_vector_again acls rest are = vector_again acl_at acl_entry IsAcl acl_field acls rest (record { count = are.count; each = are.each })
-
-pub acl_vector_field : IsField acl_vector_at acl_vector AreAcls
-acl_vector_field = record { takes = acl_vector_takes; again = acl_vector_again }
+pub acl_vector_field : IsField (vector_at acl_at) acl_vector AreAcls
+acl_vector_field = vector_field acl_at acl_entry IsAcl acl_field

@@ -1,6 +1,6 @@
 //! Access control lists in a record.
 
-ghost use Rattle.zk_jute.specs.Reading.{Takes, many_at, acl_at, acl_vector_at};
+ghost use Rattle.zk_jute.specs.Reading.{Takes, many_at, acl_at, vector_at};
 
 use crate::fault::JuteFault;
 use crate::fields::{count, int, text};
@@ -33,9 +33,9 @@ fn entries(alloc: Global, count: u32, input: &mut &[u8]) -> Result<Acls, JuteFau
 }
 
 /// A vector of `ACL`.
-#[tactic(auto, unfolding(crate::specs::Reading::acl_vector_at))]
+#[tactic(auto, unfolding(crate::specs::Reading::vector_at))]
 pub(crate) fn acl_vector(alloc: Global, input: &mut &[u8]) -> Result<Acls, JuteFault>
-    ensures { Takes result input.new.now (acl_vector_at input.old.now) }
+    ensures { Takes result input.new.now (vector_at acl_at input.old.now) }
 {
     let count = count(input)?;
     entries(alloc, count, input)

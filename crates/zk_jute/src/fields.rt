@@ -1,7 +1,7 @@
 //! Fields of a record, each read from the front of the bytes that are left.
 
 ghost use Rattle.std.specs.Int.{w32, w64};
-ghost use Rattle.zk_jute.specs.Reading.{Takes, TakesBy, number_at, bytes_at, count_at, text_at, path_at, content_at, boolean_at};
+ghost use Rattle.zk_jute.specs.Reading.{Takes, TakesBy, number_at, bytes_at, count_at, counted_at, text_at, path_at, content_at, boolean_at};
 
 use crate::fault::JuteFault;
 use bytes::Buf;
@@ -43,13 +43,21 @@ fn taken<'a>(input: &mut &'a [u8], len: usize) -> Result<&'a [u8], JuteFault>
     Ok(front)
 }
 
+/// A length, and that many bytes.
+#[tactic(auto, unfolding(crate::specs::Reading::counted_at))]
+pub(crate) fn counted<'a>(input: &mut &'a [u8]) -> Result<&'a [u8], JuteFault>
+    ensures { TakesBy (λ x. x.now) result input.new.now (counted_at input.old.now) }
+{
+    let len = count(input)?;
+    taken(input, len as usize)
+}
+
 /// A `ustring`, lent.
 #[tactic(auto, using(crate::proofs::Texts::is_text, crate::proofs::Texts::is_no_text), unfolding(crate::specs::Reading::text_at))]
 fn utf8<'a>(input: &mut &'a [u8]) -> Result<&'a str, JuteFault>
     ensures { TakesBy (λ x. x.now) result input.new.now (text_at input.old.now) }
 {
-    let len = count(input)?;
-    let bytes = taken(input, len as usize)?;
+    let bytes = counted(input)?;
     std::str::from_utf8(bytes).map_err(|_| JuteFault::Text)
 }
 

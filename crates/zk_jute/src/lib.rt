@@ -8,10 +8,19 @@ mod acls;
 mod bodies;
 mod fault;
 mod fields;
+mod kinds;
+mod laws;
+mod multis;
+mod operations;
 mod reading;
+mod sizes;
+mod writing;
 
 pub use fault::JuteFault;
+pub use laws::{records_end_by_themselves, short_transactions_have_records};
 pub use reading::read_txn;
+pub use sizes::size;
+pub use writing::write_txn;
 
 #[cfg(test)]
 mod tests;

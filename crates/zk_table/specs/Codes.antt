@@ -1,6 +1,10 @@
 -- The codes of refusals, as the 3.4 server and its clients number them.
 use Rattle.std.specs.Prelude.{ℤ, negsuc}
 
+-- -2
+abbrev pub runtime_inconsistency : ℤ
+runtime_inconsistency = negsuc 1
+
 -- -8
 abbrev pub bad_arguments : ℤ
 bad_arguments = negsuc 7

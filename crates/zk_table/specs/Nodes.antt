@@ -35,6 +35,10 @@ without_child zxid parent = record parent { pzxid = zxid }
 abbrev pub written : Txn → Option (List ℕ) → ℤ → Node → Node
 written txn content version node = record node { content = content; version = version; mzxid = txn.zxid; mtime = txn.time }
 
+-- a node whose access control list was set
+abbrev pub guarded : List Acl → ℤ → Node → Node
+guarded acl version node = record node { acl = acl; aversion = version }
+
 -- null content has no bytes
 abbrev pub content_length : Option (List ℕ) → ℕ
 content_length None = 0

@@ -1,73 +1,16 @@
--- What each operation does, and what it answers: `zookeeper.jute`, module `org.apache.zookeeper.txn`, as the 3.4
--- server applies its log. Each refusal changes nothing but the last zxid.
-use Rattle.std.specs.Prelude.{ℕ, ℤ, pos, List, [], Bool, Option, Some, None, is_none, length, nat_lt, option_and_then, if◌then◌else◌}
+-- What each transaction does to a state, and what it answers: `zookeeper.jute`, module `org.apache.zookeeper.txn`, as
+-- the 3.4 server applies its log. Each refusal changes nothing but the last zxid.
+use Rattle.std.specs.Prelude.{ℕ, ℤ, pos, List, []}
 use Rattle.std.specs.Int.{w64, cast_unsigned}
-use Rattle.std.specs.Ordering.{int_eq}
-use Rattle.std.specs.FinMap.{get, insert, remove, contains_key}
-use Rattle.zk_acl.specs.declared.acl.Acl.{Acl}
-use Rattle.zk_acl.specs.declared.stat.Stat.{Stat}
-use Rattle.zk_path.specs.Paths.{parent_of}
-use Rattle.zk_table.specs.declared.node.Node.{Node}
-use Rattle.zk_table.specs.declared.result.PartResult.{PartResult}
+use Rattle.std.specs.FinMap.{insert, remove}
 use Rattle.zk_table.specs.declared.result.TxnResult.{TxnResult}
 use Rattle.zk_table.specs.declared.txn.Op.{Op}
-use Rattle.zk_table.specs.declared.txn.Op.TheVariants.{Create, Delete, SetData, OpenSession}
+use Rattle.zk_table.specs.declared.txn.Op.TheVariants.{Create, Delete, SetData, SetAcl, OpenSession, CloseSession, Error, Multi}
 use Rattle.zk_table.specs.declared.txn.Txn.{Txn}
-use Rattle.zk_table.specs.Codes.{bad_arguments, no_node, no_children_for_ephemerals, node_exists, not_empty}
-use Rattle.zk_table.specs.Nodes.{created, with_child, without_child, written}
-use Rattle.zk_table.specs.States.{NodeMap, SessionMap, State, children_of, stat_at, changed, parent_changed}
-
--- ---- one operation on the nodes, alone or as a part of a multi
-
--- the nodes after it, and its answer
-pub record Done : Type 0 where
-  pub nodes : NodeMap
-  pub answer : PartResult
-
--- the old nodes where there is a reason to refuse, else the new ones and what is told of them
-abbrev pub done_unless : Option ℤ → NodeMap → List ℕ → NodeMap → Option Stat → Done
-done_unless None old path new stat = record { nodes = new; answer = record { err = pos 0; path = Some path; stat = stat } }
-done_unless (Some code) old path new stat = record { nodes = old; answer = record { err = code; path = Some path; stat = None } }
-
--- why no node can be made below this one
-abbrev pub parent_fault : Option Node → Option ℤ
-parent_fault None = Some no_node
-parent_fault (Some parent) = if int_eq parent.owner (pos 0) then None else Some no_children_for_ephemerals
-
-abbrev pub create_fault : NodeMap → List ℕ → Option ℤ
-create_fault nodes path = if contains_key nodes path then Some node_exists else parent_fault (option_and_then (get nodes) (parent_of path))
-
-abbrev pub create : NodeMap → Txn → List ℕ → Option (List ℕ) → List Acl → Bool → ℤ → Done
-create nodes txn path content acl ephemeral count =
-    done_unless (create_fault nodes path) nodes path
-    (parent_changed (insert nodes path (created txn content acl ephemeral)) path (with_child txn.zxid count)) None
-
-abbrev pub delete_fault : NodeMap → List ℕ → Option ℤ
-delete_fault nodes path =
-    if is_none (parent_of path) then Some bad_arguments else (if contains_key nodes path then (if nat_lt 0 (length (children_of nodes path)) then Some not_empty else None) else Some no_node)
-
-abbrev pub delete : NodeMap → Txn → List ℕ → Done
-delete nodes txn path =
-    done_unless (delete_fault nodes path) nodes path (parent_changed (remove nodes path) path (without_child txn.zxid)) None
-
-abbrev pub missing_fault : NodeMap → List ℕ → Option ℤ
-missing_fault nodes path = if contains_key nodes path then None else Some no_node
-
-abbrev pub set_data : NodeMap → Txn → List ℕ → Option (List ℕ) → ℤ → Done
-set_data nodes txn path content version =
-    let new = changed nodes path (written txn content version) in
-    done_unless (missing_fault nodes path) nodes path new (stat_at new path)
-
--- ---- a transaction
-
--- an operation that names no path, applied or refused
-abbrev pub plain_answer : ℤ → PartResult
-plain_answer code = record { err = code; path = None; stat = None }
-
--- the state after an operation that left these nodes and sessions, and the transaction's result
-abbrev pub told : Txn → NodeMap → SessionMap → PartResult → List PartResult → State × TxnResult
-told txn nodes sessions answer parts =
-    (record { nodes = nodes; sessions = sessions; last = txn.zxid }, record { zxid = txn.zxid; err = answer.err; path = answer.path; stat = answer.stat; parts = parts })
+use Rattle.zk_table.specs.Multis.{multi}
+use Rattle.zk_table.specs.Operations.{create, delete, set_data, set_acl, without_all, plain_answer, told}
+use Rattle.zk_table.specs.States.{State, owned_by}
+pub use Rattle.zk_table.specs.Operations.{Done}
 
 -- an operation on nodes leaves the sessions
 abbrev pub on_nodes : State → Txn → Done → State × TxnResult
@@ -77,11 +20,20 @@ on_nodes state txn d = told txn d.nodes state.sessions d.answer []
 abbrev pub open_session : State → Txn → ℤ → State × TxnResult
 open_session state txn timeout = told txn state.nodes (insert state.sessions (cast_unsigned w64 txn.session) timeout) (plain_answer (pos 0)) []
 
+-- the nodes that the session owns go, and so does the session, if it is open
+abbrev pub close_session : State → Txn → State × TxnResult
+close_session state txn =
+    told txn (without_all txn state.nodes (owned_by state.nodes txn.session)) (remove state.sessions (cast_unsigned w64 txn.session)) (plain_answer (pos 0)) []
+
 abbrev pub step_by : State → Txn → Op → State × TxnResult
 step_by state txn (Create path content acl ephemeral count) = on_nodes state txn (create state.nodes txn path content acl ephemeral count)
 step_by state txn (Delete path) = on_nodes state txn (delete state.nodes txn path)
 step_by state txn (SetData path content version) = on_nodes state txn (set_data state.nodes txn path content version)
+step_by state txn (SetAcl path acl version) = on_nodes state txn (set_acl state.nodes path acl version)
 step_by state txn (OpenSession timeout) = open_session state txn timeout
+step_by state txn CloseSession = close_session state txn
+step_by state txn (Multi parts) = multi state txn parts
+step_by state txn (Error code) = told txn state.nodes state.sessions (plain_answer code) []
 
 -- the state after a transaction, and its result
 abbrev pub step : State → Txn → State × TxnResult

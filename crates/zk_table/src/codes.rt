@@ -1,5 +1,7 @@
 //! The codes of refusals, as the 3.4 server and its clients number them.
 
+pub(crate) const RUNTIME_INCONSISTENCY: i32 = -2;
+
 pub(crate) const BAD_ARGUMENTS: i32 = -8;
 
 pub(crate) const NO_NODE: i32 = -101;

@@ -35,6 +35,14 @@ impl Content {
         })
     }
 
+    /// The bytes, without memory.
+    pub fn into_vec(self) -> Vec<u8>
+        ensures { result.items ≡ self }
+    {
+        let Content { bytes } = self;
+        bytes
+    }
+
     /// The bytes, lent.
     pub fn as_slice(&self) -> &[u8]
         ensures { result.now ≡ self.now }

@@ -5,12 +5,14 @@
 
 mod codes;
 mod content;
+mod multi;
 mod node;
 mod nodes;
 mod operations;
 mod plain;
 mod result;
 mod sessions;
+mod sub;
 #[cfg(test)]
 mod tests;
 mod txn;
@@ -19,4 +21,5 @@ pub use content::Content;
 pub use node::Node;
 pub use plain::Plain;
 pub use result::{PartResult, PartResults, TxnResult};
+pub use sub::{Sub, Subs};
 pub use txn::{Op, Txn};

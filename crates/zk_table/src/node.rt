@@ -1,6 +1,6 @@
 ghost use Rattle.std.specs.Prelude.{◌≡◌, pos, ◌-ℤ◌, ◌*ℤ◌, IfOk, if◌then◌else◌};
 ghost use Rattle.std.specs.Int.{w32, int_wrap};
-ghost use Rattle.zk_table.specs.Nodes.{first_node, open_to_all, created, with_child, without_child, written, next_creates, content_length, stat_with};
+ghost use Rattle.zk_table.specs.Nodes.{first_node, open_to_all, created, with_child, without_child, written, guarded, next_creates, content_length, stat_with};
 
 use crate::content::Content;
 use crate::txn::Txn;
@@ -82,6 +82,27 @@ impl Node {
         })
     }
 
+    /// The same node once more.
+    pub fn copy(&self) -> Result<Node, NoMemory>
+        ensures { IfOk result (λ copy. copy ≡ self.now) }
+    {
+        let content = copy_of(&self.content)?;
+        let acl = self.acl.copy()?;
+        Ok(Node {
+            content,
+            acl,
+            czxid: self.czxid,
+            mzxid: self.mzxid,
+            pzxid: self.pzxid,
+            ctime: self.ctime,
+            mtime: self.mtime,
+            version: self.version,
+            creates: self.creates,
+            aversion: self.aversion,
+            owner: self.owner,
+        })
+    }
+
     /// Counts a child that the node got.
     pub(crate) fn add_child(&mut self, zxid: i64, count: i32)
         ensures { self.new ≡ with_child zxid count self.old }
@@ -105,6 +126,14 @@ impl Node {
         self.version = version;
         self.mzxid = txn.zxid;
         self.mtime = txn.time;
+    }
+
+    /// Sets the node's access control list.
+    pub(crate) fn guard(&mut self, acl: Acls, version: i32)
+        ensures { self.new ≡ guarded acl version self.old }
+    {
+        self.acl = acl;
+        self.aversion = version;
     }
 
     /// What a client is told of the node, which has so many children.

@@ -1,9 +1,9 @@
-ghost use Rattle.std.specs.Prelude.{◌≡◌, ◌<◌, ◌≤◌, length, MatchResult, OnOk, OnErr};
+ghost use Rattle.std.specs.Prelude.{◌≡◌, ◌<◌, ◌≤◌, length, MatchResult, IfOk, OnOk, OnErr};
 ghost use Rattle.std.specs.FinMap as finite;
 ghost use Rattle.std.specs.Option.{option_copied};
-ghost use Rattle.zk_table.specs.Nodes.{with_child, without_child, written};
+ghost use Rattle.zk_table.specs.Nodes.{with_child, without_child, written, guarded};
 ghost use Rattle.zk_table.specs.Places.{place_of};
-ghost use Rattle.zk_table.specs.States.{path_cmp, is_child_of, children_of, changed};
+ghost use Rattle.zk_table.specs.States.{path_cmp, is_child_of, children_of, owned_by, changed};
 
 use crate::content::Content;
 use crate::node::Node;
@@ -11,6 +11,7 @@ use crate::txn::Txn;
 use std::alloc::Global;
 use std::cmp::Ordering;
 use std::marker::Model;
+use zk_acl::Acls;
 use zk_path::{NoMemory, Path};
 
 /// Nodes by their paths: a list in the paths' order.
@@ -71,6 +72,19 @@ impl Nodes {
         }
     }
 
+    /// The same nodes once more.
+    pub(crate) fn copy(&self) -> Result<Nodes, NoMemory>
+        ensures { IfOk result (λ copy. copy ≡ self.now) }
+    {
+        let mut entries = Vec::new(self.allocator());
+        for (path, node) in self.as_slice() {
+            let path = path.copy()?;
+            let node = node.copy()?;
+            entries.push((path, node))?;
+        }
+        Ok(Nodes { entries })
+    }
+
     /// The memory that the nodes stand in.
     pub(crate) fn allocator(&self) -> Global {
         *self.entries.allocator()
@@ -104,6 +118,22 @@ impl Nodes {
             }
         }
         count
+    }
+
+    /// The paths of the nodes that a session owns, in order.
+    pub(crate) fn owned_by(&self, session: i64) -> Result<Vec<Path>, NoMemory>
+        ensures { IfOk result (λ paths. paths.items ≡ owned_by self.now session) }
+    {
+        let mut paths = Vec::new(self.allocator());
+        if session == 0 {
+            return Ok(paths);
+        }
+        for (path, node) in self.as_slice() {
+            if node.owner == session {
+                paths.push(path.copy()?)?;
+            }
+        }
+        Ok(paths)
     }
 
     /// Puts a node at a path, in place of the one that stands there. After [`NoMemory`] nothing is changed.
@@ -154,6 +184,16 @@ impl Nodes {
         if let Ok(at) = place_of(&self.entries, path) {
             let (_, node) = &mut self.entries[at];
             node.write(txn, content, version);
+        }
+    }
+
+    /// Sets the access control list of the node at a path.
+    pub(crate) fn guard(&mut self, path: &str, acl: Acls, version: i32)
+        ensures { self.new ≡ changed self.old path.now (guarded acl version) }
+    {
+        if let Ok(at) = place_of(&self.entries, path) {
+            let (_, node) = &mut self.entries[at];
+            node.guard(acl, version);
         }
     }
 }

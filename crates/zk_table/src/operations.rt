@@ -3,7 +3,7 @@
 ghost use Rattle.std.specs.Prelude.{◌≡◌, pos, Some, None, IfOk, OnErr};
 ghost use Rattle.zk_table.specs.Nodes.{with_child, without_child};
 ghost use Rattle.zk_table.specs.States.{parent_changed, stat_at, stat_of};
-ghost use Rattle.zk_table.specs.Steps.{create, create_fault, delete, delete_fault, missing_fault, set_data};
+ghost use Rattle.zk_table.specs.Operations.{create, create_fault, delete, delete_fault, missing_fault, set_data, set_acl, without, without_all};
 
 use crate::codes::{BAD_ARGUMENTS, NO_CHILDREN_FOR_EPHEMERALS, NO_NODE, NODE_EXISTS, NOT_EMPTY};
 use crate::content::Content;
@@ -47,9 +47,25 @@ impl Nodes {
         if let Some(code) = self.delete_fault(path) {
             return Ok(refused(told, code));
         }
+        self.take_away(txn, path);
+        Ok(done(told, None))
+    }
+
+    /// Removes the nodes at these paths in turn.
+    pub(crate) fn take_all_away(&mut self, txn: &Txn, paths: &[Path])
+        ensures { self.new ≡ without_all txn.now self.old paths.now }
+    {
+        for path in paths {
+            self.take_away(txn, path);
+        }
+    }
+
+    /// Removes a node, of which its parent learns.
+    fn take_away(&mut self, txn: &Txn, path: &Path)
+        ensures { self.new ≡ without txn.now self.old path.now }
+    {
         self.remove(path.text());
         self.parent_loses(path, txn.zxid);
-        Ok(done(told, None))
     }
 
     /// Sets a node's content and its version. After [`NoMemory`] nothing is changed.
@@ -69,6 +85,25 @@ impl Nodes {
         }
         let content = node::copy_of(content)?;
         self.write(path.text(), txn, content, version);
+        let stat = self.stat_at(path.text());
+        Ok(done(told, stat))
+    }
+
+    /// Sets a node's access control list and the list's version. After [`NoMemory`] nothing is changed.
+    pub(crate) fn set_acl(
+        &mut self,
+        path: &Path,
+        acl: &Acls,
+        version: i32,
+    ) -> Result<PartResult, NoMemory>
+        ensures done { IfOk result (λ answer. set_acl self.old path.now acl.now version ≡ record { nodes = self.new; answer = answer }) }
+        ensures unchanged { OnErr result (self.new ≡ self.old) }
+    {
+        let told = path.copy()?;
+        if let Some(code) = self.missing_fault(path) {
+            return Ok(refused(told, code));
+        }
+        self.guard(path.text(), acl.copy()?, version);
         let stat = self.stat_at(path.text());
         Ok(done(told, stat))
     }
@@ -167,7 +202,7 @@ fn refused(path: Path, err: i32) -> PartResult
 }
 
 /// The answer of an operation that was applied.
-fn done(path: Path, stat: Option<Stat>) -> PartResult
+pub(crate) fn done(path: Path, stat: Option<Stat>) -> PartResult
     ensures { result ≡ record { err = pos 0; path = Some path; stat = stat } }
 {
     PartResult {

@@ -1,12 +1,16 @@
 ghost use Rattle.std.specs.Prelude.{◌≡◌, [], IfOk, OnErr};
 ghost use Rattle.std.specs.FinMap as finite;
 ghost use Rattle.zk_table.specs.States.{start_state, stat_of};
-ghost use Rattle.zk_table.specs.Steps.{told, open_session, step};
+ghost use Rattle.zk_table.specs.Multis.{multi};
+ghost use Rattle.zk_table.specs.Operations.{plain_answer, told};
+ghost use Rattle.zk_table.specs.Steps.{open_session, close_session, step};
 
+use crate::multi::{answers_unapplied, first_refusal, hold_error};
 use crate::node::Node;
 use crate::nodes::Nodes;
 use crate::result::{PartResult, PartResults, TxnResult};
 use crate::sessions::Sessions;
+use crate::sub::Sub;
 use crate::txn::{Op, Txn};
 use std::alloc::Global;
 use std::marker::Model;
@@ -78,7 +82,14 @@ impl Plain {
                 let answer = self.nodes.set_data(txn, path, content, *version)?;
                 Ok(self.told(txn, answer))
             }
+            Op::SetAcl { path, acl, version } => {
+                let answer = self.nodes.set_acl(path, acl, *version)?;
+                Ok(self.told(txn, answer))
+            }
             Op::OpenSession { timeout } => self.open_session(txn, *timeout),
+            Op::CloseSession => self.close_session(txn),
+            Op::Multi { parts } => self.multi(txn, parts.as_slice()),
+            Op::Error { code } => Ok(self.told(txn, plain_answer(*code))),
         }
     }
 
@@ -88,17 +99,49 @@ impl Plain {
         ensures unchanged { OnErr result (self.new ≡ self.old) }
     {
         self.sessions.open(txn.session, timeout)?;
-        let answer = PartResult {
-            err: 0,
-            path: None,
-            stat: None,
-        };
-        Ok(self.told(txn, answer))
+        Ok(self.told(txn, plain_answer(0)))
+    }
+
+    /// Closes the session of a transaction; the nodes that it owns go. After [`NoMemory`] nothing is changed.
+    fn close_session(&mut self, txn: &Txn) -> Result<TxnResult, NoMemory>
+        ensures closed { IfOk result (λ answer. (self.new, answer) ≡ close_session self.old txn.now) }
+        ensures unchanged { OnErr result (self.new ≡ self.old) }
+    {
+        let owned = self.nodes.owned_by(txn.session)?;
+        self.nodes.take_all_away(txn, &owned);
+        self.sessions.close(txn.session);
+        Ok(self.told(txn, plain_answer(0)))
+    }
+
+    /// Applies the parts of a transaction in turn, or none. After [`NoMemory`] nothing is changed.
+    fn multi(&mut self, txn: &Txn, parts: &[Sub]) -> Result<TxnResult, NoMemory>
+        ensures applied { IfOk result (λ answer. (self.new, answer) ≡ multi self.old txn.now parts.now) }
+        ensures unchanged { OnErr result (self.new ≡ self.old) }
+    {
+        if hold_error(parts) {
+            let answers = answers_unapplied(self.nodes.allocator(), parts)?;
+            let err = first_refusal(&answers);
+            return Ok(self.told_parts(txn, plain_answer(err), answers));
+        }
+        // a copy, since memory may be refused when some parts are applied
+        let mut nodes = self.nodes.copy()?;
+        let answers = nodes.apply_parts(txn, parts)?;
+        let err = first_refusal(&answers);
+        self.nodes = nodes;
+        Ok(self.told_parts(txn, plain_answer(err), answers))
     }
 
     /// Notes a transaction that changed the nodes and sessions, and tells its answer.
     fn told(&mut self, txn: &Txn, answer: PartResult) -> TxnResult
         ensures { (self.new, result) ≡ told txn.now self.old.nodes self.old.sessions answer [] }
+    {
+        let parts = Vec::new(self.nodes.allocator());
+        self.told_parts(txn, answer, parts)
+    }
+
+    /// The same of a transaction that has parts.
+    fn told_parts(&mut self, txn: &Txn, answer: PartResult, parts: Vec<PartResult>) -> TxnResult
+        ensures { (self.new, result) ≡ told txn.now self.old.nodes self.old.sessions answer parts.items }
     {
         self.last = txn.zxid;
         TxnResult {
@@ -106,7 +149,7 @@ impl Plain {
             err: answer.err,
             path: answer.path,
             stat: answer.stat,
-            parts: PartResults::new(Vec::new(self.nodes.allocator())),
+            parts: PartResults::new(parts),
         }
     }
 
@@ -137,6 +180,17 @@ impl Plain {
         ensures { result.now ≡ finite.entries self.now.sessions }
     {
         self.sessions.as_slice()
+    }
+}
+
+/// The answer of an operation that names no path.
+pub(crate) fn plain_answer(err: i32) -> PartResult
+    ensures { result ≡ plain_answer err }
+{
+    PartResult {
+        err,
+        path: None,
+        stat: None,
     }
 }
 

@@ -1,8 +1,8 @@
-ghost use Rattle.std.specs.Prelude.{◌≡◌};
+ghost use Rattle.std.specs.Prelude.{◌≡◌, IfOk};
 
 use std::marker::Model;
 use zk_acl::Stat;
-use zk_path::Path;
+use zk_path::{NoMemory, Path};
 
 /// What a transaction answered.
 #[derive(Debug, Drop)]
@@ -18,6 +18,23 @@ pub struct TxnResult {
     pub parts: PartResults,
 }
 
+impl TxnResult {
+    /// The same result once more.
+    pub fn copy(&self) -> Result<TxnResult, NoMemory>
+        ensures { IfOk result (λ copy. copy ≡ self.now) }
+    {
+        let path = copy_of(&self.path)?;
+        let parts = self.parts.copy()?;
+        Ok(TxnResult {
+            zxid: self.zxid,
+            err: self.err,
+            path,
+            stat: self.stat,
+            parts,
+        })
+    }
+}
+
 /// What one part of a multi answered.
 #[derive(Debug, Drop)]
 pub struct PartResult {
@@ -27,6 +44,20 @@ pub struct PartResult {
     pub path: Option<Path>,
     /// The stat right after a part that was applied and has one.
     pub stat: Option<Stat>,
+}
+
+impl PartResult {
+    /// The same answer once more.
+    pub fn copy(&self) -> Result<PartResult, NoMemory>
+        ensures { IfOk result (λ copy. copy ≡ self.now) }
+    {
+        let path = copy_of(&self.path)?;
+        Ok(PartResult {
+            err: self.err,
+            path,
+            stat: self.stat,
+        })
+    }
 }
 
 /// The answers of a multi's parts, seen as their list.
@@ -52,10 +83,39 @@ impl PartResults {
         PartResults { parts }
     }
 
+    /// The answers, without memory.
+    pub fn into_vec(self) -> Vec<PartResult>
+        ensures { result.items ≡ self }
+    {
+        let PartResults { parts } = self;
+        parts
+    }
+
     /// The answers, lent.
     pub fn as_slice(&self) -> &[PartResult]
         ensures { result.now ≡ self.now }
     {
         self.parts.as_slice()
+    }
+
+    /// The same answers once more.
+    pub fn copy(&self) -> Result<PartResults, NoMemory>
+        ensures { IfOk result (λ copy. copy ≡ self.now) }
+    {
+        let mut parts = Vec::new(*self.parts.allocator());
+        for part in &self.parts {
+            parts.push(part.copy()?)?;
+        }
+        Ok(PartResults { parts })
+    }
+}
+
+/// A copy of the path that an answer tells.
+fn copy_of(path: &Option<Path>) -> Result<Option<Path>, NoMemory>
+    ensures { IfOk result (λ copy. copy ≡ path.now) }
+{
+    match path {
+        Some(path) => Ok(Some(path.copy()?)),
+        None => Ok(None),
     }
 }

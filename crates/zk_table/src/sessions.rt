@@ -76,4 +76,13 @@ impl Sessions {
         }
         Ok(())
     }
+
+    /// Closes a session, if it is open.
+    pub(crate) fn close(&mut self, session: i64)
+        ensures { self.new ≡ finite.remove self.old (cast_unsigned w64 session) }
+    {
+        if let Ok(at) = place_of(&self.entries, session.cast_unsigned()) {
+            self.entries.remove(at);
+        }
+    }
 }

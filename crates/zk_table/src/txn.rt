@@ -1,6 +1,10 @@
+ghost use Rattle.std.specs.Prelude.{◌≡◌, IfOk};
+
 use crate::content::Content;
+use crate::node;
+use crate::sub::Subs;
 use zk_acl::Acls;
-use zk_path::Path;
+use zk_path::{NoMemory, Path};
 
 /// A transaction: its header, and what it does.
 ///
@@ -15,6 +19,22 @@ pub struct Txn {
     /// Milliseconds.
     pub time: i64,
     pub op: Op,
+}
+
+impl Txn {
+    /// The same transaction once more.
+    pub fn copy(&self) -> Result<Txn, NoMemory>
+        ensures { IfOk result (λ copy. copy ≡ self.now) }
+    {
+        let op = self.op.copy()?;
+        Ok(Txn {
+            session: self.session,
+            cxid: self.cxid,
+            zxid: self.zxid,
+            time: self.time,
+            op,
+        })
+    }
 }
 
 /// What a transaction does.
@@ -40,8 +60,85 @@ pub enum Op {
         content: Option<Content>,
         version: i32,
     },
+    /// Sets a node's access control list and the list's version.
+    SetAcl {
+        path: Path,
+        acl: Acls,
+        version: i32,
+    },
     /// Opens the header's session, with a timeout in milliseconds.
     OpenSession {
         timeout: i32,
     },
+    /// Closes the header's session; the nodes that it owns go.
+    CloseSession,
+    /// Several operations on the nodes, which are applied in turn; with an error among them nothing is applied.
+    Multi {
+        parts: Subs,
+    },
+    /// A request that the server refused with this code.
+    Error {
+        code: i32,
+    },
+}
+
+impl Op {
+    /// The same operation once more.
+    pub fn copy(&self) -> Result<Op, NoMemory>
+        ensures { IfOk result (λ copy. copy ≡ self.now) }
+    {
+        match self {
+            Op::Create {
+                path,
+                content,
+                acl,
+                ephemeral,
+                count,
+            } => {
+                let path = path.copy()?;
+                let content = node::copy_of(content)?;
+                let acl = acl.copy()?;
+                Ok(Op::Create {
+                    path,
+                    content,
+                    acl,
+                    ephemeral: *ephemeral,
+                    count: *count,
+                })
+            }
+            Op::Delete { path } => {
+                let path = path.copy()?;
+                Ok(Op::Delete { path })
+            }
+            Op::SetData {
+                path,
+                content,
+                version,
+            } => {
+                let path = path.copy()?;
+                let content = node::copy_of(content)?;
+                Ok(Op::SetData {
+                    path,
+                    content,
+                    version: *version,
+                })
+            }
+            Op::SetAcl { path, acl, version } => {
+                let path = path.copy()?;
+                let acl = acl.copy()?;
+                Ok(Op::SetAcl {
+                    path,
+                    acl,
+                    version: *version,
+                })
+            }
+            Op::OpenSession { timeout } => Ok(Op::OpenSession { timeout: *timeout }),
+            Op::CloseSession => Ok(Op::CloseSession),
+            Op::Multi { parts } => {
+                let parts = parts.copy()?;
+                Ok(Op::Multi { parts })
+            }
+            Op::Error { code } => Ok(Op::Error { code: *code }),
+        }
+    }
 }

@@ -1,0 +1,89 @@
+-- Bodies by their types: what is read is spelled so, and what is spelled so is read.
+use Rattle.std.proofs.Common.{◌≡◌, ℕ, ℤ, pos, negsuc, Bool, true, List, [], ◌∷◌, ◌++◌, Result, Ok, Err, refl, sym, ap, subst, ◌∙◌, append_assoc, lit<}
+use Rattle.std.specs.Prelude.{FitsSigned}
+use Rattle.std.specs.Int.{w32}
+use Rattle.std.specs.Ordering.{int_eq}
+use Rattle.std.proofs.lemmas.Bool.Decides.{Decides-int_eq}
+use Rattle.zk_table.specs.declared.txn.Op.{Op}
+use Rattle.zk_table.specs.declared.txn.Op.TheVariants as ops
+use Rattle.zk_jute.specs.declared.fault.JuteFault.{JuteFault}
+use Rattle.zk_jute.specs.Records.{int, ustring, acl_vector, kind_of, body_of, IsOp}
+use Rattle.zk_jute.specs.Reading.{◌>>=◌, number_at, acl_at, vector_at, set_acl_at, create_op, set_data_op, op_at}
+use Rattle.zk_jute.proofs.Numbers.{IsBytes, TakesFront, TakesFront-then, IsField, FirstRead, first_read, at_ok, made_takes, either}
+use Rattle.zk_jute.proofs.Texts.{int_field, path_field}
+use Rattle.zk_jute.proofs.Vectors.{acl_vector_field}
+use Rattle.zk_jute.proofs.Creates.{create_field, set_data_field}
+use Rattle.zk_jute.proofs.Parts.{parts_field}
+
+-- a body of a type was read
+pub record IsBody (bytes : List ℕ) (kind : ℤ) (x : Op × List ℕ) : Type 0 where
+  pub took : TakesFront bytes (body_of x.0) x.1
+  pub typed : kind_of x.0 ≡ kind
+  pub fits : IsOp x.0
+
+set_acl_takes : (bytes : List ℕ) (x : Op × List ℕ) → IsBytes bytes → set_acl_at bytes ≡ Ok x → IsBody bytes (pos 7) x
+unfolding set_acl_at
+set_acl_takes bytes x fits e =
+    let a = first_read _ _ _ path_field bytes (λ path. vector_at acl_at path.1 >>= λ acl. number_at w32 acl.1 >>= λ version. Ok (ops.SetAcl path.0 acl.0 version.0, version.1)) x fits e in
+    let b = first_read _ _ _ acl_vector_field a.got.1 (λ acl. number_at w32 acl.1 >>= λ version. Ok (ops.SetAcl a.got.0 acl.0 version.0, version.1)) x a.took.rest_fits a.goes in
+    let c = first_read _ _ _ int_field b.got.1 (λ version. Ok (ops.SetAcl a.got.0 b.got.0 version.0, version.1)) x b.took.rest_fits b.goes in
+    let path = ustring a.got.0 in
+    let acl = acl_vector b.got.0 in
+    let ab = TakesFront-then bytes path a.got.1 acl b.got.1 a.took b.took in
+    let all = TakesFront-then bytes (path ++ acl) b.got.1 (int c.got.0) c.got.1 ab c.took in
+    let made : Op × List ℕ = (ops.SetAcl a.got.0 b.got.0 c.got.0, c.got.1) in
+    at_ok (λ (y : Op × List ℕ). IsBody bytes (pos 7) y) made x c.goes (record { took = all; typed = refl {a = pos 7}; fits = (a.fits, b.fits, c.fits) })
+
+-- ---- the body of a type
+
+at_kind : (kind known : ℤ) (bytes : List ℕ) (x : Op × List ℕ) → int_eq kind known ≡ true → IsBody bytes known x → IsBody bytes kind x
+at_kind kind known bytes x same is = subst (λ (k : ℤ). IsBody bytes k x) (sym ((Decides-int_eq kind known).0 same)) is
+
+abbrev is_body : List ℕ → ℤ → Op × List ℕ → Type 0
+is_body bytes kind x = IsBody bytes kind x
+
+pub op_takes : (kind : ℤ) (bytes : List ℕ) (x : Op × List ℕ) → IsBytes bytes → op_at kind bytes ≡ Ok x → IsBody bytes kind x
+unfolding op_at
+op_takes kind bytes x fits e =
+    let P : Type 0 = IsBody bytes kind x in
+    either _ _ _ x P (λ same h. at_kind kind (pos 1) bytes x same (made_takes _ _ _ create_field create_op bytes x (is_body bytes (pos 1)) fits h (λ body rest took is. record { took = took; typed = refl; fits = is })))
+    (either _ _ _ x P (λ same h. at_kind kind (pos 2) bytes x same (made_takes _ _ _ path_field ops.Delete bytes x (is_body bytes (pos 2)) fits h (λ path rest took is. record { took = took; typed = refl; fits = is })))
+    (either _ _ _ x P (λ same h. at_kind kind (pos 5) bytes x same (made_takes _ _ _ set_data_field set_data_op bytes x (is_body bytes (pos 5)) fits h (λ body rest took is. record { took = took; typed = refl; fits = is })))
+    (either _ _ _ x P (λ same h. at_kind kind (pos 7) bytes x same (set_acl_takes bytes x fits h))
+    (either _ _ _ x P (λ same h. at_kind kind (pos 14) bytes x same (made_takes _ _ _ parts_field ops.Multi bytes x (is_body bytes (pos 14)) fits h (λ parts rest took is. record { took = took; typed = refl; fits = is })))
+    (either _ _ _ x P (λ same h. at_kind kind (negsuc 0) bytes x same (made_takes _ _ _ int_field ops.Error bytes x (is_body bytes (negsuc 0)) fits h (λ code rest took is. record { took = took; typed = refl; fits = is })))
+    (either _ _ _ x P (λ same h. at_kind kind (negsuc 9) bytes x same (made_takes _ _ _ int_field ops.OpenSession bytes x (is_body bytes (negsuc 9)) fits h (λ timeout rest took is. record { took = took; typed = refl; fits = is })))
+    (either _ _ _ x P (λ same h. at_kind kind (negsuc 10) bytes x same (at_ok (is_body bytes (negsuc 10)) (ops.CloseSession, bytes) x h (record { took = record { parts = refl; rest_fits = fits }; typed = refl; fits = tt })))
+    (λ h. absurd (cc))))))))) e
+
+-- ---- and again
+
+regroup3 : (a b c r : List ℕ) → ((a ++ b) ++ c) ++ r ≡ a ++ (b ++ (c ++ r))
+regroup3 a b c r = simp append_assoc
+
+-- no longer body begins with a body of this kind
+abbrev pub IsClosed : Op → Type 0
+IsClosed op = Unit {0}
+
+pub op_again : (op : Op) (rest : List ℕ) → IsOp op → IsClosed op → op_at (kind_of op) (body_of op ++ rest) ≡ Ok (op, rest)
+unfolding op_at set_acl_at
+op_again (ops.Create path content acl ephemeral count) rest is closed = rw (create_field.again (record { path = path; content = content; acl = acl; ephemeral = ephemeral; count = count }) rest is) refl
+op_again (ops.Delete path) rest is closed = rw (path_field.again path rest is) refl
+op_again (ops.SetData path content version) rest is closed = rw (set_data_field.again (record { path = path; content = content; version = version }) rest is) refl
+op_again (ops.SetAcl path acl version) rest is closed =
+    ap set_acl_at (regroup3 (ustring path) (acl_vector acl) (int version) rest)
+    ∙ rw (path_field.again path (acl_vector acl ++ (int version ++ rest)) is.0, acl_vector_field.again acl (int version ++ rest) is.1, int_field.again version rest is.2) refl
+op_again (ops.OpenSession timeout) rest is closed = rw (int_field.again timeout rest is) refl
+op_again ops.CloseSession rest is closed = refl
+op_again (ops.Error code) rest is closed = rw (int_field.again code rest is) refl
+op_again (ops.Multi parts) rest is closed = rw (parts_field.again parts rest is) refl
+
+pub kind_fits : (op : Op) → FitsSigned w32 (kind_of op)
+kind_fits (ops.Create path content acl ephemeral count) = record { sfits = lit< tt }
+kind_fits (ops.Delete path) = record { sfits = lit< tt }
+kind_fits (ops.SetData path content version) = record { sfits = lit< tt }
+kind_fits (ops.SetAcl path acl version) = record { sfits = lit< tt }
+kind_fits (ops.OpenSession timeout) = record { sfits = lit< tt }
+kind_fits ops.CloseSession = record { sfits = lit< tt }
+kind_fits (ops.Error code) = record { sfits = lit< tt }
+kind_fits (ops.Multi parts) = record { sfits = lit< tt }

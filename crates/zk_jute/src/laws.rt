@@ -1,0 +1,16 @@
+//! Laws of records: the contracts of functions that do nothing.
+
+ghost use Rattle.zk_jute.specs.Laws.{NoRecordBeginsAnother, RecordsAreOfOne, ShortOnesHaveRecords};
+
+/// Where one record ends is known from its own bytes, and so is its transaction.
+pub fn records_end_by_themselves()
+    // No record is a proper prefix of another.
+    ensures ends { NoRecordBeginsAnother }
+    // Bytes are the record of one transaction at most.
+    ensures one { RecordsAreOfOne }
+{}
+
+/// Every transaction has a record if its [`size`](crate::size) is at most 16,777,216.
+pub fn short_transactions_have_records()
+    ensures { ShortOnesHaveRecords }
+{}

@@ -1,0 +1,106 @@
+//! What the parts of a multi do, and what they answer.
+
+ghost use Rattle.std.specs.Prelude.{◌≡◌, OnOk, IfOk, pos, if◌then◌else◌};
+ghost use Rattle.std.specs.List.{list_any};
+ghost use Rattle.zk_table.specs.Codes.{runtime_inconsistency};
+ghost use Rattle.zk_table.specs.Multis.{apply_part, nodes_after, answers_of, answers_unapplied, is_error, first_refusal};
+
+use crate::codes::RUNTIME_INCONSISTENCY;
+use crate::nodes::Nodes;
+use crate::operations::done;
+use crate::plain::plain_answer;
+use crate::result::PartResult;
+use crate::sub::Sub;
+use crate::txn::Txn;
+use std::alloc::Global;
+use zk_path::NoMemory;
+
+impl Nodes {
+    /// Applies the parts in turn. After [`NoMemory`] some of them may be applied.
+    pub(crate) fn apply_parts(
+        &mut self,
+        txn: &Txn,
+        parts: &[Sub],
+    ) -> Result<Vec<PartResult>, NoMemory>
+        ensures nodes { OnOk result (self.new ≡ nodes_after txn.now self.old parts.now) }
+        ensures answers { IfOk result (λ answers. answers.items ≡ answers_of txn.now self.old parts.now) }
+    {
+        let mut answers = Vec::new(self.allocator());
+        for part in parts {
+            let answer = self.apply_part(txn, part)?;
+            answers.push(answer)?;
+        }
+        Ok(answers)
+    }
+
+    /// Applies one part.
+    fn apply_part(&mut self, txn: &Txn, part: &Sub) -> Result<PartResult, NoMemory>
+        ensures { IfOk result (λ answer. apply_part txn.now self.old part.now ≡ record { nodes = self.new; answer = answer }) }
+    {
+        match part {
+            Sub::Create {
+                path,
+                content,
+                acl,
+                ephemeral,
+                count,
+            } => self.create(txn, path, content, acl, *ephemeral, *count),
+            Sub::Delete { path } => self.delete(txn, path),
+            Sub::SetData {
+                path,
+                content,
+                version,
+            } => self.set_data(txn, path, content, *version),
+            Sub::Check { path, .. } => Ok(done(path.copy()?, None)),
+            Sub::Error { code } => Ok(plain_answer(*code)),
+        }
+    }
+}
+
+/// Whether a part is an error, so that none is applied.
+pub(crate) fn hold_error(parts: &[Sub]) -> bool
+    ensures { result ≡ list_any is_error parts.now }
+{
+    parts.iter().any(|part| part.is_error())
+}
+
+/// What parts answer that are not applied, of which one is an error.
+pub(crate) fn answers_unapplied(alloc: Global, parts: &[Sub]) -> Result<Vec<PartResult>, NoMemory>
+    ensures { IfOk result (λ answers. answers.items ≡ answers_unapplied (pos 0) parts.now) }
+{
+    let mut answers = Vec::new(alloc);
+    let mut code = 0;
+    for part in parts {
+        let path = part.path_told()?;
+        answers.push(PartResult {
+            err: part.code_of(code),
+            path,
+            stat: None,
+        })?;
+        code = code_behind(part, code);
+    }
+    Ok(answers)
+}
+
+/// What parts answer behind this one, where those before it answer this code.
+fn code_behind(part: &Sub, code: i32) -> i32
+    ensures { result ≡ (if is_error part.now then runtime_inconsistency else code) }
+{
+    if part.is_error() {
+        RUNTIME_INCONSISTENCY
+    } else {
+        code
+    }
+}
+
+/// The first answer that is a refusal, and 0 where there is none.
+pub(crate) fn first_refusal(answers: &[PartResult]) -> i32
+    ensures { result ≡ first_refusal answers.now }
+{
+    for answer in answers {
+        if answer.err != 0 {
+            return answer.err;
+        }
+    }
+    0
+}
