@@ -55,8 +55,8 @@ impl Nodes {
     pub(crate) fn take_all_away(&mut self, txn: &Txn, paths: &[Path])
         ensures { self.new ≡ without_all txn.now self.old paths.now }
     {
-        for path in paths {
-            self.take_away(txn, path);
+        for gone in paths {
+            self.take_away(txn, gone);
         }
     }
 

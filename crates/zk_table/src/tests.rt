@@ -47,6 +47,45 @@ fn set_data(alloc: Global, text: &str, data: &str, version: i32) -> Result<Op, F
     })
 }
 
+fn set_acl(alloc: Global, text: &str, version: i32) -> Result<Op, Fail> {
+    Ok(Op::SetAcl {
+        path: path(alloc, text)?,
+        acl: acl_of(alloc, "ip", "10.0.0.1", 1)?,
+        version,
+    })
+}
+
+fn create_part(alloc: Global, text: &str) -> Result<Sub, Fail> {
+    Ok(Sub::Create {
+        path: path(alloc, text)?,
+        content: content(alloc, "hi")?,
+        acl: acl_of(alloc, "world", "anyone", 31)?,
+        ephemeral: false,
+        count: -1,
+    })
+}
+
+fn delete_part(alloc: Global, text: &str) -> Result<Sub, Fail> {
+    Ok(Sub::Delete {
+        path: path(alloc, text)?,
+    })
+}
+
+fn set_data_part(alloc: Global, text: &str) -> Result<Sub, Fail> {
+    Ok(Sub::SetData {
+        path: path(alloc, text)?,
+        content: content(alloc, "longer")?,
+        version: 9,
+    })
+}
+
+fn check_part(alloc: Global, text: &str) -> Result<Sub, Fail> {
+    Ok(Sub::Check {
+        path: path(alloc, text)?,
+        version: 7,
+    })
+}
+
 fn apply(table: &mut Plain, session: i64, zxid: i64, time: i64, op: Op) -> Result<TxnResult, Fail> {
     let txn = Txn {
         session,
@@ -344,16 +383,264 @@ fn sessions_stand_in_the_order_of_their_digits(rt: HostRuntime) -> Result<(), Fa
 }
 
 #[test]
-fn contents_and_answers_are_kept(rt: HostRuntime) -> Result<(), Fail> {
-    let bytes = Content::new(b"hi".to_vec(rt.alloc())?);
-    assert_eq!(rt; bytes.copy()?.as_slice(), b"hi".as_slice());
+fn set_acl_changes_the_list_alone(rt: HostRuntime) -> Result<(), Fail> {
+    let mut table = small_tree(rt.alloc())?;
+    let after = Stat {
+        aversion: 6,
+        ..stat(rt.alloc(), &table, "/a")?
+    };
+    let told = apply(&mut table, 7, 4, 40, set_acl(rt.alloc(), "/a", 6)?)?;
+    assert_eq!(rt; told.err, 0);
+    assert_eq!(rt; told.stat, Some(after));
+    assert_eq!(rt; stat(rt.alloc(), &table, "/a")?, after);
+    let acl = node(&table, "/a")?.acl.as_slice();
+    assert_eq!(rt; acl.len(), 1);
+    assert_eq!(rt; (acl[0].perms, acl[0].id.scheme.as_str()), (1, "ip"));
+    refuses(&rt, rt.alloc(), -101, "/x", set_acl(rt.alloc(), "/x", 6)?)
+}
+
+#[test]
+fn error_answers_its_code(rt: HostRuntime) -> Result<(), Fail> {
+    let mut table = small_tree(rt.alloc())?;
+    let before = stats(rt.alloc(), &table)?;
+    let told = apply(&mut table, 7, 4, 40, Op::Error { code: -103 })?;
+    assert_eq!(rt;
+        (told.err, told.path.is_none(), table.last()),
+        (-103, true, 4)
+    );
+    assert_eq!(rt; stats(rt.alloc(), &table)?.as_slice(), before.as_slice());
+    Ok(())
+}
+
+#[test]
+fn closed_session_takes_its_nodes(rt: HostRuntime) -> Result<(), Fail> {
+    let mut table = small_tree(rt.alloc())?;
+    apply(&mut table, 7, 4, 40, Op::OpenSession { timeout: 100 })?;
+    apply(&mut table, 8, 5, 50, Op::OpenSession { timeout: 200 })?;
+    apply(&mut table, 7, 6, 60, create(rt.alloc(), "/a/x", true, 2)?)?;
+    apply(&mut table, 8, 7, 70, create(rt.alloc(), "/a/y", true, 3)?)?;
+    let told = apply(&mut table, 7, 9, 90, Op::CloseSession)?;
+    assert_eq!(rt;
+        (told.err, told.path.is_none(), table.nodes().len()),
+        (0, true, 6)
+    );
+    assert_eq!(rt; table.sessions(), [(8, 200)].as_slice());
+    for (text, pzxid, num_children) in [("/", 9, 2), ("/a", 9, 2), ("/a/b", 2, 0), ("/a/y", 7, 0)] {
+        let stat = stat(rt.alloc(), &table, text)?;
+        assert_eq!(rt;
+            (stat.pzxid, stat.num_children),
+            (pzxid, num_children),
+            "{text}"
+        );
+    }
+    Ok(())
+}
+
+#[test]
+fn closed_session_0_goes_alone(rt: HostRuntime) -> Result<(), Fail> {
+    let mut table = small_tree(rt.alloc())?;
+    let before = stats(rt.alloc(), &table)?;
+    apply(&mut table, 0, 4, 40, Op::OpenSession { timeout: 100 })?;
+    assert_eq!(rt; table.sessions().len(), 1);
+    for zxid in [5, 6] {
+        assert_eq!(rt; apply(&mut table, 0, zxid, 50, Op::CloseSession)?.err, 0);
+        assert_eq!(rt; table.sessions().len(), 0);
+    }
+    assert_eq!(rt; stats(rt.alloc(), &table)?.as_slice(), before.as_slice());
+    Ok(())
+}
+
+/// What a multi of these parts answers as a whole, and in its parts.
+fn multi(table: &mut Plain, parts: Vec<Sub>) -> Result<(i32, PartResults), Fail> {
+    let parts = Subs::new(parts);
+    let told = apply(table, 7, 4, 40, Op::Multi { parts })?;
+    Ok((told.err, told.parts))
+}
+
+fn codes(alloc: Global, answers: &PartResults) -> Result<Vec<i32>, Fail> {
+    let mut codes = Vec::new(alloc);
+    for answer in answers.as_slice() {
+        codes.push(answer.err)?;
+    }
+    Ok(codes)
+}
+
+#[test]
+fn failed_multi_changes_nothing(rt: HostRuntime) -> Result<(), Fail> {
+    let mut table = small_tree(rt.alloc())?;
+    let before = stats(rt.alloc(), &table)?;
+    let parts = vec![in rt.alloc();
+        create_part(rt.alloc(), "/b")?,
+        Sub::Error { code: -103 },
+        Sub::Error { code: -2 },
+    ]?;
+    let (err, answers) = multi(&mut table, parts)?;
+    assert_eq!(rt; err, -103);
+    assert_eq!(rt;
+        codes(rt.alloc(), &answers)?.as_slice(),
+        [0, -103, -2].as_slice()
+    );
+    assert_eq!(rt; answers.as_slice().len(), 3);
+    assert_eq!(rt;
+        answers.as_slice()[0].path.as_ref().ok_or("no path")?.text(),
+        "/b"
+    );
+    assert_eq!(rt; table.last(), 4);
+    assert_eq!(rt; stats(rt.alloc(), &table)?.as_slice(), before.as_slice());
+    Ok(())
+}
+
+#[test]
+fn error_of_0_is_an_error(rt: HostRuntime) -> Result<(), Fail> {
+    let mut table = small_tree(rt.alloc())?;
+    let before = stats(rt.alloc(), &table)?;
+    let parts = vec![in rt.alloc();
+        check_part(rt.alloc(), "/a")?,
+        Sub::Error { code: 0 },
+        create_part(rt.alloc(), "/b")?,
+        check_part(rt.alloc(), "/a")?,
+    ]?;
+    let (err, answers) = multi(&mut table, parts)?;
+    assert_eq!(rt; err, -2);
+    assert_eq!(rt;
+        codes(rt.alloc(), &answers)?.as_slice(),
+        [0, 0, -2, -2].as_slice()
+    );
+    assert_eq!(rt; stats(rt.alloc(), &table)?.as_slice(), before.as_slice());
+    Ok(())
+}
+
+#[test]
+fn refused_part_stops_nothing(rt: HostRuntime) -> Result<(), Fail> {
+    let mut table = small_tree(rt.alloc())?;
+    let parts = vec![in rt.alloc();
+        create_part(rt.alloc(), "/b")?,
+        create_part(rt.alloc(), "/b")?,
+        delete_part(rt.alloc(), "/a/b")?,
+        check_part(rt.alloc(), "/x")?,
+    ]?;
+    let (err, answers) = multi(&mut table, parts)?;
+    assert_eq!(rt; err, -110);
+    assert_eq!(rt;
+        codes(rt.alloc(), &answers)?.as_slice(),
+        [0, -110, 0, 0].as_slice()
+    );
+    assert_eq!(rt; stat(rt.alloc(), &table, "/b")?.czxid, 4);
+    assert_eq!(rt; stat(rt.alloc(), &table, "/a")?.num_children, 0);
+    Ok(())
+}
+
+#[test]
+fn stat_of_a_part_is_taken_at_once(rt: HostRuntime) -> Result<(), Fail> {
+    let mut table = small_tree(rt.alloc())?;
+    let parts = vec![in rt.alloc();
+        set_data_part(rt.alloc(), "/a")?,
+        create_part(rt.alloc(), "/a/c")?,
+    ]?;
+    let (err, answers) = multi(&mut table, parts)?;
+    assert_eq!(rt; (err, answers.as_slice().len()), (0, 2));
+    let told = answers.as_slice()[0].stat.ok_or("no stat")?;
+    assert_eq!(rt;
+        (told.version, told.data_length, told.num_children),
+        (9, 6, 1)
+    );
+    assert!(rt; answers.as_slice()[1].stat.is_none());
+    assert_eq!(rt; stat(rt.alloc(), &table, "/a")?.num_children, 2);
+    Ok(())
+}
+
+/// Whether a transaction and its copy print alike.
+fn copies_alike(alloc: Global, op: Op) -> Result<bool, Fail> {
+    let txn = Txn {
+        session: 1,
+        cxid: 2,
+        zxid: 3,
+        time: 4,
+        op,
+    };
+    let copy = txn.copy()?;
+    let shown = format!(in alloc; "{txn:?}")?;
+    Ok(format!(in alloc; "{copy:?}")? == shown)
+}
+
+#[test]
+fn copies_of_transactions_are_equal(rt: HostRuntime) -> Result<(), Fail> {
+    let alloc = rt.alloc();
+    let parts = vec![in alloc;
+        create_part(alloc, "/b")?,
+        delete_part(alloc, "/b")?,
+        set_data_part(alloc, "/b")?,
+        check_part(alloc, "/b")?,
+        Sub::Error { code: 5 },
+    ]?;
+    let parts = Subs::new(parts);
+    assert_eq!(rt; parts.as_slice().len(), 5);
+    for op in [
+        create(alloc, "/a", true, 3)?,
+        delete(alloc, "/a")?,
+        set_data(alloc, "/a", "new", 3)?,
+        set_acl(alloc, "/a", 3)?,
+        Op::OpenSession { timeout: 5 },
+        Op::CloseSession,
+        Op::Error { code: 5 },
+        Op::Multi { parts },
+    ] {
+        assert!(rt; copies_alike(alloc, op)?);
+    }
+    Ok(())
+}
+
+#[test]
+fn copies_of_results_are_equal(rt: HostRuntime) -> Result<(), Fail> {
+    let alloc = rt.alloc();
     let answer = PartResult {
         err: -101,
-        path: None,
-        stat: None,
+        path: Some(path(alloc, "/a")?),
+        stat: Some(first_stat()),
     };
-    let answers = PartResults::new(vec![in rt.alloc(); answer]?);
-    assert_eq!(rt; answers.as_slice().len(), 1);
-    assert_eq!(rt; answers.as_slice()[0].err, -101);
+    let copy = answer.copy()?;
+    assert_eq!(rt;
+        format!(in alloc; "{copy:?}")?,
+        format!(in alloc; "{answer:?}")?
+    );
+    let told = TxnResult {
+        zxid: 1,
+        err: 2,
+        path: answer.path,
+        stat: answer.stat,
+        parts: PartResults::new(vec![in alloc; copy]?),
+    };
+    let copy = told.copy()?;
+    assert_eq!(rt;
+        format!(in alloc; "{copy:?}")?,
+        format!(in alloc; "{told:?}")?
+    );
+    let answers = told.parts.copy()?.into_vec();
+    assert_eq!(rt; answers.len(), 1);
+    assert_eq!(rt; answers[0].err, -101);
+    Ok(())
+}
+
+#[test]
+fn nodes_and_contents_are_kept(rt: HostRuntime) -> Result<(), Fail> {
+    let alloc = rt.alloc();
+    let table = small_tree(alloc)?;
+    let kept = node(&table, "/e")?;
+    let copy = kept.copy()?;
+    assert_eq!(rt;
+        format!(in alloc; "{copy:?}")?,
+        format!(in alloc; "{kept:?}")?
+    );
+    let bytes = Content::new(b"hi".to_vec(alloc)?);
+    assert_eq!(rt; bytes.copy()?.as_slice(), b"hi".as_slice());
+    assert_eq!(rt; bytes.into_vec().as_slice(), b"hi".as_slice());
+    let parts = Subs::new(vec![in alloc; Sub::Error { code: 5 }]?);
+    assert_eq!(rt; parts.copy()?.into_vec().len(), 1);
+    let part = create_part(alloc, "/b")?;
+    let copy = part.copy()?;
+    assert_eq!(rt;
+        format!(in alloc; "{copy:?}")?,
+        format!(in alloc; "{part:?}")?
+    );
     Ok(())
 }
