@@ -11,7 +11,7 @@ pub enum JuteFault {
     /// Too few bytes for a field, or for its stated length.
     #[error("J1")]
     Short,
-    /// A negative length or count, below -1 for a content.
+    /// A negative length or count; for a content, one below -1, which stands for null.
     #[error("J2")]
     Length,
     /// A text that isn't UTF-8.
@@ -20,10 +20,10 @@ pub enum JuteFault {
     /// A boolean other than 0 and 1.
     #[error("J4")]
     Boolean,
-    /// A type of operation that is none.
+    /// A type that no operation has, or no part of a multi.
     #[error("J5")]
     Kind,
-    /// Bytes after the body.
+    /// Bytes after the body, also in the buffer of a part of a multi.
     #[error("J6")]
     Trailing,
     /// A text that is no path.

@@ -1,6 +1,5 @@
 use super::*;
 use std::alloc::Global;
-use std::process::Abort;
 use std::test::Fail;
 use zk_acl::{Acl, Acls, Id, Stat, Text};
 use zk_path::Path;
@@ -119,6 +118,14 @@ fn stat(alloc: Global, table: &Plain, text: &str) -> Result<Stat, Fail> {
     Ok(table.stat(&path(alloc, text)?, node(table, text)?))
 }
 
+/// The path that an answer tells, and nothing where it tells none.
+fn path_told(told: &TxnResult) -> &str {
+    match &told.path {
+        Some(path) => path.text(),
+        None => "",
+    }
+}
+
 /// The stats of all nodes, in the order of their paths.
 fn stats(alloc: Global, table: &Plain) -> Result<Vec<Stat>, Fail> {
     let mut stats = Vec::new(alloc);
@@ -202,7 +209,7 @@ fn first_log_shows_its_tree(rt: HostRuntime) -> Result<(), Fail> {
         (opened.zxid, opened.err, made.zxid, made.err),
         (OPENED, 0, MADE, 0)
     );
-    assert_eq!(rt; made.path.ok_or("no path")?.text(), "/a");
+    assert_eq!(rt; path_told(&made), "/a");
     assert_eq!(rt; table.last(), MADE);
     assert_eq!(rt;
         table.sessions(),
@@ -239,32 +246,21 @@ fn create_counts_in_the_parent(rt: HostRuntime) -> Result<(), Fail> {
     Ok(())
 }
 
-/// Applies an operation that is refused so, and leaves all but the last zxid.
-fn refuses(rt: &impl Abort, alloc: Global, err: i32, text: &str, op: Op) -> Result<(), Fail> {
+/// Whether an operation is refused so, and leaves all but the last zxid.
+fn is_refused(alloc: Global, err: i32, text: &str, op: Op) -> Result<bool, Fail> {
     let mut table = small_tree(alloc)?;
     let before = stats(alloc, &table)?;
     let told = apply(&mut table, 7, 4, 50, op)?;
-    assert_eq!(rt; (told.zxid, told.err, table.last()), (4, err, 4), "{text}");
-    assert!(rt; told.stat.is_none());
-    assert_eq!(rt; told.path.ok_or("no path")?.text(), text);
-    assert_eq!(rt;
-        stats(alloc, &table)?.as_slice(),
-        before.as_slice(),
-        "{text}"
-    );
-    Ok(())
+    let is_told = told.zxid == 4 && told.err == err && path_told(&told) == text;
+    let unchanged = stats(alloc, &table)?.as_slice() == before.as_slice();
+    Ok(is_told && told.stat.is_none() && unchanged && table.last() == 4)
 }
 
 #[test]
 fn refused_creates_change_only_the_last_zxid(rt: HostRuntime) -> Result<(), Fail> {
     for (err, text) in [(-110, "/a"), (-110, "/"), (-101, "/x/y"), (-108, "/e/c")] {
-        refuses(
-            &rt,
-            rt.alloc(),
-            err,
-            text,
-            create(rt.alloc(), text, false, 5)?,
-        )?;
+        let op = create(rt.alloc(), text, false, 5)?;
+        assert!(rt; is_refused(rt.alloc(), err, text, op)?, "{text}");
     }
     Ok(())
 }
@@ -272,15 +268,14 @@ fn refused_creates_change_only_the_last_zxid(rt: HostRuntime) -> Result<(), Fail
 #[test]
 fn refused_deletes_and_sets_change_only_the_last_zxid(rt: HostRuntime) -> Result<(), Fail> {
     for (err, text) in [(-8, "/"), (-101, "/x"), (-111, "/a")] {
-        refuses(&rt, rt.alloc(), err, text, delete(rt.alloc(), text)?)?;
+        let op = delete(rt.alloc(), text)?;
+        assert!(rt; is_refused(rt.alloc(), err, text, op)?, "{text}");
     }
-    refuses(
-        &rt,
-        rt.alloc(),
-        -101,
-        "/x",
-        set_data(rt.alloc(), "/x", "new", 3)?,
-    )
+    let op = set_data(rt.alloc(), "/x", "new", 3)?;
+    assert!(rt; is_refused(rt.alloc(), -101, "/x", op)?);
+    let op = set_acl(rt.alloc(), "/x", 6)?;
+    assert!(rt; is_refused(rt.alloc(), -101, "/x", op)?);
+    Ok(())
 }
 
 #[test]
@@ -344,19 +339,24 @@ fn count_of_minus_one_counts_one_more(rt: HostRuntime) -> Result<(), Fail> {
     Ok(())
 }
 
+/// The length that is told of a node whose content is set so, and whether the node then has null content.
+fn told_of_content(alloc: Global, content: Option<Content>) -> Result<(i32, bool), Fail> {
+    let mut table = small_tree(alloc)?;
+    let op = Op::SetData {
+        path: path(alloc, "/a")?,
+        content,
+        version: 1,
+    };
+    let told = apply(&mut table, 7, 4, 40, op)?;
+    let length = told.stat.ok_or("no stat")?.data_length;
+    Ok((length, node(&table, "/a")?.content.is_none()))
+}
+
 #[test]
 fn null_and_empty_content(rt: HostRuntime) -> Result<(), Fail> {
-    for (held, is_null) in [(None, true), (content(rt.alloc(), "")?, false)] {
-        let mut table = small_tree(rt.alloc())?;
-        let op = Op::SetData {
-            path: path(rt.alloc(), "/a")?,
-            content: held,
-            version: 1,
-        };
-        let told = apply(&mut table, 7, 4, 40, op)?;
-        assert_eq!(rt; told.stat.ok_or("no stat")?.data_length, 0);
-        assert_eq!(rt; node(&table, "/a")?.content.is_none(), is_null);
-    }
+    assert_eq!(rt; told_of_content(rt.alloc(), None)?, (0, true));
+    let empty = content(rt.alloc(), "")?;
+    assert_eq!(rt; told_of_content(rt.alloc(), empty)?, (0, false));
     Ok(())
 }
 
@@ -396,7 +396,7 @@ fn set_acl_changes_the_list_alone(rt: HostRuntime) -> Result<(), Fail> {
     let acl = node(&table, "/a")?.acl.as_slice();
     assert_eq!(rt; acl.len(), 1);
     assert_eq!(rt; (acl[0].perms, acl[0].id.scheme.as_str()), (1, "ip"));
-    refuses(&rt, rt.alloc(), -101, "/x", set_acl(rt.alloc(), "/x", 6)?)
+    Ok(())
 }
 
 #[test]
@@ -566,27 +566,32 @@ fn copies_alike(alloc: Global, op: Op) -> Result<bool, Fail> {
 #[test]
 fn copies_of_transactions_are_equal(rt: HostRuntime) -> Result<(), Fail> {
     let alloc = rt.alloc();
-    let parts = vec![in alloc;
-        create_part(alloc, "/b")?,
-        delete_part(alloc, "/b")?,
-        set_data_part(alloc, "/b")?,
-        check_part(alloc, "/b")?,
-        Sub::Error { code: 5 },
-    ]?;
-    let parts = Subs::new(parts);
-    assert_eq!(rt; parts.as_slice().len(), 5);
-    for op in [
-        create(alloc, "/a", true, 3)?,
-        delete(alloc, "/a")?,
-        set_data(alloc, "/a", "new", 3)?,
-        set_acl(alloc, "/a", 3)?,
-        Op::OpenSession { timeout: 5 },
-        Op::CloseSession,
-        Op::Error { code: 5 },
-        Op::Multi { parts },
-    ] {
-        assert!(rt; copies_alike(alloc, op)?);
-    }
+    assert!(rt; copies_alike(alloc, create(alloc, "/a", true, 3)?)?);
+    assert!(rt; copies_alike(alloc, delete(alloc, "/a")?)?);
+    assert!(rt; copies_alike(alloc, set_data(alloc, "/a", "new", 3)?)?);
+    assert!(rt; copies_alike(alloc, set_acl(alloc, "/a", 3)?)?);
+    assert!(rt; copies_alike(alloc, Op::OpenSession { timeout: 5 })?);
+    assert!(rt; copies_alike(alloc, Op::CloseSession)?);
+    assert!(rt; copies_alike(alloc, Op::Error { code: 5 })?);
+    Ok(())
+}
+
+/// One part of each kind.
+fn all_parts(alloc: Global) -> Result<Subs, Fail> {
+    let mut parts = Vec::new(alloc);
+    parts.push(create_part(alloc, "/b")?)?;
+    parts.push(delete_part(alloc, "/b")?)?;
+    parts.push(set_data_part(alloc, "/b")?)?;
+    parts.push(check_part(alloc, "/b")?)?;
+    parts.push(Sub::Error { code: 5 })?;
+    Ok(Subs::new(parts))
+}
+
+#[test]
+fn copies_of_parts_are_equal(rt: HostRuntime) -> Result<(), Fail> {
+    let parts = all_parts(rt.alloc())?;
+    assert_eq!(rt; parts.copy()?.into_vec().len(), 5);
+    assert!(rt; copies_alike(rt.alloc(), Op::Multi { parts })?);
     Ok(())
 }
 
@@ -634,8 +639,6 @@ fn nodes_and_contents_are_kept(rt: HostRuntime) -> Result<(), Fail> {
     let bytes = Content::new(b"hi".to_vec(alloc)?);
     assert_eq!(rt; bytes.copy()?.as_slice(), b"hi".as_slice());
     assert_eq!(rt; bytes.into_vec().as_slice(), b"hi".as_slice());
-    let parts = Subs::new(vec![in alloc; Sub::Error { code: 5 }]?);
-    assert_eq!(rt; parts.copy()?.into_vec().len(), 1);
     let part = create_part(alloc, "/b")?;
     let copy = part.copy()?;
     assert_eq!(rt;
