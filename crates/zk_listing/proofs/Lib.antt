@@ -1,0 +1,13 @@
+pub mod AclLaws
+pub mod DecimalLaws
+pub mod Exact
+pub mod FieldLaws
+pub mod HexLaws
+pub mod InsideQuotes
+pub mod LineLaws
+pub mod PartLaws
+pub mod QuotedLaws
+pub mod ReaderLaws
+pub mod SpelledLaws
+pub mod Turns
+pub mod WordLaws

@@ -1,0 +1,13 @@
+use Rattle.std.specs.Str.{IsUtf8}
+use Rattle.std.specs.String.{string_bytes}
+use Rattle.zk_listing.specs.Spelling.{quoted}
+use Rattle.zk_listing.specs.Reading.{quoted_at}
+use Rattle.zk_listing.proofs.QuotedLaws.{quoted_exact}
+use Rattle.zk_listing.proofs.ReaderLaws.{reads_found, reads_only}
+use Rattle.zk_listing.proofs.readers.read_quoted.Goals as goal
+
+pub returns-clause-found : goal.returns-clause-found
+returns-clause-found c = reads_found (λ x. string_bytes x) quoted IsUtf8 quoted_at quoted_exact c.quoted.result c.args.input.now.now c.quoted.new.input.now c.quoted.ensures
+
+pub returns-clause-only : goal.returns-clause-only
+returns-clause-only c = reads_only (λ x. string_bytes x) quoted IsUtf8 quoted_at quoted_exact c.quoted.result c.args.input.now.now c.quoted.new.input.now c.quoted.ensures

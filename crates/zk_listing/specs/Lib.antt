@@ -1,0 +1,5 @@
+pub mod Spelling
+pub mod Reports
+pub mod Listings
+pub mod Promises
+pub mod Reading

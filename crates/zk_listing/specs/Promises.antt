@@ -1,0 +1,54 @@
+-- What the readers promise: they accept just what its spelling gives.
+use Rattle.std.specs.Prelude.{◌≡◌, ◌≢◌, ◌+◌, ℕ, List, [], ◌∷◌, ◌++◌, length, Result, Ok, Err}
+use Rattle.std.specs.List.{AllByRecursion}
+use Rattle.zk_table.specs.declared.txn.Txn.{Txn}
+use Rattle.zk_listing.specs.declared.fault.ListCause.{ListCause}
+use Rattle.zk_listing.specs.declared.fault.ListCause.TheVariants as causes
+use Rattle.zk_listing.specs.Listings.{line_of, listing_of, IsListed}
+use Rattle.zk_listing.specs.Reading.{IsEnd}
+
+-- ---- fields: view is what contracts see of what the code reads, spell its spelling, Fits what has one
+
+-- what is read stood in front, spelled so
+abbrev pub ReadsFound : {X Y : Type 0} → (X → Y) → (Y → List ℕ) → (Y → Type 0) → Result X ListCause → List ℕ → List ℕ → Type 0
+ReadsFound view spell Fits (Ok x) old new = Fits (view x) × (old ≡ spell (view x) ++ new)
+ReadsFound view spell Fits (Err cause) old new = Unit {0}
+
+-- nothing that stands in front, spelled so, is read as anything else or refused, want of memory aside
+abbrev pub ReadsOnly : {X Y : Type 0} → (X → Y) → (Y → List ℕ) → (Y → Type 0) → Result X ListCause → List ℕ → List ℕ → Type 0
+ReadsOnly {X} {Y} view spell Fits (Ok x) old new = (y : Y) (rest : List ℕ) → Fits y → IsEnd rest → old ≡ spell y ++ rest → (view x ≡ y) × (new ≡ rest)
+ReadsOnly view spell Fits (Err causes.NoMemory) old new = Unit {0}
+ReadsOnly {X} {Y} view spell Fits (Err cause) old new = (y : Y) (rest : List ℕ) → Fits y → IsEnd rest → old ≢ spell y ++ rest
+
+-- ---- lines
+
+-- no line of a transaction stands in front
+abbrev pub BeginsWithNoLine : List ℕ → Type 0
+BeginsWithNoLine text = (txn : Txn) (rest : List ℕ) → IsListed txn → text ≢ line_of txn ++ rest
+
+abbrev pub ReadsLine : Result Txn ListCause → List ℕ → List ℕ → Type 0
+ReadsLine (Ok txn) old new = IsListed txn × (old ≡ line_of txn ++ new)
+ReadsLine (Err causes.NoMemory) old new = Unit {0}
+ReadsLine (Err cause) old new = BeginsWithNoLine old
+
+-- the first line's transaction goes to the others
+abbrev pub AddsLine : Result (Unit {0}) ListCause → List Txn → List Txn → List ℕ → List ℕ → Type 0
+AddsLine (Ok x) txns more old new = (txn : Txn) × IsListed txn × (old ≡ line_of txn ++ new) × (more ≡ txns ++ txn ∷ [])
+AddsLine (Err causes.NoMemory) txns more old new = Unit {0}
+AddsLine (Err cause) txns more old new = BeginsWithNoLine old
+
+-- ---- listings
+
+-- the text begins with the lines of these transactions
+pub record BeginsWithListing (text : List ℕ) (txns : List Txn) (rest : List ℕ) : Type 0 where
+  pub listed : AllByRecursion IsListed txns
+  pub spelled : text ≡ listing_of txns ++ rest
+
+-- the lines before this one, counted from 1, spell transactions, and this one spells none
+pub record IsFirstFault (text : List ℕ) (line : ℕ) : Type 0 where
+  pub before : List Txn
+  pub rest : List ℕ
+  pub begins : BeginsWithListing text before rest
+  pub number : line ≡ length before + 1
+  pub filled : rest ≢ []
+  pub none : BeginsWithNoLine rest

@@ -1,0 +1,142 @@
+//! Transactions from a listing.
+ghost use Rattle.std.specs.Prelude.{◌≡◌, ◌≢◌, List, IfOk, IfErr, MatchResult, []};
+ghost use Rattle.std.specs.Int.{w64};
+ghost use Rattle.std.specs.List.{AllByRecursion};
+ghost use Rattle.zk_table.specs.declared.txn.Txn.{Txn};
+ghost use Rattle.zk_listing.specs.Listings.{IsListed, listing_of};
+ghost use Rattle.zk_listing.specs.Promises.{ReadsLine, AddsLine, BeginsWithListing, IsFirstFault};
+ghost use Rattle.zk_listing.specs.Reading.{Takes, TakesBy, TakesUnit, past, spaced, id_at, int_at, header_at, txn_at};
+
+use crate::fault::{ListCause, ListFault};
+use crate::fields::{id, long};
+use crate::ops::operation;
+use crate::parts::{space, spaced_int};
+use std::alloc::Global;
+use zk_table::Txn;
+
+/// The transactions whose listing this text is, one a line.
+///
+/// Refuses a text that is no listing at the first line that spells no transaction. The causes are looked for from left
+/// to right in that line; that the last line has no newline is found before any other fault in it.
+pub fn assemble(alloc: Global, text: &str) -> Result<Vec<Txn>, ListFault>
+    ensures found { IfOk result (λ txns. text.now ≡ listing_of txns.items) }
+    ensures listed { IfOk result (λ txns. AllByRecursion IsListed txns.items) }
+    ensures only { (txns : List Txn) → AllByRecursion IsListed txns → text.now ≡ listing_of txns
+        → MatchResult result (λ found. found.items ≡ txns) (λ fault. fault.cause ≡ ListCause.NoMemory) }
+    ensures line { IfErr result (λ fault. fault.cause ≢ ListCause.NoMemory → IsFirstFault text.now fault.line) }
+{
+    let mut rest = text;
+    all_lines(alloc, &mut rest)
+}
+
+/// The transactions of all lines, up to the end of the input.
+fn all_lines(alloc: Global, input: &mut &str) -> Result<Vec<Txn>, ListFault>
+    ensures found { IfOk result (λ txns. BeginsWithListing input.old.now txns.items []) }
+    ensures only { (txns : List Txn) → AllByRecursion IsListed txns → input.old.now ≡ listing_of txns
+        → MatchResult result (λ found. found.items ≡ txns) (λ fault. fault.cause ≡ ListCause.NoMemory) }
+    ensures line { IfErr result
+        (λ fault. fault.cause ≢ ListCause.NoMemory → IsFirstFault input.old.now fault.line) }
+{
+    let mut txns = Vec::new(alloc);
+    'lines: while !input.is_empty() {
+        let line = txns.len() as u64 + 1;
+        match add_line(alloc, &mut txns, input) {
+            Ok(()) => {}
+            Err(cause) => return Err(ListFault { line, cause }),
+        }
+    }
+    Ok(txns)
+}
+
+/// Takes the first line with its newline, and appends its transaction.
+fn add_line(alloc: Global, txns: &mut Vec<Txn>, input: &mut &str) -> Result<(), ListCause>
+    ensures { AddsLine result txns.old.items txns.new.items input.old.now input.new.now }
+{
+    let txn = read_line(alloc, input)?;
+    txns.push(txn)?;
+    Ok(())
+}
+
+/// The transaction of the first line, and takes the line with its newline.
+fn read_line(alloc: Global, input: &mut &str) -> Result<Txn, ListCause>
+    ensures { ReadsLine result input.old.now input.new.now }
+{
+    if !input.contains('\n') {
+        return Err(ListCause::NoNewline);
+    }
+    txn_line(alloc, input)
+}
+
+#[tactic(auto, unfolding(crate::specs::Reading::txn_at))]
+fn txn_line(alloc: Global, input: &mut &str) -> Result<Txn, ListCause>
+    ensures { Takes result input.new.now (txn_at input.old.now) }
+{
+    let Header {
+        zxid,
+        session,
+        cxid,
+        time,
+    } = read_header(input)?;
+    space(input)?;
+    let op = operation(alloc, input)?;
+    newline(input)?;
+    Ok(Txn {
+        session,
+        cxid,
+        zxid,
+        time,
+        op,
+    })
+}
+
+/// The fields that each line begins with.
+#[derive(Clone, Copy, Debug)]
+pub(crate) struct Header {
+    zxid: i64,
+    session: i64,
+    cxid: i32,
+    time: i64,
+}
+
+#[tactic(auto, unfolding(crate::specs::Reading::header_at))]
+fn read_header(input: &mut &str) -> Result<Header, ListCause>
+    ensures { TakesBy (λ h. (h.zxid, (h.session, (h.cxid, h.time)))) result input.new.now (header_at input.old.now) }
+{
+    let zxid = id(input)?;
+    let session = spaced_id(input)?;
+    let cxid = spaced_int(input)?;
+    let time = spaced_long(input)?;
+    Ok(Header {
+        zxid,
+        session,
+        cxid,
+        time,
+    })
+}
+
+fn spaced_id(input: &mut &str) -> Result<i64, ListCause>
+    ensures { Takes result input.new.now (spaced id_at input.old.now) }
+{
+    space(input)?;
+    id(input)
+}
+
+fn spaced_long(input: &mut &str) -> Result<i64, ListCause>
+    ensures { Takes result input.new.now (spaced (int_at w64) input.old.now) }
+{
+    space(input)?;
+    long(input)
+}
+
+/// The newline that ends a line.
+fn newline(input: &mut &str) -> Result<(), ListCause>
+    ensures { TakesUnit result input.new.now (past 10 input.old.now) }
+{
+    match input.strip_prefix('\n') {
+        Some(rest) => {
+            *input = rest;
+            Ok(())
+        }
+        None => Err(ListCause::Fields),
+    }
+}

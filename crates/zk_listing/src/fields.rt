@@ -1,0 +1,165 @@
+//! The readers of single fields. Each takes a field from the front of its input; after a refusal the input stands
+//! somewhere in that field.
+ghost use Rattle.std.specs.Prelude.{◌≡◌};
+ghost use Rattle.std.specs.Int.{w32, w64};
+ghost use Rattle.zk_listing.specs.Reading.{TakesField, Takes, Makes, id_from, id_at, int_from, int_at, content_from, content_at, content_of_digits, count_at, is_plain, is_end};
+ghost use Rattle.std.specs.List.{list_any, position, position_or_len};
+ghost use Rattle.std.specs.Char.{is_ascii_uppercase};
+
+use crate::fault::ListCause;
+use hex::FromHexError;
+use std::alloc::Global;
+use zk_table::Content;
+
+/// The field in front, up to the next space, the end of the line or the end of the input, and none where it is empty.
+pub(crate) fn take_field<'a>(input: &mut &'a str) -> Option<&'a str>
+    ensures { TakesField result input.new.now input.old.now }
+{
+    let end = field_len(input.as_bytes());
+    if end == 0 {
+        return None;
+    }
+    let (field, rest) = input.split_at(end);
+    *input = rest;
+    Some(field)
+}
+
+/// How many bytes stand before the first space or newline.
+fn field_len(bytes: &[u8]) -> usize
+    ensures { result ≡ position_or_len is_end bytes.now }
+{
+    first_end(bytes).unwrap_or(bytes.len())
+}
+
+/// Where the first space or newline stands.
+fn first_end(bytes: &[u8]) -> Option<usize>
+    ensures { result ≡ position is_end bytes.now }
+{
+    bytes.iter().position(|b| *b == b' ' || *b == b'\n')
+}
+
+/// Sixteen lower-case hexadecimal digits.
+#[tactic(auto, unfolding(crate::specs::Reading::id_at))]
+pub(crate) fn id(input: &mut &str) -> Result<i64, ListCause>
+    ensures { Takes result input.new.now (id_at input.old.now) }
+{
+    match take_field(input) {
+        None => Err(ListCause::Fields),
+        Some(field) => id_of(field).ok_or(ListCause::Number),
+    }
+}
+
+#[tactic(auto, unfolding(crate::specs::Reading::id_from))]
+fn id_of(field: &str) -> Option<i64>
+    ensures { result ≡ id_from field.now }
+{
+    if has_upper_case(field) {
+        return None;
+    }
+    let mut bytes = [0u8; 8];
+    hex::decode_to_slice(field, &mut bytes).ok()?;
+    Some(u64::from_be_bytes(bytes).cast_signed())
+}
+
+fn has_upper_case(text: &str) -> bool
+    ensures { result ≡ list_any is_ascii_uppercase text.now }
+{
+    text.bytes().any(|b| b.is_ascii_uppercase())
+}
+
+/// A decimal of 32 bits.
+#[tactic(auto, unfolding(crate::specs::Reading::int_at))]
+pub(crate) fn int(input: &mut &str) -> Result<i32, ListCause>
+    ensures { Takes result input.new.now (int_at w32 input.old.now) }
+{
+    match take_field(input) {
+        None => Err(ListCause::Fields),
+        Some(field) => int_of(field).ok_or(ListCause::Number),
+    }
+}
+
+fn int_of(field: &str) -> Option<i32>
+    ensures { result ≡ int_from w32 field.now }
+{
+    if !is_plain(field.as_bytes()) {
+        return None;
+    }
+    field.parse().ok()
+}
+
+/// A decimal of 64 bits.
+#[tactic(auto, unfolding(crate::specs::Reading::int_at))]
+pub(crate) fn long(input: &mut &str) -> Result<i64, ListCause>
+    ensures { Takes result input.new.now (int_at w64 input.old.now) }
+{
+    match take_field(input) {
+        None => Err(ListCause::Fields),
+        Some(field) => long_of(field).ok_or(ListCause::Number),
+    }
+}
+
+fn long_of(field: &str) -> Option<i64>
+    ensures { result ≡ int_from w64 field.now }
+{
+    if !is_plain(field.as_bytes()) {
+        return None;
+    }
+    field.parse().ok()
+}
+
+/// Whether a decimal has no plus sign, no leading zero and isn't `-0`.
+fn is_plain(field: &[u8]) -> bool
+    ensures { result ≡ is_plain field.now }
+{
+    match field {
+        [b'0'] => true,
+        [b'-', first, ..] | [first, ..] => matches!(first, b'1'..=b'9'),
+        [] => false,
+    }
+}
+
+/// The number of an access control list's entries.
+#[tactic(auto, unfolding(crate::specs::Reading::count_at))]
+pub(crate) fn count(input: &mut &str) -> Result<u32, ListCause>
+    ensures { Takes result input.new.now (count_at input.old.now) }
+{
+    let count = int(input)?;
+    u32::try_from(count).map_err(|_| ListCause::Number)
+}
+
+/// `-` for null, else `x` and two lower-case hexadecimal digits for each byte.
+#[tactic(auto, unfolding(crate::specs::Reading::content_at))]
+pub(crate) fn content(alloc: Global, input: &mut &str) -> Result<Option<Content>, ListCause>
+    ensures { Takes result input.new.now (content_at input.old.now) }
+{
+    match take_field(input) {
+        None => Err(ListCause::Fields),
+        Some(field) => content_of(alloc, field),
+    }
+}
+
+#[tactic(auto, unfolding(crate::specs::Reading::content_from))]
+fn content_of(alloc: Global, field: &str) -> Result<Option<Content>, ListCause>
+    ensures { Makes result (content_from field.now) }
+{
+    if field == "-" {
+        return Ok(None);
+    }
+    match field.strip_prefix('x') {
+        None => Err(ListCause::Hex),
+        Some(digits) => content_of_digits(alloc, digits),
+    }
+}
+
+fn content_of_digits(alloc: Global, digits: &str) -> Result<Option<Content>, ListCause>
+    ensures { Makes result (content_of_digits digits.now) }
+{
+    if has_upper_case(digits) {
+        return Err(ListCause::Hex);
+    }
+    match hex::decode(alloc, digits) {
+        Ok(bytes) => Ok(Some(Content::new(bytes))),
+        Err(FromHexError::OutOfMemory) => Err(ListCause::NoMemory),
+        Err(_) => Err(ListCause::Hex),
+    }
+}

@@ -1,0 +1,341 @@
+//! The readers of operations: a word, and a space before each field.
+ghost use Rattle.std.specs.Prelude.{◌≡◌};
+ghost use Rattle.zk_listing.specs.Reading.{Takes, TakesUnit, ContinuesParts, spaced, of_field, begins_with_space, ephemeral_from, ephemeral_at, word_from, word_at, create_at, set_data_at, set_acl_op_at, check_at, sub_by, sub_at, semicolon_from, part_at, parts_in, op_by, op_at, mapped, sub_created, sub_written, op_created, op_written};
+
+use crate::fault::ListCause;
+use crate::fields::take_field;
+use crate::parts::{space, spaced_acl, spaced_content, spaced_int, spaced_path};
+use std::alloc::Global;
+use zk_acl::Acls;
+use zk_path::Path;
+use zk_table::{Content, Op, Sub, Subs};
+
+/// The word that an operation or a multi's part begins with.
+#[derive(Clone, Copy, Debug)]
+pub(crate) enum Word {
+    Create,
+    Delete,
+    SetData,
+    SetAcl,
+    CreateSession,
+    CloseSession,
+    Error,
+    Multi,
+    Check,
+}
+
+#[tactic(auto, unfolding(crate::specs::Reading::word_at))]
+fn next_word(input: &mut &str) -> Result<Word, ListCause>
+    ensures { Takes result input.new.now (word_at input.old.now) }
+{
+    match take_field(input) {
+        None => Err(ListCause::Fields),
+        Some(field) => word_of(field).ok_or(ListCause::Word),
+    }
+}
+
+#[tactic(auto, unfolding(crate::specs::Reading::word_from))]
+fn word_of(field: &str) -> Option<Word>
+    ensures { result ≡ word_from field.now }
+{
+    match field {
+        "create" => Some(Word::Create),
+        "delete" => Some(Word::Delete),
+        "setData" => Some(Word::SetData),
+        "setACL" => Some(Word::SetAcl),
+        "createSession" => Some(Word::CreateSession),
+        "closeSession" => Some(Word::CloseSession),
+        "error" => Some(Word::Error),
+        "multi" => Some(Word::Multi),
+        "check" => Some(Word::Check),
+        _ => None,
+    }
+}
+
+/// A space, and whether a node goes with its session: `e`, or `p` where it stays.
+fn spaced_ephemeral(input: &mut &str) -> Result<bool, ListCause>
+    ensures { Takes result input.new.now (spaced ephemeral_at input.old.now) }
+{
+    space(input)?;
+    ephemeral(input)
+}
+
+#[tactic(auto, unfolding(crate::specs::Reading::ephemeral_at))]
+fn ephemeral(input: &mut &str) -> Result<bool, ListCause>
+    ensures { Takes result input.new.now (ephemeral_at input.old.now) }
+{
+    match take_field(input) {
+        None => Err(ListCause::Fields),
+        Some(field) => ephemeral_of(field).ok_or(ListCause::Word),
+    }
+}
+
+#[tactic(auto, unfolding(crate::specs::Reading::ephemeral_from))]
+fn ephemeral_of(field: &str) -> Option<bool>
+    ensures { result ≡ ephemeral_from field.now }
+{
+    match field {
+        "e" => Some(true),
+        "p" => Some(false),
+        _ => None,
+    }
+}
+
+/// The fields of a create.
+#[derive(Debug, Drop)]
+pub(crate) struct Created {
+    path: Path,
+    content: Option<Content>,
+    acl: Acls,
+    ephemeral: bool,
+    count: i32,
+}
+
+#[tactic(auto, unfolding(crate::specs::Reading::create_at))]
+fn create(alloc: Global, input: &mut &str) -> Result<Created, ListCause>
+    ensures { Takes result input.new.now (create_at input.old.now) }
+{
+    let path = spaced_path(alloc, input)?;
+    let content = spaced_content(alloc, input)?;
+    let acl = spaced_acl(alloc, input)?;
+    let ephemeral = spaced_ephemeral(input)?;
+    let count = spaced_int(input)?;
+    Ok(Created {
+        path,
+        content,
+        acl,
+        ephemeral,
+        count,
+    })
+}
+
+/// The fields of a setData.
+#[derive(Debug, Drop)]
+pub(crate) struct Written {
+    path: Path,
+    content: Option<Content>,
+    version: i32,
+}
+
+#[tactic(auto, unfolding(crate::specs::Reading::set_data_at))]
+fn set_data(alloc: Global, input: &mut &str) -> Result<Written, ListCause>
+    ensures { Takes result input.new.now (set_data_at input.old.now) }
+{
+    let path = spaced_path(alloc, input)?;
+    let content = spaced_content(alloc, input)?;
+    let version = spaced_int(input)?;
+    Ok(Written {
+        path,
+        content,
+        version,
+    })
+}
+
+#[tactic(auto, unfolding(crate::specs::Reading::set_acl_op_at))]
+fn set_acl(alloc: Global, input: &mut &str) -> Result<Op, ListCause>
+    ensures { Takes result input.new.now (set_acl_op_at input.old.now) }
+{
+    let path = spaced_path(alloc, input)?;
+    let acl = spaced_acl(alloc, input)?;
+    let version = spaced_int(input)?;
+    Ok(Op::SetAcl { path, acl, version })
+}
+
+#[tactic(auto, unfolding(crate::specs::Reading::check_at))]
+fn check(alloc: Global, input: &mut &str) -> Result<Sub, ListCause>
+    ensures { Takes result input.new.now (check_at input.old.now) }
+{
+    let path = spaced_path(alloc, input)?;
+    let version = spaced_int(input)?;
+    Ok(Sub::Check { path, version })
+}
+
+/// A part of a multi.
+#[tactic(auto, unfolding(crate::specs::Reading::sub_at))]
+fn sub_operation(alloc: Global, input: &mut &str) -> Result<Sub, ListCause>
+    ensures { Takes result input.new.now (sub_at input.old.now) }
+{
+    space(input)?;
+    let word = next_word(input)?;
+    sub_fields(alloc, word, input)
+}
+
+#[tactic(auto, unfolding(crate::specs::Reading::sub_by))]
+fn sub_fields(alloc: Global, word: Word, input: &mut &str) -> Result<Sub, ListCause>
+    ensures { Takes result input.new.now (sub_by word input.old.now) }
+{
+    match word {
+        Word::Create => sub_create(alloc, input),
+        Word::Delete => Ok(Sub::Delete {
+            path: spaced_path(alloc, input)?,
+        }),
+        Word::SetData => sub_set_data(alloc, input),
+        Word::Check => check(alloc, input),
+        Word::Error => Ok(Sub::Error {
+            code: spaced_int(input)?,
+        }),
+        Word::SetAcl | Word::CreateSession | Word::CloseSession | Word::Multi => Err(
+            ListCause::Word,
+        ),
+    }
+}
+
+fn sub_create(alloc: Global, input: &mut &str) -> Result<Sub, ListCause>
+    ensures { Takes result input.new.now (mapped sub_created create_at input.old.now) }
+{
+    let Created {
+        path,
+        content,
+        acl,
+        ephemeral,
+        count,
+    } = create(alloc, input)?;
+    Ok(Sub::Create {
+        path,
+        content,
+        acl,
+        ephemeral,
+        count,
+    })
+}
+
+fn sub_set_data(alloc: Global, input: &mut &str) -> Result<Sub, ListCause>
+    ensures { Takes result input.new.now (mapped sub_written set_data_at input.old.now) }
+{
+    let Written {
+        path,
+        content,
+        version,
+    } = set_data(alloc, input)?;
+    Ok(Sub::SetData {
+        path,
+        content,
+        version,
+    })
+}
+
+/// The word between the parts of a multi.
+fn semicolon(input: &mut &str) -> Result<(), ListCause>
+    ensures { Takes result input.new.now (of_field semicolon_from input.old.now) }
+{
+    match take_field(input) {
+        None => Err(ListCause::Fields),
+        Some(field) => semicolon_of(field).ok_or(ListCause::Word),
+    }
+}
+
+#[tactic(auto, unfolding(crate::specs::Reading::semicolon_from))]
+fn semicolon_of(field: &str) -> Option<()>
+    ensures { result ≡ semicolon_from field.now }
+{
+    if field == ";" { Some(()) } else { None }
+}
+
+/// A separator and a part.
+#[tactic(auto, unfolding(crate::specs::Reading::part_at))]
+fn part(alloc: Global, input: &mut &str) -> Result<Sub, ListCause>
+    ensures { Takes result input.new.now (part_at input.old.now) }
+{
+    space(input)?;
+    semicolon(input)?;
+    sub_operation(alloc, input)
+}
+
+fn begins_with_space(text: &[u8]) -> bool
+    ensures { result ≡ begins_with_space text.now }
+{
+    match text {
+        [b' ', ..] => true,
+        _ => false,
+    }
+}
+
+/// The next part of a multi, or none where no space follows.
+fn next_part(alloc: Global, input: &mut &str) -> Result<Option<Sub>, ListCause>
+    ensures { ContinuesParts result input.new.now input.old.now }
+{
+    if !begins_with_space(input.as_bytes()) {
+        return Ok(None);
+    }
+    let part = part(alloc, input)?;
+    Ok(Some(part))
+}
+
+/// The parts of a multi.
+fn parts(alloc: Global, input: &mut &str) -> Result<Subs, ListCause>
+    ensures { Takes result input.new.now (parts_in input.old.now) }
+{
+    let mut parts = Vec::new(alloc);
+    while let Some(part) = next_part(alloc, input)? {
+        parts.push(part)?;
+    }
+    Ok(Subs::new(parts))
+}
+
+/// An operation.
+#[tactic(auto, unfolding(crate::specs::Reading::op_at))]
+pub(crate) fn operation(alloc: Global, input: &mut &str) -> Result<Op, ListCause>
+    ensures { Takes result input.new.now (op_at input.old.now) }
+{
+    let word = next_word(input)?;
+    op_fields(alloc, word, input)
+}
+
+#[tactic(auto, unfolding(crate::specs::Reading::op_by))]
+fn op_fields(alloc: Global, word: Word, input: &mut &str) -> Result<Op, ListCause>
+    ensures { Takes result input.new.now (op_by word input.old.now) }
+{
+    match word {
+        Word::Create => op_create(alloc, input),
+        Word::Delete => Ok(Op::Delete {
+            path: spaced_path(alloc, input)?,
+        }),
+        Word::SetData => op_set_data(alloc, input),
+        Word::SetAcl => set_acl(alloc, input),
+        Word::CreateSession => Ok(Op::OpenSession {
+            timeout: spaced_int(input)?,
+        }),
+        Word::CloseSession => Ok(Op::CloseSession),
+        Word::Error => Ok(Op::Error {
+            code: spaced_int(input)?,
+        }),
+        Word::Multi => Ok(Op::Multi {
+            parts: parts(alloc, input)?,
+        }),
+        Word::Check => Err(ListCause::Word),
+    }
+}
+
+fn op_create(alloc: Global, input: &mut &str) -> Result<Op, ListCause>
+    ensures { Takes result input.new.now (mapped op_created create_at input.old.now) }
+{
+    let Created {
+        path,
+        content,
+        acl,
+        ephemeral,
+        count,
+    } = create(alloc, input)?;
+    Ok(Op::Create {
+        path,
+        content,
+        acl,
+        ephemeral,
+        count,
+    })
+}
+
+fn op_set_data(alloc: Global, input: &mut &str) -> Result<Op, ListCause>
+    ensures { Takes result input.new.now (mapped op_written set_data_at input.old.now) }
+{
+    let Written {
+        path,
+        content,
+        version,
+    } = set_data(alloc, input)?;
+    Ok(Op::SetData {
+        path,
+        content,
+        version,
+    })
+}

@@ -1,0 +1,126 @@
+//! The reader of quoted texts.
+ghost use Rattle.std.specs.Prelude.{◌≡◌, ◌<◌, IfSome};
+ghost use Rattle.std.specs.String.{string_bytes};
+ghost use Rattle.zk_listing.specs.Reading.{TakesBy, Makes, TakesChar, Continues, quoted_at, inside, TakesFirst, escape_at, braced_at, control_at, control_from, lower_digit};
+
+use crate::fault::ListCause;
+use crate::fields::take_field;
+use std::alloc::Global;
+
+/// A text between quotes. Quotes, backslashes and control characters are escaped in it, and nothing else is.
+#[tactic(auto, unfolding(crate::specs::Reading::quoted_at))]
+pub(crate) fn quoted(alloc: Global, input: &mut &str) -> Result<String, ListCause>
+    ensures { TakesBy (λ text. string_bytes text) result input.new.now (quoted_at input.old.now) }
+{
+    match input.strip_prefix('"') {
+        Some(rest) => {
+            *input = rest;
+            inside(alloc, input)
+        }
+        None => match take_field(input) {
+            None => Err(ListCause::Fields),
+            Some(_) => Err(ListCause::Quote),
+        },
+    }
+}
+
+/// What stands behind an opening quote, up to the closing one, which is taken too.
+fn inside(alloc: Global, input: &mut &str) -> Result<String, ListCause>
+    ensures { TakesBy (λ text. string_bytes text) result input.new.now (inside input.old.now) }
+{
+    let mut text = String::new(alloc);
+    while let Some(c) = spelled_char(input)? {
+        text.push(c)?;
+    }
+    Ok(text)
+}
+
+/// A character as it stands between quotes, or none for the closing quote.
+fn spelled_char(input: &mut &str) -> Result<Option<char>, ListCause>
+    ensures { Continues result input.new.now input.old.now }
+{
+    match next_char(input) {
+        None => Err(ListCause::Quote),
+        Some('"') => Ok(None),
+        Some('\\') => match escape(input) {
+            Some(c) => Ok(Some(c)),
+            None => Err(ListCause::Quote),
+        },
+        Some(c) => {
+            if c.is_ascii_control() {
+                return Err(ListCause::Quote);
+            }
+            Ok(Some(c))
+        }
+    }
+}
+
+/// The first character.
+fn next_char(input: &mut &str) -> Option<char>
+    ensures { TakesFirst result input.new.now input.old.now }
+{
+    let mut chars = input.chars();
+    let first = chars.next();
+    *input = chars.as_str();
+    first
+}
+
+/// What stands behind a backslash: a quote, a backslash, or a control character by its number.
+fn escape(input: &mut &str) -> Option<char>
+    ensures { TakesChar result input.new.now (escape_at input.old.now) }
+{
+    match next_char(input) {
+        Some('"') => Some('"'),
+        Some('\\') => Some('\\'),
+        Some('u') => braced(input),
+        _ => None,
+    }
+}
+
+/// The number of a control character between braces.
+fn braced(input: &mut &str) -> Option<char>
+    ensures { TakesChar result input.new.now (braced_at input.old.now) }
+{
+    match input.strip_prefix('{') {
+        Some(rest) => {
+            *input = rest;
+            control(input)
+        }
+        None => None,
+    }
+}
+
+/// The number of a control character in hexadecimal digits, and the closing brace.
+#[tactic(auto, unfolding(crate::specs::Reading::control_at))]
+fn control(input: &mut &str) -> Option<char>
+    ensures { TakesChar result input.new.now (control_at input.old.now) }
+{
+    let (digits, rest) = input.split_once('}')?;
+    let code = control_of(digits.as_bytes())?;
+    *input = rest;
+    Some(char::from(code))
+}
+
+/// The control character of ASCII that lower-case digits without leading zeros spell.
+#[tactic(auto, unfolding(crate::specs::Reading::control_from))]
+fn control_of(digits: &[u8]) -> Option<u8>
+    ensures { result ≡ control_from digits.now }
+{
+    match digits {
+        [low] => lower_digit(*low),
+        [b'1', low] => Some(16 + lower_digit(*low)?),
+        [b'7', b'f'] => Some(127),
+        _ => None,
+    }
+}
+
+fn lower_digit(digit: u8) -> Option<u8>
+    ensures value { result ≡ lower_digit digit }
+    ensures below { IfSome result (λ value. value < 16) }
+{
+    match digit {
+        b'0'..=b'9' => Some(digit - b'0'),
+        b'a'..=b'f' => Some(digit - b'a' + 10),
+        _ => None,
+    }
+}

@@ -1,0 +1,75 @@
+//! The readers of fields. Each takes a field from the front of its input: a field that isn't quoted ends at a space, at
+//! a newline or at the end of the input. After a refusal the input stands somewhere in that field.
+ghost use Rattle.std.specs.Prelude.{FitsSigned};
+ghost use Rattle.std.specs.Fmt.{signed_decimal};
+ghost use Rattle.std.specs.Int.{w32, w64};
+ghost use Rattle.std.specs.Str.{IsUtf8};
+ghost use Rattle.std.specs.String.{string_bytes};
+ghost use Rattle.zk_listing.specs.Listings.{IsListedPath, IsListedContent, AreListedAcls};
+ghost use Rattle.zk_listing.specs.Promises.{ReadsFound, ReadsOnly};
+ghost use Rattle.zk_listing.specs.Spelling.{id_digits, quoted, content_text, acl_text};
+
+use crate::fault::ListCause;
+use crate::fields::{content, id, int, long};
+use crate::parts::{acl, path};
+use crate::quoting::quoted;
+use std::alloc::Global;
+use zk_acl::Acls;
+use zk_path::Path;
+use zk_table::Content;
+
+/// The number of a transaction or a session: sixteen lower-case hexadecimal digits.
+pub fn read_id(input: &mut &str) -> Result<i64, ListCause>
+    ensures found { ReadsFound (λ x. x) id_digits (FitsSigned w64) result input.old.now input.new.now }
+    ensures only { ReadsOnly (λ x. x) id_digits (FitsSigned w64) result input.old.now input.new.now }
+{
+    id(input)
+}
+
+/// A decimal of 32 bits.
+pub fn read_int(input: &mut &str) -> Result<i32, ListCause>
+    ensures found { ReadsFound (λ x. x) signed_decimal (FitsSigned w32) result input.old.now input.new.now }
+    ensures only { ReadsOnly (λ x. x) signed_decimal (FitsSigned w32) result input.old.now input.new.now }
+{
+    int(input)
+}
+
+/// A decimal of 64 bits.
+pub fn read_long(input: &mut &str) -> Result<i64, ListCause>
+    ensures found { ReadsFound (λ x. x) signed_decimal (FitsSigned w64) result input.old.now input.new.now }
+    ensures only { ReadsOnly (λ x. x) signed_decimal (FitsSigned w64) result input.old.now input.new.now }
+{
+    long(input)
+}
+
+/// A text between quotes.
+pub fn read_quoted(alloc: Global, input: &mut &str) -> Result<String, ListCause>
+    ensures found { ReadsFound (λ x. string_bytes x) quoted IsUtf8 result input.old.now input.new.now }
+    ensures only { ReadsOnly (λ x. string_bytes x) quoted IsUtf8 result input.old.now input.new.now }
+{
+    quoted(alloc, input)
+}
+
+/// A path between quotes.
+pub fn read_path(alloc: Global, input: &mut &str) -> Result<Path, ListCause>
+    ensures found { ReadsFound (λ x. x) quoted IsListedPath result input.old.now input.new.now }
+    ensures only { ReadsOnly (λ x. x) quoted IsListedPath result input.old.now input.new.now }
+{
+    path(alloc, input)
+}
+
+/// A node's content: `-` for null, else `x` and two lower-case hexadecimal digits for each byte.
+pub fn read_content(alloc: Global, input: &mut &str) -> Result<Option<Content>, ListCause>
+    ensures found { ReadsFound (λ x. x) content_text IsListedContent result input.old.now input.new.now }
+    ensures only { ReadsOnly (λ x. x) content_text IsListedContent result input.old.now input.new.now }
+{
+    content(alloc, input)
+}
+
+/// An access control list: the number of its entries, and for each its permissions, scheme and identity.
+pub fn read_acl(alloc: Global, input: &mut &str) -> Result<Acls, ListCause>
+    ensures found { ReadsFound (λ x. x) acl_text AreListedAcls result input.old.now input.new.now }
+    ensures only { ReadsOnly (λ x. x) acl_text AreListedAcls result input.old.now input.new.now }
+{
+    acl(alloc, input)
+}

@@ -1,0 +1,137 @@
+ghost use Rattle.std.specs.Prelude.{◌≡◌, ◌++◌, OnOk};
+ghost use Rattle.std.specs.Option.{option_copied};
+ghost use Rattle.std.specs.String.{string_bytes};
+ghost use Rattle.zk_listing.specs.Spelling.{sixteen_digits, id_digits, escaped, quoted, content_text, acl_entry_text, acl_text, stat_text, stat_times, stat_versions, stat_rest};
+
+use zk_acl::{Acl, Acls, Stat};
+use zk_path::NoMemory;
+use zk_table::Content;
+
+/// Appends the sixteen lower-case hexadecimal digits of 64 bits.
+#[tactic(auto, unfolding(crate::specs::Spelling::sixteen_digits))]
+pub fn push_digits(line: &mut String, bits: u64) -> Result<(), NoMemory>
+    ensures { OnOk result (string_bytes line.new ≡ string_bytes line.old ++ sixteen_digits bits) }
+{
+    let digits = hex::encode(*line.allocator(), bits.to_be_bytes())?;
+    line.push_str(digits.as_str())?;
+    Ok(())
+}
+
+/// Appends the sixteen digits of a transaction's or a session's number, which is signed.
+pub fn push_id(line: &mut String, id: i64) -> Result<(), NoMemory>
+    ensures { OnOk result (string_bytes line.new ≡ string_bytes line.old ++ id_digits id) }
+{
+    push_digits(line, id.cast_unsigned())
+}
+
+/// Appends a text between quotes. Quotes, backslashes and control characters are escaped.
+#[tactic(auto, unfolding(crate::specs::Spelling::quoted))]
+pub fn push_quoted(line: &mut String, text: &str) -> Result<(), NoMemory>
+    ensures { OnOk result (string_bytes line.new ≡ string_bytes line.old ++ quoted text.now) }
+{
+    line.push('"')?;
+    for c in text.chars() {
+        push_escaped(line, c)?;
+    }
+    line.push('"')?;
+    Ok(())
+}
+
+/// Appends a character as it stands between quotes.
+#[tactic(auto, unfolding(crate::specs::Spelling::escaped))]
+fn push_escaped(line: &mut String, c: char) -> Result<(), NoMemory>
+    ensures { OnOk result (string_bytes line.new ≡ string_bytes line.old ++ escaped c) }
+{
+    if c == '"' || c == '\\' {
+        line.push('\\')?;
+        line.push(c)?;
+    } else if c.is_ascii_control() {
+        write!(line, "\\u{{{:x}}}", u32::from(c))?;
+    } else {
+        line.push(c)?;
+    }
+    Ok(())
+}
+
+/// Appends a node's content: `-` where it is null, else `x` and two hexadecimal digits for each byte.
+#[tactic(auto, unfolding(crate::specs::Spelling::content_text))]
+pub fn push_content(line: &mut String, content: &Option<Content>) -> Result<(), NoMemory>
+    ensures { OnOk result (string_bytes line.new ≡ string_bytes line.old ++ content_text content.now) }
+{
+    match content {
+        None => line.push('-')?,
+        Some(content) => {
+            let digits = hex::encode(*line.allocator(), content.as_slice())?;
+            line.push('x')?;
+            line.push_str(digits.as_str())?;
+        }
+    }
+    Ok(())
+}
+
+/// Appends an access control list: the number of its entries, and the three fields of each.
+#[tactic(auto, unfolding(crate::specs::Spelling::acl_text))]
+pub fn push_acl(line: &mut String, acl: &Acls) -> Result<(), NoMemory>
+    ensures { OnOk result (string_bytes line.new ≡ string_bytes line.old ++ acl_text acl.now) }
+{
+    let entries = acl.as_slice();
+    write!(line, "{}", entries.len())?;
+    for entry in entries {
+        push_acl_entry(line, entry)?;
+    }
+    Ok(())
+}
+
+/// Appends a space and the fields of an entry.
+#[tactic(auto, unfolding(crate::specs::Spelling::acl_entry_text))]
+fn push_acl_entry(line: &mut String, entry: &Acl) -> Result<(), NoMemory>
+    ensures { OnOk result (string_bytes line.new ≡ string_bytes line.old ++ acl_entry_text entry.now) }
+{
+    write!(line, " {} ", entry.perms)?;
+    push_quoted(line, entry.id.scheme.as_str())?;
+    line.push(' ')?;
+    push_quoted(line, entry.id.id.as_str())
+}
+
+/// Appends a stat's eleven fields.
+#[tactic(auto, unfolding(crate::specs::Spelling::stat_text))]
+pub fn push_stat(line: &mut String, stat: &Stat) -> Result<(), NoMemory>
+    ensures { OnOk result (string_bytes line.new ≡ string_bytes line.old ++ stat_text stat.now) }
+{
+    push_stat_times(line, stat)?;
+    line.push(' ')?;
+    push_stat_versions(line, stat)?;
+    line.push(' ')?;
+    push_stat_rest(line, stat)
+}
+
+/// Appends a stat's first four fields.
+#[tactic(auto, unfolding(crate::specs::Spelling::stat_times))]
+fn push_stat_times(line: &mut String, stat: &Stat) -> Result<(), NoMemory>
+    ensures { OnOk result (string_bytes line.new ≡ string_bytes line.old ++ stat_times stat.now) }
+{
+    push_id(line, stat.czxid)?;
+    line.push(' ')?;
+    push_id(line, stat.mzxid)?;
+    write!(line, " {} {}", stat.ctime, stat.mtime)?;
+    Ok(())
+}
+
+/// Appends a stat's three versions.
+#[tactic(auto, unfolding(crate::specs::Spelling::stat_versions))]
+fn push_stat_versions(line: &mut String, stat: &Stat) -> Result<(), NoMemory>
+    ensures { OnOk result (string_bytes line.new ≡ string_bytes line.old ++ stat_versions stat.now) }
+{
+    write!(line, "{} {} {}", stat.version, stat.cversion, stat.aversion)?;
+    Ok(())
+}
+
+/// Appends a stat's last four fields.
+#[tactic(auto, unfolding(crate::specs::Spelling::stat_rest))]
+fn push_stat_rest(line: &mut String, stat: &Stat) -> Result<(), NoMemory>
+    ensures { OnOk result (string_bytes line.new ≡ string_bytes line.old ++ stat_rest stat.now) }
+{
+    push_id(line, stat.ephemeral_owner)?;
+    write!(line, " {} {} ", stat.data_length, stat.num_children)?;
+    push_id(line, stat.pzxid)
+}
