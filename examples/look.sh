@@ -14,3 +14,11 @@ echo "The same log as of its first transaction, from standard input:"
 echo
 echo "The same log, torn in its second entry:"
 head -c 100 examples/first_log_head.log | "$zk" show @ last
+
+echo
+echo "The whole first log as text, one line for each transaction:"
+"$zk" list examples/first_log.log
+
+echo
+echo "A log of that text, with the session opened for a minute, and its tree:"
+sed 's/createSession 30000/createSession 60000/; $d' examples/first_log.listing | "$zk" asm @ @ | "$zk" show @ last

@@ -1,3 +1,6 @@
+pub mod AssemblingLaws
 pub mod DigitsLaws
-pub mod SpelledLaws
 pub mod LinesLaws
+pub mod ListedLaws
+pub mod PageLaws
+pub mod TextLaws

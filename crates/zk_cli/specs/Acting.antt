@@ -3,9 +3,14 @@ use Rattle.std.specs.Prelude.{ℕ, List, Option, Result}
 use Rattle.zk_log.specs.declared.sink.Sink.{Sink}
 use Rattle.zk_log.specs.declared.source.Source.{Source}
 use Rattle.zk_path.specs.declared.memory.NoMemory.{NoMemory}
-use Rattle.zk_cli.specs.Showing.{Shows}
+use Rattle.zk_cli.specs.Assembling.{Assembles}
+use Rattle.zk_cli.specs.Showing.{report_of}
+use Rattle.zk_cli.specs.Telling.{TellsLog}
 use Rattle.zk_cli.specs.declared.act.Order.{Order}
-use Rattle.zk_cli.specs.declared.act.Order.TheVariants.{Show}
+use Rattle.zk_cli.specs.declared.act.Order.TheVariants as orders
+use Rattle.zk_cli.specs.declared.reporting.Report.TheVariants as reports
 
 abbrev pub Acts : {F O E : Type 0} → (F → Option (List ℕ)) → (O → Option (List ℕ)) → (E → Option (List ℕ)) → Order → Source F → Source F → Sink O → Sink O → Sink E → Sink E → Result ℕ NoMemory → Type 0
-Acts remaining written told (Show upto) file file' output output' faults faults' result = Shows remaining written told upto file file' output output' faults faults' result
+Acts remaining written told (orders.Show upto) file file' output output' faults faults' result = TellsLog remaining written told (report_of (reports.Tree upto)) file file' output output' faults faults' result
+Acts remaining written told orders.List file file' output output' faults faults' result = TellsLog remaining written told (report_of reports.Listing) file file' output output' faults faults' result
+Acts remaining written told orders.Asm file file' output output' faults faults' result = Assembles remaining written told file file' output output' faults faults' result

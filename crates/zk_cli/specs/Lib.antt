@@ -1,6 +1,8 @@
 pub mod Acting
+pub mod Assembling
 pub mod Commands
+pub mod Reading
 pub mod Reports
 pub mod Showing
-pub mod Spelling
+pub mod Telling
 pub mod Writing

@@ -3,18 +3,14 @@ use Rattle.std.specs.Prelude.{ℕ, ℤ, List, [], ◌∷◌, ◌++◌, codes}
 use Rattle.std.specs.Fmt.{signed_decimal}
 use Rattle.std.specs.FinMap.{entries}
 use Rattle.std.specs.List.{flat_map}
-use Rattle.zk_acl.specs.declared.stat.Stat.{Stat}
+use Rattle.zk_listing.specs.Reports.{node_line}
+use Rattle.zk_listing.specs.Spelling.{sixteen_digits, id_digits}
 use Rattle.zk_table.specs.declared.node.Node.{Node}
 use Rattle.zk_table.specs.States.{NodeMap, State, stat_of}
-use Rattle.zk_cli.specs.Spelling.{quoted, content_text, acl_text, stat_text, sixteen_digits, id_digits}
 
 -- a line, with the newline that ends it
 abbrev pub line : List ℕ → List ℕ
 line text = text ++ 10 ∷ []
-
--- a node: its path, content, access control list and stat
-unfoldable pub node_line : List ℕ → Node → Stat → List ℕ
-node_line path node stat = quoted path ++ 32 ∷ content_text node.content ++ 32 ∷ acl_text node.acl ++ 32 ∷ stat_text stat
 
 -- the last transaction
 unfoldable pub zxid_line : ℤ → List ℕ

@@ -1,8 +1,9 @@
 ghost use Rattle.std.specs.Prelude.{◌≡◌, ◌+◌, ◌-◌, ◌<◌, ◌^◌};
 ghost use Rattle.zk_cli.specs.Acting.{Acts};
-ghost use Rattle.zk_log.specs.Devices.{reads_of, read_failures_of, writes_of, write_failures_of};
+ghost use Rattle.zk_log.specs.Devices.{reads_of, read_failures_of, write_failures_of};
 
-use crate::show::show;
+use crate::asm::asm;
+use crate::reporting::{Report, tell_log};
 use std::alloc::Global;
 use std::io::{Read, Write};
 use zk_log::{Sink, Source};
@@ -13,12 +14,17 @@ use zk_path::NoMemory;
 pub enum Order {
     /// Shows the tree of a log up to a transaction, or at its last one.
     Show { upto: Option<i64> },
+    /// Lists the transactions of a log.
+    List,
+    /// Makes the log, with dbid 0, that a listing spells.
+    Asm,
 }
 
 /// Does what an order asks for, and answers the exit status: 0, or 1 for a refused input or a failed output, with one
 /// line on `faults`.
 ///
-/// `script` is for orders that read a second input; the present one leaves it.
+/// `file` is the log, and for [`Order::Asm`] the listing. `script` is for orders that read a second input; the present
+/// ones leave it.
 pub fn act<F: Read, S: Read, O: Write, E: Write>(
     alloc: Global,
     order: &Order,
@@ -31,12 +37,13 @@ pub fn act<F: Read, S: Read, O: Write, E: Write>(
     requires read_failures { read_failures_of file.old < 2 ^ 64 - 1 }
     requires output { write_failures_of output.old < 2 ^ 64 - 1 }
     requires faults { write_failures_of faults.old < 2 ^ 64 - 1 }
-    requires faults_room { writes_of faults.old + 10 < 2 ^ 64 }
     ensures acts { Acts F.remaining O.contents E.contents order.now file.old file.new
         output.old output.new faults.old faults.new result }
     ensures script { _script.new ≡ _script.old }
 {
     match order {
-        Order::Show { upto } => show(alloc, *upto, file, output, faults),
+        Order::Show { upto } => tell_log(alloc, Report::Tree { upto: *upto }, file, output, faults),
+        Order::List => tell_log(alloc, Report::Listing, file, output, faults),
+        Order::Asm => asm(alloc, file, output, faults),
     }
 }

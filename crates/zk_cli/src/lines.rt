@@ -1,9 +1,9 @@
-ghost use Rattle.std.specs.Prelude.{◌≡◌, ◌+◌, ◌-◌, ◌<◌, ◌^◌, ◌↔◌, IsTrue, length};
+ghost use Rattle.std.specs.Prelude.{◌≡◌, ◌-◌, ◌<◌, ◌^◌};
 ghost use Rattle.std.specs.String.{string_bytes};
 ghost use Rattle.zk_cli.specs.Reports.{line};
 ghost use Rattle.zk_cli.specs.Writing.{Writes};
 ghost use Rattle.zk_cli.specs.declared.lines.LineFault.TheVariants as faults;
-ghost use Rattle.zk_log.specs.Devices.{writes_of, write_failures_of};
+ghost use Rattle.zk_log.specs.Devices.{write_failures_of};
 
 use std::alloc::AllocError;
 use std::io::Write;
@@ -49,17 +49,6 @@ pub(crate) fn write_line<O: Write>(output: &mut Sink<O>, mut text: String) -> Re
     ensures { Writes O.contents output.old (line (string_bytes text)) result output.new }
 {
     text.push('\n')?;
-    // A count of writes that can't grow by so much is told as want of memory; 2^64 writes are never made.
-    if !has_room(output, text.as_str()) {
-        return Err(LineFault::NoMemory);
-    }
     output.write_all(text.as_bytes())?;
     Ok(())
-}
-
-/// Whether a sink can count the writes of a text: a writer may take each byte in a write of its own.
-pub(crate) fn has_room<W: Write>(sink: &Sink<W>, text: &str) -> bool
-    ensures { IsTrue result ↔ (writes_of sink.now + length text.now < 2 ^ 64) }
-{
-    text.len() as u64 <= u64::MAX - sink.writes()
 }

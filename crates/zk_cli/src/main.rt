@@ -2,18 +2,22 @@
 #![tactic(auto)]
 
 mod act;
+mod asm;
 mod command;
 mod lines;
+mod list;
 mod report;
+mod reporting;
 mod show;
-mod spelling;
+mod telling;
 #[cfg(test)]
 mod tests;
+mod text;
 
 use act::{Order, act};
 use clap::error::ErrorKind;
 use command::{Job, read_command_line};
-use std::io::Read;
+use std::io::{Read, Write};
 use std::process::ExitCode;
 use std::{env, fs, io};
 use zk_log::{Sink, Source};
@@ -47,22 +51,38 @@ fn run(rt: &HostRuntime) -> Result<u8, NoMemory> {
     }
 }
 
-/// Opens the input, and acts. Answers the exit status.
+/// Opens the input and then the output, and acts. Answers the exit status.
 fn open_and_act(rt: &HostRuntime, job: &Job) -> Result<u8, NoMemory> {
-    if job.file == "@" {
-        return act_on(rt, &job.order, rt.reader());
+    if job.input == "@" {
+        return open_output(rt, job, rt.reader());
     }
-    match fs::open(rt, job.file) {
-        Ok(file) => act_on(rt, &job.order, file),
+    match fs::open(rt, job.input) {
+        Ok(file) => open_output(rt, job, file),
         Err(_) => Ok(refuse(rt, "read")),
     }
 }
 
-/// Acts on an open input, with the standard output and the standard error. Answers the exit status.
-fn act_on<F: Read + Drop>(rt: &HostRuntime, order: &Order, file: F) -> Result<u8, NoMemory> {
+/// Opens the output of an open input, and acts. Answers the exit status.
+fn open_output<F: Read + Drop>(rt: &HostRuntime, job: &Job, file: F) -> Result<u8, NoMemory> {
+    if job.output == "@" {
+        return act_on(rt, &job.order, file, io::writer(rt));
+    }
+    match fs::create(rt, job.output) {
+        Ok(output) => act_on(rt, &job.order, file, output),
+        Err(_) => Ok(refuse(rt, "write")),
+    }
+}
+
+/// Acts on an open input and output, with the standard error. Answers the exit status.
+fn act_on<F: Read + Drop, O: Write + Drop>(
+    rt: &HostRuntime,
+    order: &Order,
+    file: F,
+    output: O,
+) -> Result<u8, NoMemory> {
     let mut file = Source::new(file);
     let mut script = Source::new(io::empty());
-    let mut output = Sink::new(io::writer(rt));
+    let mut output = Sink::new(output);
     let mut faults = Sink::new(rt.stderr());
     act(
         rt.alloc(),

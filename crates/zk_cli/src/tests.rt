@@ -55,28 +55,43 @@ const LAST_TREE: &str =
 /// The lines of the first log's first tree, down to its session.
 const FIRST_TREE: &str = "zxid 0000000100000001\nsession 0100000000000001 30000\n";
 
+/// The lines of the first log's listing.
+const OPEN_LINE: &str = "0000000100000001 0100000000000001 0 1000 createSession 30000\n";
+
+const CREATE_LINE: &str =
+    "0000000100000002 0100000000000001 1 2000 create \"/a\" x6869 1 31 \"world\" \"anyone\" p 1\n";
+
+const CLOSE_LINE: &str = "0000000100000003 0100000000000001 2 3000 closeSession\n";
+
+/// A line whose zxid is not above 0.
+const ZERO_LINE: &str = "0000000000000000 0100000000000001 0 1000 createSession 30000\n";
+
 /// The bytes that some texts spell in hexadecimal digits.
 fn log_of(rt: &(impl Abort + AllocGlobal), parts: &[&str]) -> Result<Vec<u8>, Fail> {
-    let mut digits = String::new(rt.alloc());
-    for part in parts {
-        digits.push_str(part)?;
-    }
-    Ok(hex::decode(rt.alloc(), digits.as_str())?)
+    Ok(hex::decode(rt.alloc(), joined(rt, parts)?.as_str())?)
 }
 
-/// Shows the tree of a log, and compares the status and what is written.
+/// These texts one behind the other.
+fn joined(rt: &(impl Abort + AllocGlobal), parts: &[&str]) -> Result<String, Fail> {
+    let mut text = String::new(rt.alloc());
+    for part in parts {
+        text.push_str(part)?;
+    }
+    Ok(text)
+}
+
+/// Acts, and compares the status, what is written and what is told.
 fn check(
     rt: &(impl Abort + AllocGlobal),
+    order: Order,
     file: DripIn,
     output: DripOut,
-    upto: Option<i64>,
-    expected: (u8, &[&str], &str),
+    expected: (u8, &[u8], &str),
 ) -> Result<(), Fail> {
     let mut file = Source::new(file);
     let mut script = Source::new(DripIn::new(b"", 1, None));
     let mut output = Sink::new(output);
     let mut faults = Sink::new(DripOut::new(rt.alloc(), 64, None));
-    let order = Order::Show { upto };
     let status = act(
         rt.alloc(),
         &order,
@@ -85,31 +100,50 @@ fn check(
         &mut output,
         &mut faults,
     )?;
-    let mut report = String::new(rt.alloc());
-    for part in expected.1 {
-        report.push_str(part)?;
-    }
     assert_eq!(rt; status, expected.0);
-    assert_eq!(rt; output.into_inner().bytes(), report.as_bytes());
+    assert_eq!(rt; output.into_inner().bytes(), expected.1);
     assert_eq!(rt; faults.into_inner().bytes(), expected.2.as_bytes());
     Ok(())
 }
 
-/// Shows the tree of a log that is read and written without a failure.
+/// Acts on an input that is read without a failure, and writes without one.
+fn check_input(
+    rt: &(impl Abort + AllocGlobal),
+    order: Order,
+    input: &[u8],
+    expected: (u8, &[u8], &str),
+) -> Result<(), Fail> {
+    let output = DripOut::new(rt.alloc(), 5, None);
+    check(rt, order, DripIn::new(input, 7, None), output, expected)
+}
+
+/// Shows the tree of a log.
 fn check_log(
     rt: &(impl Abort + AllocGlobal),
     log: &[u8],
     upto: Option<i64>,
     report: &[&str],
 ) -> Result<(), Fail> {
-    let output = DripOut::new(rt.alloc(), 5, None);
-    check(rt, DripIn::new(log, 7, None), output, upto, (0, report, ""))
+    let report = joined(rt, report)?;
+    check_input(rt, Order::Show { upto }, log, (0, report.as_bytes(), ""))
 }
 
 /// Shows the tree of a log that is refused.
 fn check_refused(rt: &(impl Abort + AllocGlobal), log: &[u8], fault: &str) -> Result<(), Fail> {
-    let output = DripOut::new(rt.alloc(), 5, None);
-    check(rt, DripIn::new(log, 7, None), output, None, (1, &[], fault))
+    check_input(rt, Order::Show { upto: None }, log, (1, b"", fault))
+}
+
+/// Lists a log, and makes the log of its listing.
+fn check_listing(rt: &(impl Abort + AllocGlobal), log: &[u8], lines: &[&str]) -> Result<(), Fail> {
+    let listing = joined(rt, lines)?;
+    check_input(rt, Order::List, log, (0, listing.as_bytes(), ""))?;
+    check_input(rt, Order::Asm, listing.as_bytes(), (0, log, ""))
+}
+
+/// Makes a log of a text that is refused.
+fn check_text(rt: &(impl Abort + AllocGlobal), lines: &[&str], fault: &str) -> Result<(), Fail> {
+    let text = joined(rt, lines)?;
+    check_input(rt, Order::Asm, text.as_bytes(), (1, b"", fault))
 }
 
 #[test]
@@ -189,30 +223,49 @@ fn texts_are_escaped_and_null_content_is_a_minus(rt: HostRuntime) -> Result<(), 
 #[test]
 fn failing_devices_are_told(rt: HostRuntime) -> Result<(), Fail> {
     let log = log_of(&rt, &[HEADER, OPEN, CREATE])?;
-    let output = DripOut::new(rt.alloc(), 5, Some(3));
-    let report = ["zxid 0000000100"];
-    check(
-        &rt,
-        DripIn::new(&log, 7, None),
-        output,
-        None,
-        (1, &report, "zk: write\n"),
-    )?;
+    let show = Order::Show { upto: None };
+    let failing = DripOut::new(rt.alloc(), 5, Some(3));
+    let told = (1, b"zxid 0000000100".as_slice(), "zk: write\n");
+    check(&rt, show, DripIn::new(&log, 7, None), failing, told)?;
     let output = DripOut::new(rt.alloc(), 5, None);
-    check(
-        &rt,
-        DripIn::new(&log, 7, Some(4)),
-        output,
-        None,
-        (1, &[], "zk: G6\n"),
-    )
+    let unread = (1, b"".as_slice(), "zk: G6\n");
+    check(&rt, show, DripIn::new(&log, 7, Some(4)), output, unread)
+}
+
+#[test]
+fn first_log_lists_and_assembles(rt: HostRuntime) -> Result<(), Fail> {
+    let log = log_of(&rt, &[HEADER, OPEN, CREATE, CLOSE])?;
+    check_listing(&rt, &log, &[OPEN_LINE, CREATE_LINE, CLOSE_LINE])?;
+    let empty = log_of(&rt, &[HEADER])?;
+    check_listing(&rt, &empty, &[])
+}
+
+#[test]
+fn refused_listings_leave_the_output_empty(rt: HostRuntime) -> Result<(), Fail> {
+    check_text(&rt, &[OPEN_LINE, "+1\n"], "zk: L2 2\n")?;
+    check_text(&rt, &[CREATE_LINE, OPEN_LINE], "zk: order 2\n")?;
+    check_text(&rt, &[OPEN_LINE, OPEN_LINE, "+1\n"], "zk: L2 3\n")?;
+    check_text(&rt, &[OPEN_LINE, OPEN_LINE], "zk: order 2\n")?;
+    check_text(&rt, &[ZERO_LINE], "zk: order 1\n")?;
+    check_input(&rt, Order::Asm, b"0\xff", (1, b"", "zk: utf8\n"))
+}
+
+#[test]
+fn failing_devices_of_asm_are_told(rt: HostRuntime) -> Result<(), Fail> {
+    let output = DripOut::new(rt.alloc(), 5, None);
+    let text = DripIn::new(OPEN_LINE.as_bytes(), 7, Some(4));
+    check(&rt, Order::Asm, text, output, (1, b"", "zk: read\n"))?;
+    let output = DripOut::new(rt.alloc(), 4, Some(2));
+    let text = DripIn::new(OPEN_LINE.as_bytes(), 7, None);
+    let told = (1, b"ZKLG\0\0\0\x02".as_slice(), "zk: write\n");
+    check(&rt, Order::Asm, text, output, told)
 }
 
 #[test]
 fn command_lines_name_an_order(rt: HostRuntime) -> Result<(), Fail> {
     let words = ["zk", "show", "a.log", "8000000000000000"];
     let job = read_command_line(rt.alloc(), words.as_slice())?;
-    assert_eq!(rt; job.file, "a.log");
+    assert_eq!(rt; (job.input, job.output), ("a.log", "@"));
     assert!(rt;
         job.order
             == Order::Show {
@@ -237,6 +290,22 @@ fn command_lines_name_an_order(rt: HostRuntime) -> Result<(), Fail> {
     assert_eq!(rt; kind_of(help), Some(ErrorKind::DisplayHelp));
     let none = read_command_line(rt.alloc(), ["zk"].as_slice());
     assert_eq!(rt; kind_of(none), Some(ErrorKind::MissingSubcommand));
+    Ok(())
+}
+
+#[test]
+fn command_lines_name_an_input_and_an_output(rt: HostRuntime) -> Result<(), Fail> {
+    let words = ["zk", "list", "a.log"];
+    let job = read_command_line(rt.alloc(), words.as_slice())?;
+    assert!(rt; job.order == Order::List);
+    assert_eq!(rt; (job.input, job.output), ("a.log", "@"));
+    let words = ["zk", "asm", "a.txt", "b.log"];
+    let job = read_command_line(rt.alloc(), words.as_slice())?;
+    assert!(rt; job.order == Order::Asm);
+    assert_eq!(rt; (job.input, job.output), ("a.txt", "b.log"));
+    let words = ["zk", "asm", "a.txt"];
+    let refused = read_command_line(rt.alloc(), words.as_slice());
+    assert_eq!(rt; kind_of(refused), Some(ErrorKind::MissingRequiredArgument));
     Ok(())
 }
 

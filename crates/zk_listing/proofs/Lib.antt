@@ -8,6 +8,5 @@ pub mod LineLaws
 pub mod PartLaws
 pub mod QuotedLaws
 pub mod ReaderLaws
-pub mod SpelledLaws
 pub mod Turns
 pub mod WordLaws

@@ -1,5 +1,5 @@
 -- Operations and the parts of a multi.
-use Rattle.std.proofs.Common.{◌≡◌, ℕ, zero, suc, ℤ, ◌≤◌, ◌<◌, Bool, true, false, cond, List, [], ◌∷◌, ◌++◌, length, Option, Some, None, refl, sym, ap, subst, ◌∙◌, append_assoc, length-append, arith}
+use Rattle.std.proofs.Common.{◌≡◌, ℕ, zero, suc, ℤ, ◌≤◌, ◌<◌, Bool, true, false, cond, eqb, get_or, List, [], ◌∷◌, ◌++◌, length, Option, Some, None, refl, sym, ap, subst, ◌∙◌, append_assoc, length-append, arith}
 use Rattle.std.specs.Prelude.{FitsSigned}
 use Rattle.std.specs.Fmt.{signed_decimal}
 use Rattle.std.specs.Int.{w32}
@@ -185,6 +185,10 @@ sub_at_takes bytes y rest h =
     (made.fits, word.1 ∙ ap (λ (b : List ℕ). 32 ∷ b) made.spelled)
 
 -- ---- parts
+
+pub begins_first : (text : List ℕ) → begins_with_space text ≡ eqb (get_or text 0 0) 32
+begins_first [] = refl
+begins_first (b ∷ bs) = refl
 
 spaced_semicolon : IsExact (λ (x : Unit {0}). 32 ∷ semicolon_text x) Always (spaced (of_field semicolon_from))
 spaced_semicolon = exact_spaced semicolon_text Always (of_field semicolon_from) (exact_field semicolon_text Always semicolon_from semicolon_field)

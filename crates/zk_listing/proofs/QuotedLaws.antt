@@ -3,7 +3,7 @@ use Rattle.std.proofs.Common.{◌≡◌, ℕ, zero, suc, ◌+◌, ◌/◌, ◌%�
 use Rattle.std.specs.Prelude.{codes}
 use Rattle.std.specs.Char.{is_ascii_control}
 use Rattle.std.specs.Fmt.{digits, digit_glyph}
-use Rattle.std.specs.List.{position_or_len, before_first, after_first, flat_map, AllByRecursion}
+use Rattle.std.specs.List.{position_or_len, before_first, after_first, flat_map, list_any, AllByRecursion}
 use Rattle.std.specs.Option.{option_and_then, is_none}
 use Rattle.zk_path.specs.Paths.{IsPath, fault_of}
 use Rattle.zk_path.proofs.FaultLaw.{IsPath-from_fault, fault_of-IsPath}
@@ -19,7 +19,7 @@ use Rattle.std.proofs.lemmas.List.Sums.{split_at_first, passes_at_first}
 use Rattle.std.proofs.lemmas.Option.{cond_some}
 use Rattle.std.proofs.lemmas.Str.{encode_ascii, encodes-chars, IsUtf8-string_bytes, is_utf8-from_IsUtf8, IsUtf8-from_is_utf8}
 use lib.Utf8.{encode, encodes}
-use Rattle.zk_listing.specs.Spelling.{escaped, quoted}
+use Rattle.zk_listing.specs.Spelling.{is_escaped, escaped, quoted}
 use Rattle.zk_listing.specs.Reading.{inside_at, inside, escape_at, braced_at, control_at, control_from, lower_digit, is_brace, past, behind, quoted_at, path_at, path_from, TakesBy}
 use Rattle.zk_listing.specs.declared.fault.ListCause.{ListCause}
 use Rattle.zk_listing.proofs.Exact.{IsExact, bind_some, past_is, first_is, second_is, some_is}
@@ -69,6 +69,21 @@ escaped_char c =
 escaped_chars : (cs : List ℕ) → flat_map escaped cs ≡ flat_map escaped_byte (encodes cs)
 escaped_chars [] = refl
 escaped_chars (c ∷ cs) = ap (λ (xs : List ℕ). xs ++ flat_map escaped cs) (escaped_char c) ∙ ap (λ (xs : List ℕ). flat_map escaped_byte (encode c) ++ xs) (escaped_chars cs) ∙ sym (flat_map-append escaped_byte (encode c) (encodes cs))
+
+or_false : (a b : Bool) → (a || b) ≡ false → (a ≡ false) × (b ≡ false)
+or_false true b h = absurd (false≢true (sym h))
+or_false false b h = (refl, h)
+
+plain_bytes : (xs : List ℕ) → list_any is_escaped xs ≡ false → flat_map escaped_byte xs ≡ xs
+plain_bytes [] h = refl
+plain_bytes (b ∷ bs) h =
+    let tests = or_false (is_escaped b) (list_any is_escaped bs) h in
+    let parts = or_false (eqb b 34 || eqb b 92) (is_ascii_control b) tests.0 in
+    rw (parts.0, parts.1) (ap (λ (xs : List ℕ). b ∷ xs) (plain_bytes bs tests.1))
+
+-- a text with nothing to escape stands for itself
+pub nothing_escaped : (text : List ℕ) → IsUtf8 text → list_any is_escaped text ≡ false → flat_map escaped (chars text) ≡ text
+nothing_escaped text utf8 none = escaped_chars (chars text) ∙ ap (flat_map escaped_byte) (encodes-chars text utf8) ∙ plain_bytes text none
 
 pub quoted_bytes : (text : List ℕ) → IsUtf8 text → quoted text ≡ 34 ∷ flat_map escaped_byte text ++ 34 ∷ []
 unfolding quoted

@@ -1,5 +1,5 @@
 -- How a value is spelled in a line of a report or a listing. Fields stand side by side with one space between.
-use Rattle.std.specs.Prelude.{ℕ, ℤ, List, [], ◌∷◌, ◌++◌, ◌==◌, ◌||◌, false, if◌then◌else◌, length, Option, Some, None, codes, encode_utf8}
+use Rattle.std.specs.Prelude.{ℕ, ℤ, List, [], ◌∷◌, ◌++◌, ◌==◌, ◌||◌, Bool, false, if◌then◌else◌, length, Option, Some, None, codes, encode_utf8}
 use Rattle.std.specs.Char.{is_ascii_control}
 use Rattle.std.specs.Fmt.{decimal, signed_decimal, digits}
 use Rattle.std.specs.Int.{w64, to_be_bytes, cast_unsigned}
@@ -21,6 +21,10 @@ abbrev pub id_digits : ℤ → List ℕ
 id_digits id = sixteen_digits (cast_unsigned w64 id)
 
 -- ---- texts
+
+-- whether a character doesn't stand for itself between quotes
+abbrev pub is_escaped : ℕ → Bool
+is_escaped c = (c == 34 || c == 92) || is_ascii_control c
 
 -- A character between the quotes. Quotes and backslashes stand behind a backslash, the control characters of ASCII by
 -- their hexadecimal digits without leading zeros, and every other character for itself.

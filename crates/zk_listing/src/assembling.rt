@@ -1,11 +1,10 @@
 //! Transactions from a listing.
 ghost use Rattle.std.specs.Prelude.{◌≡◌, ◌≢◌, List, IfOk, IfErr, MatchResult, []};
-ghost use Rattle.std.specs.Int.{w64};
 ghost use Rattle.std.specs.List.{AllByRecursion};
 ghost use Rattle.zk_table.specs.declared.txn.Txn.{Txn};
 ghost use Rattle.zk_listing.specs.Listings.{IsListed, listing_of};
 ghost use Rattle.zk_listing.specs.Promises.{ReadsLine, AddsLine, BeginsWithListing, IsFirstFault};
-ghost use Rattle.zk_listing.specs.Reading.{Takes, TakesBy, TakesUnit, past, spaced, id_at, int_at, header_at, txn_at};
+ghost use Rattle.zk_listing.specs.Reading.{Takes, TakesUnit, past, txn_at};
 
 use crate::fault::{ListCause, ListFault};
 use crate::fields::{id, long};
@@ -67,16 +66,16 @@ fn read_line(alloc: Global, input: &mut &str) -> Result<Txn, ListCause>
     txn_line(alloc, input)
 }
 
-#[tactic(auto, unfolding(crate::specs::Reading::txn_at))]
+#[tactic(auto, unfolding(crate::specs::Reading::txn_at, crate::specs::Reading::header_at))]
 fn txn_line(alloc: Global, input: &mut &str) -> Result<Txn, ListCause>
     ensures { Takes result input.new.now (txn_at input.old.now) }
 {
-    let Header {
-        zxid,
-        session,
-        cxid,
-        time,
-    } = read_header(input)?;
+    let zxid = id(input)?;
+    space(input)?;
+    let session = id(input)?;
+    let cxid = spaced_int(input)?;
+    space(input)?;
+    let time = long(input)?;
     space(input)?;
     let op = operation(alloc, input)?;
     newline(input)?;
@@ -87,45 +86,6 @@ fn txn_line(alloc: Global, input: &mut &str) -> Result<Txn, ListCause>
         time,
         op,
     })
-}
-
-/// The fields that each line begins with.
-#[derive(Clone, Copy, Debug)]
-pub(crate) struct Header {
-    zxid: i64,
-    session: i64,
-    cxid: i32,
-    time: i64,
-}
-
-#[tactic(auto, unfolding(crate::specs::Reading::header_at))]
-fn read_header(input: &mut &str) -> Result<Header, ListCause>
-    ensures { TakesBy (λ h. (h.zxid, (h.session, (h.cxid, h.time)))) result input.new.now (header_at input.old.now) }
-{
-    let zxid = id(input)?;
-    let session = spaced_id(input)?;
-    let cxid = spaced_int(input)?;
-    let time = spaced_long(input)?;
-    Ok(Header {
-        zxid,
-        session,
-        cxid,
-        time,
-    })
-}
-
-fn spaced_id(input: &mut &str) -> Result<i64, ListCause>
-    ensures { Takes result input.new.now (spaced id_at input.old.now) }
-{
-    space(input)?;
-    id(input)
-}
-
-fn spaced_long(input: &mut &str) -> Result<i64, ListCause>
-    ensures { Takes result input.new.now (spaced (int_at w64) input.old.now) }
-{
-    space(input)?;
-    long(input)
 }
 
 /// The newline that ends a line.

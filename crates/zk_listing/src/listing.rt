@@ -68,24 +68,17 @@ fn push_op(text: &mut String, op: &Op) -> Result<(), NoMemory>
     }
 }
 
-/// Appends a multi's word, and its parts.
+/// Appends a multi's word, and each part behind its separator.
 fn push_multi(text: &mut String, parts: &[Sub]) -> Result<(), NoMemory>
     ensures { OnOk result
         (string_bytes text.new ≡ string_bytes text.old ++ (codes "multi" ++ flat_map part_text parts.now)) }
 {
     text.push_str("multi")?;
     for part in parts {
-        push_part(text, part)?;
+        text.push_str(" ; ")?;
+        push_sub(text, part)?;
     }
     Ok(())
-}
-
-/// Appends a part of a multi behind its separator.
-fn push_part(text: &mut String, part: &Sub) -> Result<(), NoMemory>
-    ensures { OnOk result (string_bytes text.new ≡ string_bytes text.old ++ part_text part.now) }
-{
-    text.push_str(" ; ")?;
-    push_sub(text, part)
 }
 
 /// Appends a part of a multi.

@@ -1,10 +1,10 @@
 //! The readers of operations: a word, and a space before each field.
 ghost use Rattle.std.specs.Prelude.{◌≡◌};
-ghost use Rattle.zk_listing.specs.Reading.{Takes, TakesUnit, ContinuesParts, spaced, of_field, begins_with_space, ephemeral_from, ephemeral_at, word_from, word_at, create_at, set_data_at, set_acl_op_at, check_at, sub_by, sub_at, semicolon_from, part_at, parts_in, op_by, op_at, mapped, sub_created, sub_written, op_created, op_written};
+ghost use Rattle.zk_listing.specs.Reading.{Takes, TakesUnit, ContinuesParts, of_field, ephemeral_at, word_from, word_at, create_at, set_data_at, set_acl_op_at, check_at, sub_by, sub_at, semicolon_from, part_at, parts_in, op_by, op_at, mapped, sub_created, sub_written, op_created, op_written};
 
 use crate::fault::ListCause;
-use crate::fields::take_field;
-use crate::parts::{space, spaced_acl, spaced_content, spaced_int, spaced_path};
+use crate::fields::{content, take_field};
+use crate::parts::{acl, space, spaced_int, spaced_path};
 use std::alloc::Global;
 use zk_acl::Acls;
 use zk_path::Path;
@@ -52,32 +52,16 @@ fn word_of(field: &str) -> Option<Word>
     }
 }
 
-/// A space, and whether a node goes with its session: `e`, or `p` where it stays.
-fn spaced_ephemeral(input: &mut &str) -> Result<bool, ListCause>
-    ensures { Takes result input.new.now (spaced ephemeral_at input.old.now) }
-{
-    space(input)?;
-    ephemeral(input)
-}
-
-#[tactic(auto, unfolding(crate::specs::Reading::ephemeral_at))]
+/// Whether a node goes with its session: `e`, or `p` where it stays.
+#[tactic(auto, unfolding(crate::specs::Reading::ephemeral_at, crate::specs::Reading::ephemeral_from))]
 fn ephemeral(input: &mut &str) -> Result<bool, ListCause>
     ensures { Takes result input.new.now (ephemeral_at input.old.now) }
 {
     match take_field(input) {
         None => Err(ListCause::Fields),
-        Some(field) => ephemeral_of(field).ok_or(ListCause::Word),
-    }
-}
-
-#[tactic(auto, unfolding(crate::specs::Reading::ephemeral_from))]
-fn ephemeral_of(field: &str) -> Option<bool>
-    ensures { result ≡ ephemeral_from field.now }
-{
-    match field {
-        "e" => Some(true),
-        "p" => Some(false),
-        _ => None,
+        Some("e") => Ok(true),
+        Some("p") => Ok(false),
+        Some(_) => Err(ListCause::Word),
     }
 }
 
@@ -96,9 +80,12 @@ fn create(alloc: Global, input: &mut &str) -> Result<Created, ListCause>
     ensures { Takes result input.new.now (create_at input.old.now) }
 {
     let path = spaced_path(alloc, input)?;
-    let content = spaced_content(alloc, input)?;
-    let acl = spaced_acl(alloc, input)?;
-    let ephemeral = spaced_ephemeral(input)?;
+    space(input)?;
+    let content = content(alloc, input)?;
+    space(input)?;
+    let acl = acl(alloc, input)?;
+    space(input)?;
+    let ephemeral = ephemeral(input)?;
     let count = spaced_int(input)?;
     Ok(Created {
         path,
@@ -122,7 +109,8 @@ fn set_data(alloc: Global, input: &mut &str) -> Result<Written, ListCause>
     ensures { Takes result input.new.now (set_data_at input.old.now) }
 {
     let path = spaced_path(alloc, input)?;
-    let content = spaced_content(alloc, input)?;
+    space(input)?;
+    let content = content(alloc, input)?;
     let version = spaced_int(input)?;
     Ok(Written {
         path,
@@ -136,7 +124,8 @@ fn set_acl(alloc: Global, input: &mut &str) -> Result<Op, ListCause>
     ensures { Takes result input.new.now (set_acl_op_at input.old.now) }
 {
     let path = spaced_path(alloc, input)?;
-    let acl = spaced_acl(alloc, input)?;
+    space(input)?;
+    let acl = acl(alloc, input)?;
     let version = spaced_int(input)?;
     Ok(Op::SetAcl { path, acl, version })
 }
@@ -183,52 +172,37 @@ fn sub_fields(alloc: Global, word: Word, input: &mut &str) -> Result<Sub, ListCa
 fn sub_create(alloc: Global, input: &mut &str) -> Result<Sub, ListCause>
     ensures { Takes result input.new.now (mapped sub_created create_at input.old.now) }
 {
-    let Created {
-        path,
-        content,
-        acl,
-        ephemeral,
-        count,
-    } = create(alloc, input)?;
+    let fields = create(alloc, input)?;
     Ok(Sub::Create {
-        path,
-        content,
-        acl,
-        ephemeral,
-        count,
+        path: fields.path,
+        content: fields.content,
+        acl: fields.acl,
+        ephemeral: fields.ephemeral,
+        count: fields.count,
     })
 }
 
 fn sub_set_data(alloc: Global, input: &mut &str) -> Result<Sub, ListCause>
     ensures { Takes result input.new.now (mapped sub_written set_data_at input.old.now) }
 {
-    let Written {
-        path,
-        content,
-        version,
-    } = set_data(alloc, input)?;
+    let fields = set_data(alloc, input)?;
     Ok(Sub::SetData {
-        path,
-        content,
-        version,
+        path: fields.path,
+        content: fields.content,
+        version: fields.version,
     })
 }
 
 /// The word between the parts of a multi.
+#[tactic(auto, unfolding(crate::specs::Reading::semicolon_from))]
 fn semicolon(input: &mut &str) -> Result<(), ListCause>
     ensures { Takes result input.new.now (of_field semicolon_from input.old.now) }
 {
     match take_field(input) {
         None => Err(ListCause::Fields),
-        Some(field) => semicolon_of(field).ok_or(ListCause::Word),
+        Some(";") => Ok(()),
+        Some(_) => Err(ListCause::Word),
     }
-}
-
-#[tactic(auto, unfolding(crate::specs::Reading::semicolon_from))]
-fn semicolon_of(field: &str) -> Option<()>
-    ensures { result ≡ semicolon_from field.now }
-{
-    if field == ";" { Some(()) } else { None }
 }
 
 /// A separator and a part.
@@ -241,20 +215,11 @@ fn part(alloc: Global, input: &mut &str) -> Result<Sub, ListCause>
     sub_operation(alloc, input)
 }
 
-fn begins_with_space(text: &[u8]) -> bool
-    ensures { result ≡ begins_with_space text.now }
-{
-    match text {
-        [b' ', ..] => true,
-        _ => false,
-    }
-}
-
 /// The next part of a multi, or none where no space follows.
 fn next_part(alloc: Global, input: &mut &str) -> Result<Option<Sub>, ListCause>
     ensures { ContinuesParts result input.new.now input.old.now }
 {
-    if !begins_with_space(input.as_bytes()) {
+    if !input.starts_with(' ') {
         return Ok(None);
     }
     let part = part(alloc, input)?;
@@ -309,33 +274,23 @@ fn op_fields(alloc: Global, word: Word, input: &mut &str) -> Result<Op, ListCaus
 fn op_create(alloc: Global, input: &mut &str) -> Result<Op, ListCause>
     ensures { Takes result input.new.now (mapped op_created create_at input.old.now) }
 {
-    let Created {
-        path,
-        content,
-        acl,
-        ephemeral,
-        count,
-    } = create(alloc, input)?;
+    let fields = create(alloc, input)?;
     Ok(Op::Create {
-        path,
-        content,
-        acl,
-        ephemeral,
-        count,
+        path: fields.path,
+        content: fields.content,
+        acl: fields.acl,
+        ephemeral: fields.ephemeral,
+        count: fields.count,
     })
 }
 
 fn op_set_data(alloc: Global, input: &mut &str) -> Result<Op, ListCause>
     ensures { Takes result input.new.now (mapped op_written set_data_at input.old.now) }
 {
-    let Written {
-        path,
-        content,
-        version,
-    } = set_data(alloc, input)?;
+    let fields = set_data(alloc, input)?;
     Ok(Op::SetData {
-        path,
-        content,
-        version,
+        path: fields.path,
+        content: fields.content,
+        version: fields.version,
     })
 }

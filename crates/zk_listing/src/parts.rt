@@ -2,15 +2,14 @@
 ghost use Rattle.std.specs.Prelude.{◌≡◌};
 ghost use Rattle.std.specs.Int.{w32};
 ghost use Rattle.std.specs.String.{string_bytes};
-ghost use Rattle.zk_listing.specs.Reading.{Takes, TakesBy, Makes, TakesUnit, past, spaced, path_from, path_at, entry_at, acl_at, int_at, quoted_at, content_at, many_at};
+ghost use Rattle.zk_listing.specs.Reading.{Takes, TakesBy, Makes, TakesUnit, past, spaced, path_from, path_at, entry_at, acl_at, int_at, many_at};
 
 use crate::fault::ListCause;
-use crate::fields::{content, count, int};
+use crate::fields::{count, int};
 use crate::quoting::quoted;
 use std::alloc::Global;
 use zk_acl::{Acl, Acls, Id, Text};
 use zk_path::{Path, PathFault};
-use zk_table::Content;
 
 /// The path of a node, quoted.
 #[tactic(auto, unfolding(crate::specs::Reading::path_at))]
@@ -52,32 +51,11 @@ pub(crate) fn spaced_path(alloc: Global, input: &mut &str) -> Result<Path, ListC
     path(alloc, input)
 }
 
-pub(crate) fn spaced_content(alloc: Global, input: &mut &str) -> Result<Option<Content>, ListCause>
-    ensures { Takes result input.new.now (spaced content_at input.old.now) }
-{
-    space(input)?;
-    content(alloc, input)
-}
-
-pub(crate) fn spaced_acl(alloc: Global, input: &mut &str) -> Result<Acls, ListCause>
-    ensures { Takes result input.new.now (spaced acl_at input.old.now) }
-{
-    space(input)?;
-    acl(alloc, input)
-}
-
 pub(crate) fn spaced_int(input: &mut &str) -> Result<i32, ListCause>
     ensures { Takes result input.new.now (spaced (int_at w32) input.old.now) }
 {
     space(input)?;
     int(input)
-}
-
-fn spaced_text(alloc: Global, input: &mut &str) -> Result<Text, ListCause>
-    ensures { Takes result input.new.now (spaced quoted_at input.old.now) }
-{
-    space(input)?;
-    Ok(Text::new(quoted(alloc, input)?))
 }
 
 /// An access control list: the number of its entries, and the three fields of each.
@@ -106,8 +84,10 @@ fn entry(alloc: Global, input: &mut &str) -> Result<Acl, ListCause>
     ensures { Takes result input.new.now (entry_at input.old.now) }
 {
     let perms = spaced_int(input)?;
-    let scheme = spaced_text(alloc, input)?;
-    let id = spaced_text(alloc, input)?;
+    space(input)?;
+    let scheme = Text::new(quoted(alloc, input)?);
+    space(input)?;
+    let id = Text::new(quoted(alloc, input)?);
     Ok(Acl {
         perms,
         id: Id { scheme, id },

@@ -39,22 +39,15 @@ pub fn push_result_line(line: &mut String, answer: &TxnResult) -> Result<(), NoM
     push_part_answers(line, answer.parts.as_slice())
 }
 
-/// Appends the answers of a multi's parts.
+/// Appends the answers of a multi's parts, each behind its separator.
 fn push_part_answers(line: &mut String, parts: &[PartResult]) -> Result<(), NoMemory>
     ensures { OnOk result (string_bytes line.new ≡ string_bytes line.old ++ flat_map part_answer parts.now) }
 {
     for part in parts {
-        push_part_answer(line, part)?;
+        line.push_str(" ; ")?;
+        push_answer(line, part.err, &part.path, &part.stat)?;
     }
     Ok(())
-}
-
-/// Appends the answer of a multi's part behind its separator.
-fn push_part_answer(line: &mut String, part: &PartResult) -> Result<(), NoMemory>
-    ensures { OnOk result (string_bytes line.new ≡ string_bytes line.old ++ part_answer part.now) }
-{
-    line.push_str(" ; ")?;
-    push_answer(line, part.err, &part.path, &part.stat)
 }
 
 /// Appends a code, a path and a stat.

@@ -1,7 +1,9 @@
 ghost use Rattle.std.specs.Prelude.{◌≡◌, ◌++◌, OnOk};
+ghost use Rattle.std.specs.List.{flat_map, list_any};
 ghost use Rattle.std.specs.Option.{option_copied};
+ghost use Rattle.std.specs.Str.{chars};
 ghost use Rattle.std.specs.String.{string_bytes};
-ghost use Rattle.zk_listing.specs.Spelling.{sixteen_digits, id_digits, escaped, quoted, content_text, acl_entry_text, acl_text, stat_text, stat_times, stat_versions, stat_rest};
+ghost use Rattle.zk_listing.specs.Spelling.{sixteen_digits, id_digits, is_escaped, escaped, quoted, content_text, acl_entry_text, acl_text, stat_text, stat_times, stat_versions, stat_rest};
 
 use zk_acl::{Acl, Acls, Stat};
 use zk_path::NoMemory;
@@ -30,11 +32,30 @@ pub fn push_quoted(line: &mut String, text: &str) -> Result<(), NoMemory>
     ensures { OnOk result (string_bytes line.new ≡ string_bytes line.old ++ quoted text.now) }
 {
     line.push('"')?;
+    push_between_quotes(line, text)?;
+    line.push('"')?;
+    Ok(())
+}
+
+/// Appends a text as it stands between quotes. Most texts have nothing to escape, and go in whole.
+fn push_between_quotes(line: &mut String, text: &str) -> Result<(), NoMemory>
+    ensures { OnOk result (string_bytes line.new ≡ string_bytes line.old ++ flat_map escaped (chars text.now)) }
+{
+    if !has_escaped(text) {
+        line.push_str(text)?;
+        return Ok(());
+    }
     for c in text.chars() {
         push_escaped(line, c)?;
     }
-    line.push('"')?;
     Ok(())
+}
+
+fn has_escaped(text: &str) -> bool
+    ensures { result ≡ list_any is_escaped text.now }
+{
+    text.bytes()
+        .any(|b| b == b'"' || b == b'\\' || b.is_ascii_control())
 }
 
 /// Appends a character as it stands between quotes.

@@ -1,138 +1,372 @@
 use super::*;
 use std::alloc::Global;
+use std::process::Abort;
 use std::test::Fail;
 use zk_acl::{Acl, Acls, Id, Stat, Text};
 use zk_path::Path;
 
-// The helpers have no clauses, so that the proof of a test's safety carries no state of the table.
+// A test is a table of what is asked and of what stands there afterwards. A proof of a function's safety grows steeply
+// with its exits, so those are in few helpers, which have no clauses. What is applied, and the nodes that are compared,
+// are copies.
 
-fn path(alloc: Global, text: &str) -> Result<Path, Fail> {
+/// What a row asks of the table, alone or as a part of a multi.
+#[derive(Clone, Copy)]
+enum Ask {
+    Create,
+    CreateEphemeral,
+    Delete,
+    SetData,
+    SetAcl,
+    OpenSession,
+    CloseSession,
+    Check,
+    Error,
+}
+
+/// The session, what it asks, the path, the content, the count, version, timeout or code, and the answer.
+type Row = (i64, Ask, &'static str, Option<&'static str>, i32, i32);
+
+/// A path, and its node's content, permissions and stat.
+type Shown = (&'static str, Option<&'static str>, i32, Stat);
+
+/// What stands there after all that was asked.
+#[derive(Clone, Copy)]
+struct Left<'a> {
+    sessions: &'a [(u64, i32)],
+    nodes: &'a [Shown],
+}
+
+fn path_of(alloc: Global, text: &str) -> Result<Path, Fail> {
     Ok(Path::read(alloc, text)?)
 }
 
-fn content(alloc: Global, text: &str) -> Result<Option<Content>, Fail> {
-    Ok(Some(Content::read(alloc, text.as_bytes())?))
+fn read_content(alloc: Global, text: &str) -> Result<Content, Fail> {
+    let read = Content::read(alloc, text.as_bytes())?;
+    Ok(Content::new(read.copy()?.into_vec()))
 }
 
-fn acl_of(alloc: Global, scheme: &str, id: &str, perms: i32) -> Result<Acls, Fail> {
+fn content_of(alloc: Global, text: Option<&str>) -> Result<Option<Content>, Fail> {
+    match text {
+        Some(text) => Ok(Some(read_content(alloc, text)?)),
+        None => Ok(None),
+    }
+}
+
+/// Everyone may do this.
+fn acl_of(alloc: Global, perms: i32) -> Result<Acls, Fail> {
     let id = Id {
-        scheme: Text::read(alloc, scheme)?,
-        id: Text::read(alloc, id)?,
+        scheme: Text::read(alloc, "world")?,
+        id: Text::read(alloc, "anyone")?,
     };
     Ok(Acls::new(vec![in alloc; Acl { perms, id }]?))
 }
 
-fn create(alloc: Global, text: &str, ephemeral: bool, count: i32) -> Result<Op, Fail> {
-    Ok(Op::Create {
-        path: path(alloc, text)?,
-        content: content(alloc, "hi")?,
-        acl: acl_of(alloc, "world", "anyone", 31)?,
-        ephemeral,
-        count,
-    })
-}
-
-fn delete(alloc: Global, text: &str) -> Result<Op, Fail> {
-    Ok(Op::Delete {
-        path: path(alloc, text)?,
-    })
-}
-
-fn set_data(alloc: Global, text: &str, data: &str, version: i32) -> Result<Op, Fail> {
-    Ok(Op::SetData {
-        path: path(alloc, text)?,
-        content: content(alloc, data)?,
-        version,
-    })
-}
-
-fn set_acl(alloc: Global, text: &str, version: i32) -> Result<Op, Fail> {
-    Ok(Op::SetAcl {
-        path: path(alloc, text)?,
-        acl: acl_of(alloc, "ip", "10.0.0.1", 1)?,
-        version,
-    })
-}
-
-fn create_part(alloc: Global, text: &str) -> Result<Sub, Fail> {
+fn create(alloc: Global, row: Row, ephemeral: bool) -> Result<Sub, Fail> {
+    let acl = acl_of(alloc, 31)?;
+    let content = content_of(alloc, row.3)?;
+    let path = path_of(alloc, row.2)?;
     Ok(Sub::Create {
-        path: path(alloc, text)?,
-        content: content(alloc, "hi")?,
-        acl: acl_of(alloc, "world", "anyone", 31)?,
-        ephemeral: false,
-        count: -1,
+        path,
+        content,
+        acl,
+        ephemeral,
+        count: row.4,
     })
 }
 
-fn delete_part(alloc: Global, text: &str) -> Result<Sub, Fail> {
+fn delete(alloc: Global, row: Row) -> Result<Sub, Fail> {
     Ok(Sub::Delete {
-        path: path(alloc, text)?,
+        path: path_of(alloc, row.2)?,
     })
 }
 
-fn set_data_part(alloc: Global, text: &str) -> Result<Sub, Fail> {
+fn set_data(alloc: Global, row: Row) -> Result<Sub, Fail> {
+    let content = content_of(alloc, row.3)?;
     Ok(Sub::SetData {
-        path: path(alloc, text)?,
-        content: content(alloc, "longer")?,
-        version: 9,
+        path: path_of(alloc, row.2)?,
+        content,
+        version: row.4,
     })
 }
 
-fn check_part(alloc: Global, text: &str) -> Result<Sub, Fail> {
+fn check(alloc: Global, row: Row) -> Result<Sub, Fail> {
     Ok(Sub::Check {
-        path: path(alloc, text)?,
-        version: 7,
+        path: path_of(alloc, row.2)?,
+        version: row.4,
     })
 }
 
-fn apply(table: &mut Plain, session: i64, zxid: i64, time: i64, op: Op) -> Result<TxnResult, Fail> {
-    let txn = Txn {
+fn set_acl(alloc: Global, row: Row) -> Result<Op, Fail> {
+    let acl = acl_of(alloc, 1)?;
+    Ok(Op::SetAcl {
+        path: path_of(alloc, row.2)?,
+        acl,
+        version: row.4,
+    })
+}
+
+/// The part that a row asks for, and an error where none does.
+fn part_of(alloc: Global, row: Row) -> Result<Sub, Fail> {
+    match row.1 {
+        Ask::Create => create(alloc, row, false),
+        Ask::CreateEphemeral => create(alloc, row, true),
+        Ask::Delete => delete(alloc, row),
+        Ask::SetData => set_data(alloc, row),
+        Ask::Check => check(alloc, row),
+        _ => Ok(Sub::Error { code: row.4 }),
+    }
+}
+
+/// What a part does, done alone; a check is none of these.
+fn alone(part: Sub) -> Result<Op, Fail> {
+    match part {
+        Sub::Create {
+            path,
+            content,
+            acl,
+            ephemeral,
+            count,
+        } => Ok(Op::Create {
+            path,
+            content,
+            acl,
+            ephemeral,
+            count,
+        }),
+        Sub::Delete { path } => Ok(Op::Delete { path }),
+        Sub::SetData {
+            path,
+            content,
+            version,
+        } => Ok(Op::SetData {
+            path,
+            content,
+            version,
+        }),
+        Sub::Error { code } => Ok(Op::Error { code }),
+        Sub::Check { .. } => Err("a check stands in a multi".into()),
+    }
+}
+
+fn op_of(alloc: Global, row: Row) -> Result<Op, Fail> {
+    match row.1 {
+        Ask::SetAcl => set_acl(alloc, row),
+        Ask::OpenSession => Ok(Op::OpenSession { timeout: row.4 }),
+        Ask::CloseSession => Ok(Op::CloseSession),
+        _ => alone(part_of(alloc, row)?),
+    }
+}
+
+fn copied_part(part: &Sub) -> Result<Sub, Fail> {
+    Ok(part.copy()?)
+}
+
+/// The part that a row asks for, by its copy.
+fn copy_of_part(alloc: Global, row: Row) -> Result<Sub, Fail> {
+    copied_part(&part_of(alloc, row)?)
+}
+
+fn parts_of(alloc: Global, rows: &[Row]) -> Result<Subs, Fail> {
+    let mut parts = Vec::new(alloc);
+    for row in rows {
+        parts.push(copy_of_part(alloc, *row)?)?;
+    }
+    Ok(Subs::new(parts))
+}
+
+fn copied_parts(parts: &Subs) -> Result<Vec<Sub>, Fail> {
+    Ok(parts.copy()?.into_vec())
+}
+
+fn multi_of(alloc: Global, rows: &[Row]) -> Result<Op, Fail> {
+    let parts = Subs::new(copied_parts(&parts_of(alloc, rows)?)?);
+    Ok(Op::Multi { parts })
+}
+
+/// The transaction after the last one, at ten times its number of milliseconds.
+fn txn_of(last: i64, session: i64, op: Op) -> Txn {
+    let zxid = last.wrapping_add(1);
+    let time = zxid.wrapping_mul(10);
+    Txn {
         session,
         cxid: 0,
         zxid,
         time,
         op,
-    };
-    Ok(table.apply(&txn)?)
-}
-
-/// `/a` with the child `/a/b`, and `/e`, which session 7 owns.
-fn small_tree(alloc: Global) -> Result<Plain, Fail> {
-    let mut table = Plain::new(alloc)?;
-    apply(&mut table, 7, 1, 10, create(alloc, "/a", false, 1)?)?;
-    apply(&mut table, 7, 2, 20, create(alloc, "/a/b", false, 1)?)?;
-    apply(&mut table, 7, 3, 30, create(alloc, "/e", true, 2)?)?;
-    Ok(table)
-}
-
-fn node<'a>(table: &'a Plain, text: &str) -> Result<&'a Node, Fail> {
-    for (path, node) in table.nodes() {
-        if path.text() == text {
-            return Ok(node);
-        }
     }
-    Ok(None.ok_or("no such node")?)
 }
 
-fn stat(alloc: Global, table: &Plain, text: &str) -> Result<Stat, Fail> {
-    Ok(table.stat(&path(alloc, text)?, node(table, text)?))
+fn copied(txn: &Txn) -> Result<Txn, Fail> {
+    Ok(txn.copy()?)
 }
 
-/// The path that an answer tells, and nothing where it tells none.
-fn path_told(told: &TxnResult) -> &str {
-    match &told.path {
+fn copied_op(op: &Op) -> Result<Op, Fail> {
+    Ok(op.copy()?)
+}
+
+fn told(table: &mut Plain, txn: &Txn) -> Result<TxnResult, Fail> {
+    Ok(table.apply(txn)?)
+}
+
+fn told_of_copy(table: &mut Plain, txn: &Txn) -> Result<TxnResult, Fail> {
+    told(table, &copied(txn)?)
+}
+
+fn apply(table: &mut Plain, session: i64, op: Op) -> Result<TxnResult, Fail> {
+    let txn = txn_of(table.last(), session, op);
+    told_of_copy(table, &txn)
+}
+
+/// The path that is told, and nothing where none is.
+fn path_told(path: &Option<Path>) -> &str {
+    match path {
         Some(path) => path.text(),
         None => "",
     }
 }
 
-/// The stats of all nodes, in the order of their paths.
-fn stats(alloc: Global, table: &Plain) -> Result<Vec<Stat>, Fail> {
-    let mut stats = Vec::new(alloc);
-    for (path, node) in table.nodes() {
-        stats.push(table.stat(path, node))?;
+fn copied_result(told: &TxnResult) -> Result<TxnResult, Fail> {
+    Ok(told.copy()?)
+}
+
+/// Whether the answer tells a stat.
+fn tells_stat(row: Row) -> bool {
+    row.5 == 0 && matches!(row.1, Ask::SetData | Ask::SetAcl)
+}
+
+/// Whether a row's operation answers as the row says.
+fn is_answered(alloc: Global, table: &mut Plain, row: Row) -> Result<bool, Fail> {
+    let told = apply(table, row.0, op_of(alloc, row)?)?;
+    let told = copied_result(&told)?;
+    Ok(
+        told.err == row.5
+            && path_told(&told.path) == row.2
+            && told.stat.is_some() == tells_stat(row),
+    )
+}
+
+/// A new table of which all this was asked.
+fn table_of(rt: &impl Abort, alloc: Global, rows: &[Row]) -> Result<Plain, Fail> {
+    let mut table = Plain::new(alloc)?;
+    for row in rows {
+        assert!(rt;
+            is_answered(alloc, &mut table, *row)?,
+            "{} {}",
+            row.2,
+            row.5
+        );
     }
-    Ok(stats)
+    Ok(table)
+}
+
+/// What a multi of these parts answers; session 7 asks.
+fn multi_told(alloc: Global, table: &mut Plain, parts: &[Row]) -> Result<TxnResult, Fail> {
+    apply(table, 7, copied_op(&multi_of(alloc, parts)?)?)
+}
+
+/// The answers of the parts, by their copy.
+fn answers_of(told: &TxnResult) -> Result<Vec<PartResult>, Fail> {
+    let answers = PartResults::new(told.parts.copy()?.into_vec());
+    Ok(answers.into_vec())
+}
+
+fn copied_answer(answer: &PartResult) -> Result<PartResult, Fail> {
+    Ok(answer.copy()?)
+}
+
+/// Whether a part answers as its row says.
+fn is_part_answered(answer: &PartResult, row: Row) -> Result<bool, Fail> {
+    let answer = copied_answer(answer)?;
+    Ok(answer.err == row.5 && path_told(&answer.path) == row.2)
+}
+
+/// Compares what each part answers.
+fn compare_answers(rt: &impl Abort, told: &TxnResult, parts: &[Row]) -> Result<(), Fail> {
+    assert_eq!(rt; told.parts.as_slice().len(), parts.len());
+    for (answer, row) in told.parts.as_slice().iter().zip(parts) {
+        assert!(rt; is_part_answered(answer, *row)?, "{} {}", row.2, row.5);
+    }
+    Ok(())
+}
+
+/// Whether a node holds this, where none stands for null.
+fn holds(node: &Node, content: Option<&str>) -> bool {
+    match (&node.content, content) {
+        (Some(held), Some(text)) => held.as_slice() == text.as_bytes(),
+        (held, text) => held.is_none() && text.is_none(),
+    }
+}
+
+/// Whether everyone may do this, and nobody anything else.
+fn is_open(node: &Node, perms: i32) -> bool {
+    match node.acl.as_slice() {
+        [acl] => {
+            acl.perms == perms
+                && acl.id.scheme.as_str() == "world"
+                && acl.id.id.as_str() == "anyone"
+        }
+        _ => false,
+    }
+}
+
+fn copied_node(node: &Node) -> Result<Node, Fail> {
+    Ok(node.copy()?)
+}
+
+/// Whether a node is as shown.
+fn is_shown(table: &Plain, path: &Path, node: &Node, shown: &Shown) -> bool {
+    path.text() == shown.0
+        && holds(node, shown.1)
+        && is_open(node, shown.2)
+        && table.stat(path, node) == shown.3
+}
+
+/// The same of the node's copy.
+fn is_copy_shown(table: &Plain, path: &Path, node: &Node, shown: &Shown) -> Result<bool, Fail> {
+    let node = copied_node(node)?;
+    Ok(is_shown(table, path, &node, shown))
+}
+
+/// Compares the nodes, all of them.
+fn compare(rt: &impl Abort, table: &Plain, nodes: &[Shown]) -> Result<(), Fail> {
+    assert_eq!(rt; table.nodes().len(), nodes.len());
+    for ((path, node), shown) in table.nodes().iter().zip(nodes) {
+        assert!(rt; is_copy_shown(table, path, node, shown)?, "{}", shown.0);
+    }
+    Ok(())
+}
+
+/// Asks for these transactions, and compares what they answer and leave.
+fn leaves(rt: &impl Abort, alloc: Global, rows: &[Row], left: Left) -> Result<(), Fail> {
+    let table = table_of(rt, alloc, rows)?;
+    assert_eq!(rt; table.sessions(), left.sessions);
+    compare(rt, &table, left.nodes)
+}
+
+/// Asks for a multi, and compares what it answers.
+fn multi_answers(
+    rt: &impl Abort,
+    alloc: Global,
+    table: &mut Plain,
+    parts: &[Row],
+    err: i32,
+) -> Result<(), Fail> {
+    let told = multi_told(alloc, table, parts)?;
+    assert_eq!(rt; told.err, err);
+    compare_answers(rt, &told, parts)
+}
+
+/// Asks for a multi over the small tree, and compares what it answers and leaves.
+fn multi_leaves(
+    rt: &impl Abort,
+    alloc: Global,
+    parts: &[Row],
+    err: i32,
+    nodes: &[Shown],
+) -> Result<(), Fail> {
+    let mut table = table_of(rt, alloc, &SMALL_TREE)?;
+    multi_answers(rt, alloc, &mut table, parts, err)?;
+    compare(rt, &table, nodes)
 }
 
 /// The stat of a node that stood there before any transaction, with one child.
@@ -152,498 +386,277 @@ fn first_stat() -> Stat {
     }
 }
 
-#[test]
-fn new_table_has_the_start_state(rt: HostRuntime) -> Result<(), Fail> {
-    let table = Plain::new(rt.alloc())?;
-    assert_eq!(rt;
-        (table.last(), table.sessions().len(), table.nodes().len()),
-        (0, 0, 3)
-    );
-    let quota = Stat {
-        cversion: 0,
-        num_children: 0,
+/// A node that stood there before any transaction, with so many children.
+fn first(path: &'static str, cversion: i32, num_children: i32, pzxid: i64) -> Shown {
+    let stat = Stat {
+        cversion,
+        num_children,
+        pzxid,
         ..first_stat()
     };
-    for (text, expected) in [
-        ("/", first_stat()),
-        ("/zookeeper", first_stat()),
-        ("/zookeeper/quota", quota),
-    ] {
-        assert_eq!(rt; stat(rt.alloc(), &table, text)?, expected, "{text}");
-        let acl = node(&table, text)?.acl.as_slice();
-        assert_eq!(rt; acl.len(), 1);
-        assert_eq!(rt;
-            (
-                acl[0].perms,
-                acl[0].id.scheme.as_str(),
-                acl[0].id.id.as_str()
-            ),
-            (31, "world", "anyone")
-        );
-    }
-    Ok(())
+    (path, Some(""), 31, stat)
 }
 
-#[test]
-fn first_log_shows_its_tree(rt: HostRuntime) -> Result<(), Fail> {
-    const SESSION: i64 = 0x0100_0000_0000_0001;
-    const OPENED: i64 = 0x1_0000_0001;
-    const MADE: i64 = 0x1_0000_0002;
-    let mut table = Plain::new(rt.alloc())?;
-    let opened = apply(
-        &mut table,
-        SESSION,
-        OPENED,
-        1000,
-        Op::OpenSession { timeout: 30_000 },
-    )?;
-    assert!(rt; opened.path.is_none());
-    let made = apply(
-        &mut table,
-        SESSION,
-        MADE,
-        2000,
-        create(rt.alloc(), "/a", false, 1)?,
-    )?;
-    assert_eq!(rt;
-        (opened.zxid, opened.err, made.zxid, made.err),
-        (OPENED, 0, MADE, 0)
-    );
-    assert_eq!(rt; path_told(&made), "/a");
-    assert_eq!(rt; table.last(), MADE);
-    assert_eq!(rt;
-        table.sessions(),
-        [(0x0100_0000_0000_0001, 30_000)].as_slice()
-    );
-    Ok(())
-}
-
-#[test]
-fn create_counts_in_the_parent(rt: HostRuntime) -> Result<(), Fail> {
-    let mut table = Plain::new(rt.alloc())?;
-    apply(&mut table, 7, 5, 2000, create(rt.alloc(), "/a", false, 1)?)?;
-    let root = Stat {
-        cversion: 0,
-        num_children: 2,
-        pzxid: 5,
-        ..first_stat()
-    };
-    assert_eq!(rt; stat(rt.alloc(), &table, "/")?, root);
-    let child = Stat {
-        czxid: 5,
-        mzxid: 5,
-        ctime: 2000,
-        mtime: 2000,
+/// The stat of a node without children, with two bytes, which a transaction made at ten times its number.
+fn made_stat(zxid: i64) -> Stat {
+    let time = zxid.wrapping_mul(10);
+    Stat {
+        czxid: zxid,
+        mzxid: zxid,
+        ctime: time,
+        mtime: time,
         cversion: 0,
         data_length: 2,
         num_children: 0,
-        pzxid: 5,
+        pzxid: zxid,
         ..first_stat()
-    };
-    assert_eq!(rt; stat(rt.alloc(), &table, "/a")?, child);
-    let held = node(&table, "/a")?.content.as_ref().ok_or("no content")?;
-    assert_eq!(rt; held.as_slice(), b"hi".as_slice());
-    Ok(())
-}
-
-/// Whether an operation is refused so, and leaves all but the last zxid.
-fn is_refused(alloc: Global, err: i32, text: &str, op: Op) -> Result<bool, Fail> {
-    let mut table = small_tree(alloc)?;
-    let before = stats(alloc, &table)?;
-    let told = apply(&mut table, 7, 4, 50, op)?;
-    let is_told = told.zxid == 4 && told.err == err && path_told(&told) == text;
-    let unchanged = stats(alloc, &table)?.as_slice() == before.as_slice();
-    Ok(is_told && told.stat.is_none() && unchanged && table.last() == 4)
-}
-
-#[test]
-fn refused_creates_change_only_the_last_zxid(rt: HostRuntime) -> Result<(), Fail> {
-    for (err, text) in [(-110, "/a"), (-110, "/"), (-101, "/x/y"), (-108, "/e/c")] {
-        let op = create(rt.alloc(), text, false, 5)?;
-        assert!(rt; is_refused(rt.alloc(), err, text, op)?, "{text}");
     }
-    Ok(())
 }
 
-#[test]
-fn refused_deletes_and_sets_change_only_the_last_zxid(rt: HostRuntime) -> Result<(), Fail> {
-    for (err, text) in [(-8, "/"), (-101, "/x"), (-111, "/a")] {
-        let op = delete(rt.alloc(), text)?;
-        assert!(rt; is_refused(rt.alloc(), err, text, op)?, "{text}");
-    }
-    let op = set_data(rt.alloc(), "/x", "new", 3)?;
-    assert!(rt; is_refused(rt.alloc(), -101, "/x", op)?);
-    let op = set_acl(rt.alloc(), "/x", 6)?;
-    assert!(rt; is_refused(rt.alloc(), -101, "/x", op)?);
-    Ok(())
+/// Such a node, which holds `hi`.
+fn made(path: &'static str, zxid: i64) -> Shown {
+    (path, Some("hi"), 31, made_stat(zxid))
 }
 
-#[test]
-fn delete_leaves_the_parent(rt: HostRuntime) -> Result<(), Fail> {
-    let mut table = small_tree(rt.alloc())?;
-    let before = stat(rt.alloc(), &table, "/a")?;
-    let told = apply(&mut table, 7, 4, 40, delete(rt.alloc(), "/a/b")?)?;
-    let after = Stat {
-        cversion: 2,
-        num_children: 0,
-        pzxid: 4,
-        ..before
+/// `/a` with the child `/a/b`, and `/e`, which session 7 owns.
+const SMALL_TREE: [Row; 3] = [
+    (7, Ask::Create, "/a", Some("hi"), 1, 0),
+    (7, Ask::Create, "/a/b", Some("hi"), 1, 0),
+    (7, Ask::CreateEphemeral, "/e", Some("hi"), 2, 0),
+];
+
+/// The nodes of the small tree.
+fn small_tree() -> [Shown; 6] {
+    let a = Stat {
+        cversion: 1,
+        num_children: 1,
+        pzxid: 2,
+        ..made_stat(1)
     };
-    assert_eq!(rt; (told.err, table.nodes().len()), (0, 5));
-    assert_eq!(rt; stat(rt.alloc(), &table, "/a")?, after);
-    Ok(())
+    let e = Stat {
+        ephemeral_owner: 7,
+        ..made_stat(3)
+    };
+    [
+        first("/", 1, 3, 3),
+        ("/a", Some("hi"), 31, a),
+        made("/a/b", 2),
+        ("/e", Some("hi"), 31, e),
+        first("/zookeeper", -1, 1, 0),
+        first("/zookeeper/quota", 0, 0, 0),
+    ]
 }
 
 #[test]
-fn set_data_tells_the_stat(rt: HostRuntime) -> Result<(), Fail> {
-    let mut table = small_tree(rt.alloc())?;
-    let after = Stat {
+fn new_table_has_the_start_state(rt: HostRuntime) -> Result<(), Fail> {
+    let nodes = [
+        first("/", -1, 1, 0),
+        first("/zookeeper", -1, 1, 0),
+        first("/zookeeper/quota", 0, 0, 0),
+    ];
+    let left = Left {
+        sessions: &[],
+        nodes: &nodes,
+    };
+    leaves(&rt, rt.alloc(), &[], left)
+}
+
+#[test]
+fn refusals_change_only_the_last_zxid(rt: HostRuntime) -> Result<(), Fail> {
+    let asked = [
+        (7, Ask::Create, "/a", Some("hi"), 1, 0),
+        (7, Ask::Create, "/a/b", Some("hi"), 1, 0),
+        (7, Ask::CreateEphemeral, "/e", Some("hi"), 2, 0),
+        (7, Ask::Create, "/a", Some("hi"), 5, -110),
+        (7, Ask::Create, "/", Some("hi"), 5, -110),
+        (7, Ask::Create, "/x/y", Some("hi"), 5, -101),
+        (7, Ask::Create, "/e/c", Some("hi"), 5, -108),
+        (7, Ask::Delete, "/", None, 0, -8),
+        (7, Ask::Delete, "/x", None, 0, -101),
+        (7, Ask::Delete, "/a", None, 0, -111),
+        (7, Ask::SetData, "/x", Some("new"), 3, -101),
+        (7, Ask::SetAcl, "/x", None, 3, -101),
+        (7, Ask::Error, "", None, -103, -103),
+    ];
+    let left = Left {
+        sessions: &[],
+        nodes: &small_tree(),
+    };
+    leaves(&rt, rt.alloc(), &asked, left)
+}
+
+#[test]
+fn applied_operations_change_the_tree(rt: HostRuntime) -> Result<(), Fail> {
+    let asked = [
+        (7, Ask::Create, "/a", Some("hi"), 2_147_483_647, 0),
+        (7, Ask::Create, "/b", Some("hi"), -1, 0),
+        (7, Ask::Create, "/b/c", Some("hi"), 1, 0),
+        (7, Ask::SetData, "/a", Some("longer"), 9, 0),
+        (7, Ask::SetAcl, "/b", None, 6, 0),
+        (7, Ask::Delete, "/b/c", None, 0, 0),
+    ];
+    let a = Stat {
         mzxid: 4,
         mtime: 40,
         version: 9,
         data_length: 6,
-        ..stat(rt.alloc(), &table, "/a")?
+        ..made_stat(1)
     };
-    let told = apply(
-        &mut table,
-        7,
-        4,
-        40,
-        set_data(rt.alloc(), "/a", "longer", 9)?,
-    )?;
-    assert_eq!(rt; told.err, 0);
-    assert_eq!(rt; told.stat, Some(after));
-    assert_eq!(rt; stat(rt.alloc(), &table, "/a")?, after);
-    Ok(())
-}
-
-#[test]
-fn count_of_minus_one_counts_one_more(rt: HostRuntime) -> Result<(), Fail> {
-    let mut table = Plain::new(rt.alloc())?;
-    for (zxid, text, count, creates) in [
-        (1, "/a", -1, 1),
-        (2, "/b", 2_147_483_647, 2_147_483_647),
-        (3, "/c", -1, -2_147_483_648),
-    ] {
-        apply(
-            &mut table,
-            7,
-            zxid,
-            10,
-            create(rt.alloc(), text, false, count)?,
-        )?;
-        assert_eq!(rt; node(&table, "/")?.creates, creates, "{text}");
-    }
-    // twice the creates wraps to 0, and there are four children
-    assert_eq!(rt; stat(rt.alloc(), &table, "/")?.cversion, -4);
-    Ok(())
-}
-
-/// The length that is told of a node whose content is set so, and whether the node then has null content.
-fn told_of_content(alloc: Global, content: Option<Content>) -> Result<(i32, bool), Fail> {
-    let mut table = small_tree(alloc)?;
-    let op = Op::SetData {
-        path: path(alloc, "/a")?,
-        content,
-        version: 1,
-    };
-    let told = apply(&mut table, 7, 4, 40, op)?;
-    let length = told.stat.ok_or("no stat")?.data_length;
-    Ok((length, node(&table, "/a")?.content.is_none()))
-}
-
-#[test]
-fn null_and_empty_content(rt: HostRuntime) -> Result<(), Fail> {
-    assert_eq!(rt; told_of_content(rt.alloc(), None)?, (0, true));
-    let empty = content(rt.alloc(), "")?;
-    assert_eq!(rt; told_of_content(rt.alloc(), empty)?, (0, false));
-    Ok(())
-}
-
-#[test]
-fn session_0_owns_nothing(rt: HostRuntime) -> Result<(), Fail> {
-    let mut table = small_tree(rt.alloc())?;
-    apply(&mut table, 0, 4, 40, create(rt.alloc(), "/p", true, 3)?)?;
-    let owners = (node(&table, "/e")?.owner, node(&table, "/p")?.owner);
-    assert_eq!(rt; owners, (7, 0));
-    let told = apply(&mut table, 7, 5, 50, create(rt.alloc(), "/p/c", false, 1)?)?;
-    assert_eq!(rt; told.err, 0);
-    Ok(())
-}
-
-#[test]
-fn sessions_stand_in_the_order_of_their_digits(rt: HostRuntime) -> Result<(), Fail> {
-    let mut table = Plain::new(rt.alloc())?;
-    for (zxid, session, timeout) in [(1, -1, 100), (2, 5, 200), (3, i64::MIN, 300), (4, 5, 400)] {
-        apply(&mut table, session, zxid, 10, Op::OpenSession { timeout })?;
-    }
-    let open = [(5, 400), (0x8000_0000_0000_0000, 300), (u64::MAX, 100)];
-    assert_eq!(rt; table.sessions(), open.as_slice());
-    Ok(())
-}
-
-#[test]
-fn set_acl_changes_the_list_alone(rt: HostRuntime) -> Result<(), Fail> {
-    let mut table = small_tree(rt.alloc())?;
-    let after = Stat {
+    let b = Stat {
+        cversion: 2,
         aversion: 6,
-        ..stat(rt.alloc(), &table, "/a")?
+        pzxid: 6,
+        ..made_stat(2)
     };
-    let told = apply(&mut table, 7, 4, 40, set_acl(rt.alloc(), "/a", 6)?)?;
-    assert_eq!(rt; told.err, 0);
-    assert_eq!(rt; told.stat, Some(after));
-    assert_eq!(rt; stat(rt.alloc(), &table, "/a")?, after);
-    let acl = node(&table, "/a")?.acl.as_slice();
-    assert_eq!(rt; acl.len(), 1);
-    assert_eq!(rt; (acl[0].perms, acl[0].id.scheme.as_str()), (1, "ip"));
-    Ok(())
-}
-
-#[test]
-fn error_answers_its_code(rt: HostRuntime) -> Result<(), Fail> {
-    let mut table = small_tree(rt.alloc())?;
-    let before = stats(rt.alloc(), &table)?;
-    let told = apply(&mut table, 7, 4, 40, Op::Error { code: -103 })?;
-    assert_eq!(rt;
-        (told.err, told.path.is_none(), table.last()),
-        (-103, true, 4)
-    );
-    assert_eq!(rt; stats(rt.alloc(), &table)?.as_slice(), before.as_slice());
-    Ok(())
+    // twice the creates wraps to 0
+    let nodes = [
+        first("/", -3, 3, 2),
+        ("/a", Some("longer"), 31, a),
+        ("/b", Some("hi"), 1, b),
+        first("/zookeeper", -1, 1, 0),
+        first("/zookeeper/quota", 0, 0, 0),
+    ];
+    let left = Left {
+        sessions: &[],
+        nodes: &nodes,
+    };
+    leaves(&rt, rt.alloc(), &asked, left)
 }
 
 #[test]
 fn closed_session_takes_its_nodes(rt: HostRuntime) -> Result<(), Fail> {
-    let mut table = small_tree(rt.alloc())?;
-    apply(&mut table, 7, 4, 40, Op::OpenSession { timeout: 100 })?;
-    apply(&mut table, 8, 5, 50, Op::OpenSession { timeout: 200 })?;
-    apply(&mut table, 7, 6, 60, create(rt.alloc(), "/a/x", true, 2)?)?;
-    apply(&mut table, 8, 7, 70, create(rt.alloc(), "/a/y", true, 3)?)?;
-    let told = apply(&mut table, 7, 9, 90, Op::CloseSession)?;
-    assert_eq!(rt;
-        (told.err, told.path.is_none(), table.nodes().len()),
-        (0, true, 6)
-    );
-    assert_eq!(rt; table.sessions(), [(8, 200)].as_slice());
-    for (text, pzxid, num_children) in [("/", 9, 2), ("/a", 9, 2), ("/a/b", 2, 0), ("/a/y", 7, 0)] {
-        let stat = stat(rt.alloc(), &table, text)?;
-        assert_eq!(rt;
-            (stat.pzxid, stat.num_children),
-            (pzxid, num_children),
-            "{text}"
-        );
-    }
-    Ok(())
+    let asked = [
+        (-1, Ask::OpenSession, "", None, 100, 0),
+        (7, Ask::OpenSession, "", None, 200, 0),
+        (i64::MIN, Ask::OpenSession, "", None, 300, 0),
+        (0, Ask::OpenSession, "", None, 400, 0),
+        (7, Ask::OpenSession, "", None, 500, 0),
+        (0, Ask::CreateEphemeral, "/p", Some("hi"), 1, 0),
+        (-1, Ask::CreateEphemeral, "/p/m", Some("hi"), 1, 0),
+        (7, Ask::CreateEphemeral, "/p/s", Some("hi"), 2, 0),
+        (-1, Ask::CloseSession, "", None, 0, 0),
+        (0, Ask::CloseSession, "", None, 0, 0),
+    ];
+    let p = Stat {
+        cversion: 3,
+        num_children: 1,
+        pzxid: 9,
+        ..made_stat(6)
+    };
+    let s = Stat {
+        ephemeral_owner: 7,
+        ..made_stat(8)
+    };
+    let nodes = [
+        first("/", 0, 2, 6),
+        ("/p", Some("hi"), 31, p),
+        ("/p/s", Some("hi"), 31, s),
+        first("/zookeeper", -1, 1, 0),
+        first("/zookeeper/quota", 0, 0, 0),
+    ];
+    let left = Left {
+        sessions: &[(7, 500), (0x8000_0000_0000_0000, 300)],
+        nodes: &nodes,
+    };
+    leaves(&rt, rt.alloc(), &asked, left)
 }
 
 #[test]
-fn closed_session_0_goes_alone(rt: HostRuntime) -> Result<(), Fail> {
-    let mut table = small_tree(rt.alloc())?;
-    let before = stats(rt.alloc(), &table)?;
-    apply(&mut table, 0, 4, 40, Op::OpenSession { timeout: 100 })?;
-    assert_eq!(rt; table.sessions().len(), 1);
-    for zxid in [5, 6] {
-        assert_eq!(rt; apply(&mut table, 0, zxid, 50, Op::CloseSession)?.err, 0);
-        assert_eq!(rt; table.sessions().len(), 0);
-    }
-    assert_eq!(rt; stats(rt.alloc(), &table)?.as_slice(), before.as_slice());
-    Ok(())
-}
-
-/// What a multi of these parts answers as a whole, and in its parts.
-fn multi(table: &mut Plain, parts: Vec<Sub>) -> Result<(i32, PartResults), Fail> {
-    let parts = Subs::new(parts);
-    let told = apply(table, 7, 4, 40, Op::Multi { parts })?;
-    Ok((told.err, told.parts))
-}
-
-fn codes(alloc: Global, answers: &PartResults) -> Result<Vec<i32>, Fail> {
-    let mut codes = Vec::new(alloc);
-    for answer in answers.as_slice() {
-        codes.push(answer.err)?;
-    }
-    Ok(codes)
+fn null_and_empty_content(rt: HostRuntime) -> Result<(), Fail> {
+    let asked = [
+        (7, Ask::Create, "/n", None, 1, 0),
+        (7, Ask::Create, "/o", None, 2, 0),
+        (7, Ask::Delete, "/n", None, 0, 0),
+        (7, Ask::Create, "/n", Some(""), 3, 0),
+    ];
+    let n = Stat {
+        data_length: 0,
+        ..made_stat(4)
+    };
+    let o = Stat {
+        data_length: 0,
+        ..made_stat(2)
+    };
+    let nodes = [
+        first("/", 3, 3, 4),
+        ("/n", Some(""), 31, n),
+        ("/o", None, 31, o),
+        first("/zookeeper", -1, 1, 0),
+        first("/zookeeper/quota", 0, 0, 0),
+    ];
+    let left = Left {
+        sessions: &[],
+        nodes: &nodes,
+    };
+    leaves(&rt, rt.alloc(), &asked, left)
 }
 
 #[test]
 fn failed_multi_changes_nothing(rt: HostRuntime) -> Result<(), Fail> {
-    let mut table = small_tree(rt.alloc())?;
-    let before = stats(rt.alloc(), &table)?;
-    let parts = vec![in rt.alloc();
-        create_part(rt.alloc(), "/b")?,
-        Sub::Error { code: -103 },
-        Sub::Error { code: -2 },
-    ]?;
-    let (err, answers) = multi(&mut table, parts)?;
-    assert_eq!(rt; err, -103);
-    assert_eq!(rt;
-        codes(rt.alloc(), &answers)?.as_slice(),
-        [0, -103, -2].as_slice()
-    );
-    assert_eq!(rt; answers.as_slice().len(), 3);
-    assert_eq!(rt;
-        answers.as_slice()[0].path.as_ref().ok_or("no path")?.text(),
-        "/b"
-    );
-    assert_eq!(rt; table.last(), 4);
-    assert_eq!(rt; stats(rt.alloc(), &table)?.as_slice(), before.as_slice());
-    Ok(())
+    let parts = [
+        (7, Ask::Create, "/b", Some("hi"), -1, 0),
+        (7, Ask::Error, "", None, -103, -103),
+        (7, Ask::Error, "", None, -2, -2),
+    ];
+    multi_leaves(&rt, rt.alloc(), &parts, -103, &small_tree())
 }
 
 #[test]
 fn error_of_0_is_an_error(rt: HostRuntime) -> Result<(), Fail> {
-    let mut table = small_tree(rt.alloc())?;
-    let before = stats(rt.alloc(), &table)?;
-    let parts = vec![in rt.alloc();
-        check_part(rt.alloc(), "/a")?,
-        Sub::Error { code: 0 },
-        create_part(rt.alloc(), "/b")?,
-        check_part(rt.alloc(), "/a")?,
-    ]?;
-    let (err, answers) = multi(&mut table, parts)?;
-    assert_eq!(rt; err, -2);
-    assert_eq!(rt;
-        codes(rt.alloc(), &answers)?.as_slice(),
-        [0, 0, -2, -2].as_slice()
-    );
-    assert_eq!(rt; stats(rt.alloc(), &table)?.as_slice(), before.as_slice());
-    Ok(())
+    let parts = [
+        (7, Ask::Check, "/a", None, 7, 0),
+        (7, Ask::Error, "", None, 0, 0),
+        (7, Ask::Create, "/b", Some("hi"), -1, -2),
+    ];
+    multi_leaves(&rt, rt.alloc(), &parts, -2, &small_tree())
 }
 
 #[test]
 fn refused_part_stops_nothing(rt: HostRuntime) -> Result<(), Fail> {
-    let mut table = small_tree(rt.alloc())?;
-    let parts = vec![in rt.alloc();
-        create_part(rt.alloc(), "/b")?,
-        create_part(rt.alloc(), "/b")?,
-        delete_part(rt.alloc(), "/a/b")?,
-        check_part(rt.alloc(), "/x")?,
-    ]?;
-    let (err, answers) = multi(&mut table, parts)?;
-    assert_eq!(rt; err, -110);
-    assert_eq!(rt;
-        codes(rt.alloc(), &answers)?.as_slice(),
-        [0, -110, 0, 0].as_slice()
-    );
-    assert_eq!(rt; stat(rt.alloc(), &table, "/b")?.czxid, 4);
-    assert_eq!(rt; stat(rt.alloc(), &table, "/a")?.num_children, 0);
-    Ok(())
+    let parts = [
+        (7, Ask::Create, "/b", Some("hi"), -1, 0),
+        (7, Ask::Create, "/b", Some("hi"), -1, -110),
+        (7, Ask::Check, "/x", None, 7, 0),
+        (7, Ask::Delete, "/a/b", None, 0, 0),
+        (7, Ask::Delete, "/a", None, 0, 0),
+        (7, Ask::Delete, "/e", None, 0, 0),
+    ];
+    let nodes = [
+        first("/", 4, 2, 4),
+        made("/b", 4),
+        first("/zookeeper", -1, 1, 0),
+        first("/zookeeper/quota", 0, 0, 0),
+    ];
+    multi_leaves(&rt, rt.alloc(), &parts, -110, &nodes)
+}
+
+/// The first node's stat after a transaction that writes `longer`, before it gets another child.
+fn written_stat() -> Stat {
+    Stat {
+        mzxid: 1,
+        mtime: 10,
+        version: 9,
+        data_length: 6,
+        ..first_stat()
+    }
+}
+
+/// The stat that the first part of a multi tells.
+fn first_stat_told(alloc: Global, parts: &[Row]) -> Result<Option<Stat>, Fail> {
+    let mut table = Plain::new(alloc)?;
+    let answers = answers_of(&multi_told(alloc, &mut table, parts)?)?;
+    match answers.as_slice() {
+        [first, ..] => Ok(first.stat),
+        [] => Ok(None),
+    }
 }
 
 #[test]
 fn stat_of_a_part_is_taken_at_once(rt: HostRuntime) -> Result<(), Fail> {
-    let mut table = small_tree(rt.alloc())?;
-    let parts = vec![in rt.alloc();
-        set_data_part(rt.alloc(), "/a")?,
-        create_part(rt.alloc(), "/a/c")?,
-    ]?;
-    let (err, answers) = multi(&mut table, parts)?;
-    assert_eq!(rt; (err, answers.as_slice().len()), (0, 2));
-    let told = answers.as_slice()[0].stat.ok_or("no stat")?;
-    assert_eq!(rt;
-        (told.version, told.data_length, told.num_children),
-        (9, 6, 1)
-    );
-    assert!(rt; answers.as_slice()[1].stat.is_none());
-    assert_eq!(rt; stat(rt.alloc(), &table, "/a")?.num_children, 2);
-    Ok(())
-}
-
-/// Whether a transaction and its copy print alike.
-fn copies_alike(alloc: Global, op: Op) -> Result<bool, Fail> {
-    let txn = Txn {
-        session: 1,
-        cxid: 2,
-        zxid: 3,
-        time: 4,
-        op,
-    };
-    let copy = txn.copy()?;
-    let shown = format!(in alloc; "{txn:?}")?;
-    Ok(format!(in alloc; "{copy:?}")? == shown)
-}
-
-#[test]
-fn copies_of_transactions_are_equal(rt: HostRuntime) -> Result<(), Fail> {
-    let alloc = rt.alloc();
-    assert!(rt; copies_alike(alloc, create(alloc, "/a", true, 3)?)?);
-    assert!(rt; copies_alike(alloc, delete(alloc, "/a")?)?);
-    assert!(rt; copies_alike(alloc, set_data(alloc, "/a", "new", 3)?)?);
-    assert!(rt; copies_alike(alloc, set_acl(alloc, "/a", 3)?)?);
-    assert!(rt; copies_alike(alloc, Op::OpenSession { timeout: 5 })?);
-    assert!(rt; copies_alike(alloc, Op::CloseSession)?);
-    assert!(rt; copies_alike(alloc, Op::Error { code: 5 })?);
-    Ok(())
-}
-
-/// One part of each kind.
-fn all_parts(alloc: Global) -> Result<Subs, Fail> {
-    let mut parts = Vec::new(alloc);
-    parts.push(create_part(alloc, "/b")?)?;
-    parts.push(delete_part(alloc, "/b")?)?;
-    parts.push(set_data_part(alloc, "/b")?)?;
-    parts.push(check_part(alloc, "/b")?)?;
-    parts.push(Sub::Error { code: 5 })?;
-    Ok(Subs::new(parts))
-}
-
-#[test]
-fn copies_of_parts_are_equal(rt: HostRuntime) -> Result<(), Fail> {
-    let parts = all_parts(rt.alloc())?;
-    assert_eq!(rt; parts.copy()?.into_vec().len(), 5);
-    assert!(rt; copies_alike(rt.alloc(), Op::Multi { parts })?);
-    Ok(())
-}
-
-#[test]
-fn copies_of_results_are_equal(rt: HostRuntime) -> Result<(), Fail> {
-    let alloc = rt.alloc();
-    let answer = PartResult {
-        err: -101,
-        path: Some(path(alloc, "/a")?),
-        stat: Some(first_stat()),
-    };
-    let copy = answer.copy()?;
-    assert_eq!(rt;
-        format!(in alloc; "{copy:?}")?,
-        format!(in alloc; "{answer:?}")?
-    );
-    let told = TxnResult {
-        zxid: 1,
-        err: 2,
-        path: answer.path,
-        stat: answer.stat,
-        parts: PartResults::new(vec![in alloc; copy]?),
-    };
-    let copy = told.copy()?;
-    assert_eq!(rt;
-        format!(in alloc; "{copy:?}")?,
-        format!(in alloc; "{told:?}")?
-    );
-    let answers = told.parts.copy()?.into_vec();
-    assert_eq!(rt; answers.len(), 1);
-    assert_eq!(rt; answers[0].err, -101);
-    Ok(())
-}
-
-#[test]
-fn nodes_and_contents_are_kept(rt: HostRuntime) -> Result<(), Fail> {
-    let alloc = rt.alloc();
-    let table = small_tree(alloc)?;
-    let kept = node(&table, "/e")?;
-    let copy = kept.copy()?;
-    assert_eq!(rt;
-        format!(in alloc; "{copy:?}")?,
-        format!(in alloc; "{kept:?}")?
-    );
-    let bytes = Content::new(b"hi".to_vec(alloc)?);
-    assert_eq!(rt; bytes.copy()?.as_slice(), b"hi".as_slice());
-    assert_eq!(rt; bytes.into_vec().as_slice(), b"hi".as_slice());
-    let part = create_part(alloc, "/b")?;
-    let copy = part.copy()?;
-    assert_eq!(rt;
-        format!(in alloc; "{copy:?}")?,
-        format!(in alloc; "{part:?}")?
-    );
+    let parts = [
+        (7, Ask::SetData, "/", Some("longer"), 9, 0),
+        (7, Ask::Create, "/a", Some("hi"), 1, 0),
+    ];
+    assert_eq!(rt; first_stat_told(rt.alloc(), &parts)?, Some(written_stat()));
     Ok(())
 }
