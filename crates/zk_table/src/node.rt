@@ -1,4 +1,4 @@
-ghost use Rattle.std.specs.Prelude.{◌≡◌, pos, ◌-ℤ◌, ◌*ℤ◌, IfOk, if◌then◌else◌};
+ghost use Rattle.std.specs.Prelude.{◌≡◌, pos, ◌-ℤ◌, ◌*ℤ◌, IfOk};
 ghost use Rattle.std.specs.Int.{w32, int_wrap};
 ghost use Rattle.zk_table.specs.Nodes.{first_node, open_to_all, created, with_child, without_child, written, guarded, next_creates, content_length, stat_with};
 
@@ -66,7 +66,7 @@ impl Node {
     {
         let content = copy_of(content)?;
         let acl = acl.copy()?;
-        let owner = owner_of(txn.session, ephemeral);
+        let owner = if ephemeral { txn.session } else { 0 };
         Ok(Node {
             content,
             acl,
@@ -91,15 +91,7 @@ impl Node {
         Ok(Node {
             content,
             acl,
-            czxid: self.czxid,
-            mzxid: self.mzxid,
-            pzxid: self.pzxid,
-            ctime: self.ctime,
-            mtime: self.mtime,
-            version: self.version,
-            creates: self.creates,
-            aversion: self.aversion,
-            owner: self.owner,
+            ..*self
         })
     }
 
@@ -178,13 +170,6 @@ pub(crate) fn copy_of(content: &Option<Content>) -> Result<Option<Content>, NoMe
         Some(content) => Ok(Some(content.copy()?)),
         None => Ok(None),
     }
-}
-
-/// Who owns a node that a session creates; 0 is nobody.
-fn owner_of(session: i64, ephemeral: bool) -> i64
-    ensures { result ≡ (if ephemeral then session else pos 0) }
-{
-    if ephemeral { session } else { 0 }
 }
 
 /// The count of creates that a create brings.

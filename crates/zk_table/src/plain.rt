@@ -57,40 +57,29 @@ impl Plain {
         ensures step { IfOk result (λ answer. (self.new, answer) ≡ step self.old txn.now) }
         ensures unchanged { OnErr result (self.new ≡ self.old) }
     {
-        match &txn.op {
+        let answer = match &txn.op {
             Op::Create {
                 path,
                 content,
                 acl,
                 ephemeral,
                 count,
-            } => {
-                let answer = self
-                    .nodes
-                    .create(txn, path, content, acl, *ephemeral, *count)?;
-                Ok(self.told(txn, answer))
-            }
-            Op::Delete { path } => {
-                let answer = self.nodes.delete(txn, path)?;
-                Ok(self.told(txn, answer))
-            }
+            } => self
+                .nodes
+                .create(txn, path, content, acl, *ephemeral, *count)?,
+            Op::Delete { path } => self.nodes.delete(txn, path)?,
             Op::SetData {
                 path,
                 content,
                 version,
-            } => {
-                let answer = self.nodes.set_data(txn, path, content, *version)?;
-                Ok(self.told(txn, answer))
-            }
-            Op::SetAcl { path, acl, version } => {
-                let answer = self.nodes.set_acl(path, acl, *version)?;
-                Ok(self.told(txn, answer))
-            }
-            Op::OpenSession { timeout } => self.open_session(txn, *timeout),
-            Op::CloseSession => self.close_session(txn),
-            Op::Multi { parts } => self.multi(txn, parts.as_slice()),
-            Op::Error { code } => Ok(self.told(txn, plain_answer(*code))),
-        }
+            } => self.nodes.set_data(txn, path, content, *version)?,
+            Op::SetAcl { path, acl, version } => self.nodes.set_acl(path, acl, *version)?,
+            Op::OpenSession { timeout } => return self.open_session(txn, *timeout),
+            Op::CloseSession => return self.close_session(txn),
+            Op::Multi { parts } => return self.multi(txn, parts.as_slice()),
+            Op::Error { code } => plain_answer(*code),
+        };
+        Ok(self.told(txn, answer))
     }
 
     /// Opens the session of a transaction. After [`NoMemory`] nothing is changed.
@@ -198,8 +187,5 @@ pub(crate) fn plain_answer(err: i32) -> PartResult
 fn fixed_path(alloc: Global, text: &str) -> Result<Path, NoMemory>
     ensures { IfOk result (λ path. path ≡ text.now) }
 {
-    match Path::read(alloc, text) {
-        Ok(path) => Ok(path),
-        Err(_) => Err(NoMemory),
-    }
+    Path::read(alloc, text).map_err(|_| NoMemory)
 }

@@ -26,11 +26,9 @@ impl TxnResult {
         let path = copy_of(&self.path)?;
         let parts = self.parts.copy()?;
         Ok(TxnResult {
-            zxid: self.zxid,
-            err: self.err,
             path,
-            stat: self.stat,
             parts,
+            ..*self
         })
     }
 }
@@ -52,11 +50,7 @@ impl PartResult {
         ensures { IfOk result (λ copy. copy ≡ self.now) }
     {
         let path = copy_of(&self.path)?;
-        Ok(PartResult {
-            err: self.err,
-            path,
-            stat: self.stat,
-        })
+        Ok(PartResult { path, ..*self })
     }
 }
 

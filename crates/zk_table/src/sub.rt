@@ -53,42 +53,27 @@ impl Sub {
                 acl,
                 ephemeral,
                 count,
-            } => {
-                let path = path.copy()?;
-                let content = node::copy_of(content)?;
-                let acl = acl.copy()?;
-                Ok(Sub::Create {
-                    path,
-                    content,
-                    acl,
-                    ephemeral: *ephemeral,
-                    count: *count,
-                })
-            }
-            Sub::Delete { path } => {
-                let path = path.copy()?;
-                Ok(Sub::Delete { path })
-            }
+            } => Ok(Sub::Create {
+                path: path.copy()?,
+                content: node::copy_of(content)?,
+                acl: acl.copy()?,
+                ephemeral: *ephemeral,
+                count: *count,
+            }),
+            Sub::Delete { path } => Ok(Sub::Delete { path: path.copy()? }),
             Sub::SetData {
                 path,
                 content,
                 version,
-            } => {
-                let path = path.copy()?;
-                let content = node::copy_of(content)?;
-                Ok(Sub::SetData {
-                    path,
-                    content,
-                    version: *version,
-                })
-            }
-            Sub::Check { path, version } => {
-                let path = path.copy()?;
-                Ok(Sub::Check {
-                    path,
-                    version: *version,
-                })
-            }
+            } => Ok(Sub::SetData {
+                path: path.copy()?,
+                content: node::copy_of(content)?,
+                version: *version,
+            }),
+            Sub::Check { path, version } => Ok(Sub::Check {
+                path: path.copy()?,
+                version: *version,
+            }),
             Sub::Error { code } => Ok(Sub::Error { code: *code }),
         }
     }

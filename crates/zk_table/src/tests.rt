@@ -1,13 +1,12 @@
 use super::*;
 use std::alloc::Global;
-use std::process::Abort;
 use std::test::Fail;
 use zk_acl::{Acl, Acls, Id, Stat, Text};
-use zk_path::Path;
+use zk_path::{NoMemory, Path};
 
-// A test is a table of what is asked and of what stands there afterwards. A proof of a function's safety grows steeply
-// with its exits, so those are in few helpers, which have no clauses. What is applied, and the nodes that are compared,
-// are copies.
+// A test is a table of what is asked, with the answers, and of what stands there afterwards. A proof of a function's
+// safety grows steeply with its exits and with its locals, so those are in few helpers, which have no clauses. What is
+// applied is a copy, and so is what is compared: answers, and nodes.
 
 /// What a row asks of the table, alone or as a part of a multi.
 #[derive(Clone, Copy)]
@@ -28,13 +27,6 @@ type Row = (i64, Ask, &'static str, Option<&'static str>, i32, i32);
 
 /// A path, and its node's content, permissions and stat.
 type Shown = (&'static str, Option<&'static str>, i32, Stat);
-
-/// What stands there after all that was asked.
-#[derive(Clone, Copy)]
-struct Left<'a> {
-    sessions: &'a [(u64, i32)],
-    nodes: &'a [Shown],
-}
 
 fn path_of(alloc: Global, text: &str) -> Result<Path, Fail> {
     Ok(Path::read(alloc, text)?)
@@ -157,30 +149,19 @@ fn op_of(alloc: Global, row: Row) -> Result<Op, Fail> {
     }
 }
 
-fn copied_part(part: &Sub) -> Result<Sub, Fail> {
-    Ok(part.copy()?)
-}
-
-/// The part that a row asks for, by its copy.
-fn copy_of_part(alloc: Global, row: Row) -> Result<Sub, Fail> {
-    copied_part(&part_of(alloc, row)?)
-}
-
-fn parts_of(alloc: Global, rows: &[Row]) -> Result<Subs, Fail> {
+fn parts_of(alloc: Global, rows: &[Row]) -> Result<Vec<Sub>, Fail> {
     let mut parts = Vec::new(alloc);
     for row in rows {
-        parts.push(copy_of_part(alloc, *row)?)?;
+        parts.push(part_of(alloc, *row)?)?;
     }
-    Ok(Subs::new(parts))
-}
-
-fn copied_parts(parts: &Subs) -> Result<Vec<Sub>, Fail> {
-    Ok(parts.copy()?.into_vec())
+    Ok(parts)
 }
 
 fn multi_of(alloc: Global, rows: &[Row]) -> Result<Op, Fail> {
-    let parts = Subs::new(copied_parts(&parts_of(alloc, rows)?)?);
-    Ok(Op::Multi { parts })
+    let parts = Subs::new(parts_of(alloc, rows)?);
+    Ok(Op::Multi {
+        parts: Subs::new(parts.into_vec()),
+    })
 }
 
 /// The transaction after the last one, at ten times its number of milliseconds.
@@ -196,37 +177,34 @@ fn txn_of(last: i64, session: i64, op: Op) -> Txn {
     }
 }
 
-fn copied(txn: &Txn) -> Result<Txn, Fail> {
-    Ok(txn.copy()?)
+fn copied(txn: &Txn) -> Result<Txn, NoMemory> {
+    txn.copy()
 }
 
-fn copied_op(op: &Op) -> Result<Op, Fail> {
-    Ok(op.copy()?)
+fn told(table: &mut Plain, txn: &Txn) -> Result<TxnResult, NoMemory> {
+    table.apply(txn)
 }
 
-fn told(table: &mut Plain, txn: &Txn) -> Result<TxnResult, Fail> {
-    Ok(table.apply(txn)?)
+fn told_of_copy(table: &mut Plain, txn: &Txn) -> Result<TxnResult, NoMemory> {
+    let copy = copied(txn)?;
+    told(table, &copy)
 }
 
-fn told_of_copy(table: &mut Plain, txn: &Txn) -> Result<TxnResult, Fail> {
-    told(table, &copied(txn)?)
-}
-
-fn apply(table: &mut Plain, session: i64, op: Op) -> Result<TxnResult, Fail> {
+fn apply(table: &mut Plain, session: i64, op: Op) -> Result<TxnResult, NoMemory> {
     let txn = txn_of(table.last(), session, op);
     told_of_copy(table, &txn)
 }
 
-/// The path that is told, and nothing where none is.
-fn path_told(path: &Option<Path>) -> &str {
-    match path {
-        Some(path) => path.text(),
-        None => "",
-    }
+fn copied_result(told: &TxnResult) -> Result<TxnResult, NoMemory> {
+    told.copy()
 }
 
-fn copied_result(told: &TxnResult) -> Result<TxnResult, Fail> {
-    Ok(told.copy()?)
+/// Whether this path is told, where none is as nothing.
+fn is_path(told: &Option<Path>, path: &str) -> bool {
+    match told {
+        Some(told) => told.text() == path,
+        None => path.is_empty(),
+    }
 }
 
 /// Whether the answer tells a stat.
@@ -238,55 +216,36 @@ fn tells_stat(row: Row) -> bool {
 fn is_answered(alloc: Global, table: &mut Plain, row: Row) -> Result<bool, Fail> {
     let told = apply(table, row.0, op_of(alloc, row)?)?;
     let told = copied_result(&told)?;
-    Ok(
-        told.err == row.5
-            && path_told(&told.path) == row.2
-            && told.stat.is_some() == tells_stat(row),
-    )
+    Ok(told.err == row.5 && is_path(&told.path, row.2) && told.stat.is_some() == tells_stat(row))
 }
 
-/// A new table of which all this was asked.
-fn table_of(rt: &impl Abort, alloc: Global, rows: &[Row]) -> Result<Plain, Fail> {
-    let mut table = Plain::new(alloc)?;
+/// Whether each of these answers as its row says.
+fn are_answered(alloc: Global, table: &mut Plain, rows: &[Row]) -> Result<bool, Fail> {
+    let mut all = true;
     for row in rows {
-        assert!(rt;
-            is_answered(alloc, &mut table, *row)?,
-            "{} {}",
-            row.2,
-            row.5
-        );
+        all = is_answered(alloc, table, *row)? && all;
     }
-    Ok(table)
+    Ok(all)
 }
 
-/// What a multi of these parts answers; session 7 asks.
-fn multi_told(alloc: Global, table: &mut Plain, parts: &[Row]) -> Result<TxnResult, Fail> {
-    apply(table, 7, copied_op(&multi_of(alloc, parts)?)?)
-}
-
-/// The answers of the parts, by their copy.
-fn answers_of(told: &TxnResult) -> Result<Vec<PartResult>, Fail> {
-    let answers = PartResults::new(told.parts.copy()?.into_vec());
-    Ok(answers.into_vec())
-}
-
-fn copied_answer(answer: &PartResult) -> Result<PartResult, Fail> {
-    Ok(answer.copy()?)
-}
-
-/// Whether a part answers as its row says.
-fn is_part_answered(answer: &PartResult, row: Row) -> Result<bool, Fail> {
-    let answer = copied_answer(answer)?;
-    Ok(answer.err == row.5 && path_told(&answer.path) == row.2)
-}
-
-/// Compares what each part answers.
-fn compare_answers(rt: &impl Abort, told: &TxnResult, parts: &[Row]) -> Result<(), Fail> {
-    assert_eq!(rt; told.parts.as_slice().len(), parts.len());
-    for (answer, row) in told.parts.as_slice().iter().zip(parts) {
-        assert!(rt; is_part_answered(answer, *row)?, "{} {}", row.2, row.5);
+/// Whether the parts of a multi answered as their rows say.
+fn are_told(answers: &[PartResult], rows: &[Row]) -> bool {
+    let mut all = answers.len() == rows.len();
+    for (answer, row) in answers.iter().zip(rows) {
+        all = all
+            && answer.err == row.5
+            && is_path(&answer.path, row.2)
+            && answer.stat.is_some() == tells_stat(*row);
     }
-    Ok(())
+    all
+}
+
+/// The stat that the first part tells.
+fn first_told(answers: &[PartResult]) -> Option<Stat> {
+    match answers {
+        [first, ..] => first.stat,
+        [] => None,
+    }
 }
 
 /// Whether a node holds this, where none stands for null.
@@ -309,8 +268,8 @@ fn is_open(node: &Node, perms: i32) -> bool {
     }
 }
 
-fn copied_node(node: &Node) -> Result<Node, Fail> {
-    Ok(node.copy()?)
+fn copied_node(node: &Node) -> Result<Node, NoMemory> {
+    node.copy()
 }
 
 /// Whether a node is as shown.
@@ -321,52 +280,57 @@ fn is_shown(table: &Plain, path: &Path, node: &Node, shown: &Shown) -> bool {
         && table.stat(path, node) == shown.3
 }
 
-/// The same of the node's copy.
-fn is_copy_shown(table: &Plain, path: &Path, node: &Node, shown: &Shown) -> Result<bool, Fail> {
-    let node = copied_node(node)?;
-    Ok(is_shown(table, path, &node, shown))
-}
-
-/// Compares the nodes, all of them.
-fn compare(rt: &impl Abort, table: &Plain, nodes: &[Shown]) -> Result<(), Fail> {
-    assert_eq!(rt; table.nodes().len(), nodes.len());
+/// Whether these nodes stand there, and no others.
+fn are_shown(table: &Plain, nodes: &[Shown]) -> Result<bool, NoMemory> {
+    let mut all = table.nodes().len() == nodes.len();
     for ((path, node), shown) in table.nodes().iter().zip(nodes) {
-        assert!(rt; is_copy_shown(table, path, node, shown)?, "{}", shown.0);
+        let node = copied_node(node)?;
+        all = all && is_shown(table, path, &node, shown);
     }
-    Ok(())
+    Ok(all)
 }
 
-/// Asks for these transactions, and compares what they answer and leave.
-fn leaves(rt: &impl Abort, alloc: Global, rows: &[Row], left: Left) -> Result<(), Fail> {
-    let table = table_of(rt, alloc, rows)?;
-    assert_eq!(rt; table.sessions(), left.sessions);
-    compare(rt, &table, left.nodes)
+/// Whether a new table answers as the rows say, and then has these sessions and nodes.
+fn leaves(
+    alloc: Global,
+    rows: &[Row],
+    sessions: &[(u64, i32)],
+    nodes: &[Shown],
+) -> Result<bool, Fail> {
+    let mut table = Plain::new(alloc)?;
+    let answered = are_answered(alloc, &mut table, rows)?;
+    Ok(answered && table.sessions() == sessions && are_shown(&table, nodes)?)
 }
 
-/// Asks for a multi, and compares what it answers.
-fn multi_answers(
-    rt: &impl Abort,
+/// Whether a multi over the small tree answers as a whole and in its parts as is said, and tells this stat first.
+fn is_multi_answered(
     alloc: Global,
     table: &mut Plain,
     parts: &[Row],
     err: i32,
-) -> Result<(), Fail> {
-    let told = multi_told(alloc, table, parts)?;
-    assert_eq!(rt; told.err, err);
-    compare_answers(rt, &told, parts)
+    stat: Option<Stat>,
+) -> Result<bool, Fail> {
+    let told = apply(table, 7, multi_of(alloc, parts)?)?;
+    let answers = PartResults::new(told.parts.into_vec());
+    Ok(
+        told.err == err
+            && are_told(answers.as_slice(), parts)
+            && first_told(answers.as_slice()) == stat,
+    )
 }
 
-/// Asks for a multi over the small tree, and compares what it answers and leaves.
+/// The same, and whether it then leaves these nodes.
 fn multi_leaves(
-    rt: &impl Abort,
     alloc: Global,
     parts: &[Row],
     err: i32,
+    stat: Option<Stat>,
     nodes: &[Shown],
-) -> Result<(), Fail> {
-    let mut table = table_of(rt, alloc, &SMALL_TREE)?;
-    multi_answers(rt, alloc, &mut table, parts, err)?;
-    compare(rt, &table, nodes)
+) -> Result<bool, Fail> {
+    let mut table = Plain::new(alloc)?;
+    let grown = are_answered(alloc, &mut table, &SMALL_TREE)?;
+    let answered = is_multi_answered(alloc, &mut table, parts, err, stat)?;
+    Ok(grown && answered && are_shown(&table, nodes)?)
 }
 
 /// The stat of a node that stood there before any transaction, with one child.
@@ -419,14 +383,14 @@ fn made(path: &'static str, zxid: i64) -> Shown {
 }
 
 /// `/a` with the child `/a/b`, and `/e`, which session 7 owns.
-const SMALL_TREE: [Row; 3] = [
+static SMALL_TREE: [Row; 3] = [
     (7, Ask::Create, "/a", Some("hi"), 1, 0),
     (7, Ask::Create, "/a/b", Some("hi"), 1, 0),
     (7, Ask::CreateEphemeral, "/e", Some("hi"), 2, 0),
 ];
 
 /// The nodes of the small tree.
-fn small_tree() -> [Shown; 6] {
+fn small_nodes() -> [Shown; 6] {
     let a = Stat {
         cversion: 1,
         num_children: 1,
@@ -454,47 +418,44 @@ fn new_table_has_the_start_state(rt: HostRuntime) -> Result<(), Fail> {
         first("/zookeeper", -1, 1, 0),
         first("/zookeeper/quota", 0, 0, 0),
     ];
-    let left = Left {
-        sessions: &[],
-        nodes: &nodes,
-    };
-    leaves(&rt, rt.alloc(), &[], left)
+    assert!(rt; leaves(rt.alloc(), &[], &[], &nodes)?);
+    Ok(())
 }
+
+/// The small tree, and what it refuses.
+static REFUSED: [Row; 13] = [
+    (7, Ask::Create, "/a", Some("hi"), 1, 0),
+    (7, Ask::Create, "/a/b", Some("hi"), 1, 0),
+    (7, Ask::CreateEphemeral, "/e", Some("hi"), 2, 0),
+    (7, Ask::Create, "/a", Some("hi"), 5, -110),
+    (7, Ask::Create, "/", Some("hi"), 5, -110),
+    (7, Ask::Create, "/x/y", Some("hi"), 5, -101),
+    (7, Ask::Create, "/e/c", Some("hi"), 5, -108),
+    (7, Ask::Delete, "/", None, 0, -8),
+    (7, Ask::Delete, "/x", None, 0, -101),
+    (7, Ask::Delete, "/a", None, 0, -111),
+    (7, Ask::SetData, "/x", Some("new"), 3, -101),
+    (7, Ask::SetAcl, "/x", None, 3, -101),
+    (7, Ask::Error, "", None, -103, -103),
+];
 
 #[test]
 fn refusals_change_only_the_last_zxid(rt: HostRuntime) -> Result<(), Fail> {
-    let asked = [
-        (7, Ask::Create, "/a", Some("hi"), 1, 0),
-        (7, Ask::Create, "/a/b", Some("hi"), 1, 0),
-        (7, Ask::CreateEphemeral, "/e", Some("hi"), 2, 0),
-        (7, Ask::Create, "/a", Some("hi"), 5, -110),
-        (7, Ask::Create, "/", Some("hi"), 5, -110),
-        (7, Ask::Create, "/x/y", Some("hi"), 5, -101),
-        (7, Ask::Create, "/e/c", Some("hi"), 5, -108),
-        (7, Ask::Delete, "/", None, 0, -8),
-        (7, Ask::Delete, "/x", None, 0, -101),
-        (7, Ask::Delete, "/a", None, 0, -111),
-        (7, Ask::SetData, "/x", Some("new"), 3, -101),
-        (7, Ask::SetAcl, "/x", None, 3, -101),
-        (7, Ask::Error, "", None, -103, -103),
-    ];
-    let left = Left {
-        sessions: &[],
-        nodes: &small_tree(),
-    };
-    leaves(&rt, rt.alloc(), &asked, left)
+    assert!(rt; leaves(rt.alloc(), &REFUSED, &[], &small_nodes())?);
+    Ok(())
 }
+
+static APPLIED: [Row; 6] = [
+    (7, Ask::Create, "/a", Some("hi"), 2_147_483_647, 0),
+    (7, Ask::Create, "/b", Some("hi"), -1, 0),
+    (7, Ask::Create, "/b/c", Some("hi"), 1, 0),
+    (7, Ask::SetData, "/a", Some("longer"), 9, 0),
+    (7, Ask::SetAcl, "/b", None, 6, 0),
+    (7, Ask::Delete, "/b/c", None, 0, 0),
+];
 
 #[test]
 fn applied_operations_change_the_tree(rt: HostRuntime) -> Result<(), Fail> {
-    let asked = [
-        (7, Ask::Create, "/a", Some("hi"), 2_147_483_647, 0),
-        (7, Ask::Create, "/b", Some("hi"), -1, 0),
-        (7, Ask::Create, "/b/c", Some("hi"), 1, 0),
-        (7, Ask::SetData, "/a", Some("longer"), 9, 0),
-        (7, Ask::SetAcl, "/b", None, 6, 0),
-        (7, Ask::Delete, "/b/c", None, 0, 0),
-    ];
     let a = Stat {
         mzxid: 4,
         mtime: 40,
@@ -516,27 +477,26 @@ fn applied_operations_change_the_tree(rt: HostRuntime) -> Result<(), Fail> {
         first("/zookeeper", -1, 1, 0),
         first("/zookeeper/quota", 0, 0, 0),
     ];
-    let left = Left {
-        sessions: &[],
-        nodes: &nodes,
-    };
-    leaves(&rt, rt.alloc(), &asked, left)
+    assert!(rt; leaves(rt.alloc(), &APPLIED, &[], &nodes)?);
+    Ok(())
 }
+
+/// Of these sessions the first and the fourth are closed again. What session 0 creates is persistent.
+static CLOSED: [Row; 10] = [
+    (-1, Ask::OpenSession, "", None, 100, 0),
+    (7, Ask::OpenSession, "", None, 200, 0),
+    (i64::MIN, Ask::OpenSession, "", None, 300, 0),
+    (0, Ask::OpenSession, "", None, 400, 0),
+    (7, Ask::OpenSession, "", None, 500, 0),
+    (0, Ask::CreateEphemeral, "/p", Some("hi"), 1, 0),
+    (-1, Ask::CreateEphemeral, "/p/m", Some("hi"), 1, 0),
+    (7, Ask::CreateEphemeral, "/p/s", Some("hi"), 2, 0),
+    (-1, Ask::CloseSession, "", None, 0, 0),
+    (0, Ask::CloseSession, "", None, 0, 0),
+];
 
 #[test]
 fn closed_session_takes_its_nodes(rt: HostRuntime) -> Result<(), Fail> {
-    let asked = [
-        (-1, Ask::OpenSession, "", None, 100, 0),
-        (7, Ask::OpenSession, "", None, 200, 0),
-        (i64::MIN, Ask::OpenSession, "", None, 300, 0),
-        (0, Ask::OpenSession, "", None, 400, 0),
-        (7, Ask::OpenSession, "", None, 500, 0),
-        (0, Ask::CreateEphemeral, "/p", Some("hi"), 1, 0),
-        (-1, Ask::CreateEphemeral, "/p/m", Some("hi"), 1, 0),
-        (7, Ask::CreateEphemeral, "/p/s", Some("hi"), 2, 0),
-        (-1, Ask::CloseSession, "", None, 0, 0),
-        (0, Ask::CloseSession, "", None, 0, 0),
-    ];
     let p = Stat {
         cversion: 3,
         num_children: 1,
@@ -554,109 +514,105 @@ fn closed_session_takes_its_nodes(rt: HostRuntime) -> Result<(), Fail> {
         first("/zookeeper", -1, 1, 0),
         first("/zookeeper/quota", 0, 0, 0),
     ];
-    let left = Left {
-        sessions: &[(7, 500), (0x8000_0000_0000_0000, 300)],
-        nodes: &nodes,
-    };
-    leaves(&rt, rt.alloc(), &asked, left)
+    // in the order of the sixteen digits
+    let sessions = [(7, 500), (0x8000_0000_0000_0000, 300)];
+    assert!(rt; leaves(rt.alloc(), &CLOSED, &sessions, &nodes)?);
+    Ok(())
+}
+
+static NULL_AND_EMPTY: [Row; 4] = [
+    (7, Ask::Create, "/n", None, 1, 0),
+    (7, Ask::Create, "/o", None, 2, 0),
+    (7, Ask::Delete, "/n", None, 0, 0),
+    (7, Ask::Create, "/n", Some(""), 3, 0),
+];
+
+/// The stat of a node whose content has no bytes.
+fn bare_stat(zxid: i64) -> Stat {
+    Stat {
+        data_length: 0,
+        ..made_stat(zxid)
+    }
 }
 
 #[test]
 fn null_and_empty_content(rt: HostRuntime) -> Result<(), Fail> {
-    let asked = [
-        (7, Ask::Create, "/n", None, 1, 0),
-        (7, Ask::Create, "/o", None, 2, 0),
-        (7, Ask::Delete, "/n", None, 0, 0),
-        (7, Ask::Create, "/n", Some(""), 3, 0),
-    ];
-    let n = Stat {
-        data_length: 0,
-        ..made_stat(4)
-    };
-    let o = Stat {
-        data_length: 0,
-        ..made_stat(2)
-    };
     let nodes = [
         first("/", 3, 3, 4),
-        ("/n", Some(""), 31, n),
-        ("/o", None, 31, o),
+        ("/n", Some(""), 31, bare_stat(4)),
+        ("/o", None, 31, bare_stat(2)),
         first("/zookeeper", -1, 1, 0),
         first("/zookeeper/quota", 0, 0, 0),
     ];
-    let left = Left {
-        sessions: &[],
-        nodes: &nodes,
-    };
-    leaves(&rt, rt.alloc(), &asked, left)
+    assert!(rt; leaves(rt.alloc(), &NULL_AND_EMPTY, &[], &nodes)?);
+    Ok(())
 }
+
+static FAILED_PARTS: [Row; 3] = [
+    (7, Ask::Create, "/b", Some("hi"), -1, 0),
+    (7, Ask::Error, "", None, -103, -103),
+    (7, Ask::Error, "", None, -2, -2),
+];
 
 #[test]
 fn failed_multi_changes_nothing(rt: HostRuntime) -> Result<(), Fail> {
-    let parts = [
-        (7, Ask::Create, "/b", Some("hi"), -1, 0),
-        (7, Ask::Error, "", None, -103, -103),
-        (7, Ask::Error, "", None, -2, -2),
-    ];
-    multi_leaves(&rt, rt.alloc(), &parts, -103, &small_tree())
+    assert!(rt; multi_leaves(rt.alloc(), &FAILED_PARTS, -103, None, &small_nodes())?);
+    Ok(())
 }
+
+/// An error with code 0 is an error too.
+static PARTS_WITH_0: [Row; 3] = [
+    (7, Ask::Check, "/a", None, 7, 0),
+    (7, Ask::Error, "", None, 0, 0),
+    (7, Ask::Create, "/b", Some("hi"), -1, -2),
+];
 
 #[test]
 fn error_of_0_is_an_error(rt: HostRuntime) -> Result<(), Fail> {
-    let parts = [
-        (7, Ask::Check, "/a", None, 7, 0),
-        (7, Ask::Error, "", None, 0, 0),
-        (7, Ask::Create, "/b", Some("hi"), -1, -2),
-    ];
-    multi_leaves(&rt, rt.alloc(), &parts, -2, &small_tree())
+    assert!(rt; multi_leaves(rt.alloc(), &PARTS_WITH_0, -2, None, &small_nodes())?);
+    Ok(())
+}
+
+static PARTS: [Row; 5] = [
+    (7, Ask::SetData, "/a", Some("longer"), 9, 0),
+    (7, Ask::Create, "/b", Some("hi"), -1, 0),
+    (7, Ask::Create, "/b", Some("hi"), -1, -110),
+    (7, Ask::Check, "/x", None, 7, 0),
+    (7, Ask::Delete, "/a/b", None, 0, 0),
+];
+
+/// The stat of `/a` in the small tree, once its content is set by the next transaction.
+fn written_stat() -> Stat {
+    Stat {
+        mzxid: 4,
+        mtime: 40,
+        version: 9,
+        cversion: 1,
+        data_length: 6,
+        num_children: 1,
+        pzxid: 2,
+        ..made_stat(1)
+    }
 }
 
 #[test]
 fn refused_part_stops_nothing(rt: HostRuntime) -> Result<(), Fail> {
-    let parts = [
-        (7, Ask::Create, "/b", Some("hi"), -1, 0),
-        (7, Ask::Create, "/b", Some("hi"), -1, -110),
-        (7, Ask::Check, "/x", None, 7, 0),
-        (7, Ask::Delete, "/a/b", None, 0, 0),
-        (7, Ask::Delete, "/a", None, 0, 0),
-        (7, Ask::Delete, "/e", None, 0, 0),
-    ];
+    let a = Stat {
+        cversion: 2,
+        num_children: 0,
+        pzxid: 4,
+        ..written_stat()
+    };
     let nodes = [
-        first("/", 4, 2, 4),
+        first("/", 2, 4, 4),
+        ("/a", Some("longer"), 31, a),
         made("/b", 4),
+        small_nodes()[3],
         first("/zookeeper", -1, 1, 0),
         first("/zookeeper/quota", 0, 0, 0),
     ];
-    multi_leaves(&rt, rt.alloc(), &parts, -110, &nodes)
-}
-
-/// The first node's stat after a transaction that writes `longer`, before it gets another child.
-fn written_stat() -> Stat {
-    Stat {
-        mzxid: 1,
-        mtime: 10,
-        version: 9,
-        data_length: 6,
-        ..first_stat()
-    }
-}
-
-/// The stat that the first part of a multi tells.
-fn first_stat_told(alloc: Global, parts: &[Row]) -> Result<Option<Stat>, Fail> {
-    let mut table = Plain::new(alloc)?;
-    let answers = answers_of(&multi_told(alloc, &mut table, parts)?)?;
-    match answers.as_slice() {
-        [first, ..] => Ok(first.stat),
-        [] => Ok(None),
-    }
-}
-
-#[test]
-fn stat_of_a_part_is_taken_at_once(rt: HostRuntime) -> Result<(), Fail> {
-    let parts = [
-        (7, Ask::SetData, "/", Some("longer"), 9, 0),
-        (7, Ask::Create, "/a", Some("hi"), 1, 0),
-    ];
-    assert_eq!(rt; first_stat_told(rt.alloc(), &parts)?, Some(written_stat()));
+    // the stat is told as it is right after the first part
+    let stat = Some(written_stat());
+    assert!(rt; multi_leaves(rt.alloc(), &PARTS, -110, stat, &nodes)?);
     Ok(())
 }

@@ -27,13 +27,7 @@ impl Txn {
         ensures { IfOk result (λ copy. copy ≡ self.now) }
     {
         let op = self.op.copy()?;
-        Ok(Txn {
-            session: self.session,
-            cxid: self.cxid,
-            zxid: self.zxid,
-            time: self.time,
-            op,
-        })
+        Ok(Txn { op, ..*self })
     }
 }
 
@@ -94,50 +88,33 @@ impl Op {
                 acl,
                 ephemeral,
                 count,
-            } => {
-                let path = path.copy()?;
-                let content = node::copy_of(content)?;
-                let acl = acl.copy()?;
-                Ok(Op::Create {
-                    path,
-                    content,
-                    acl,
-                    ephemeral: *ephemeral,
-                    count: *count,
-                })
-            }
-            Op::Delete { path } => {
-                let path = path.copy()?;
-                Ok(Op::Delete { path })
-            }
+            } => Ok(Op::Create {
+                path: path.copy()?,
+                content: node::copy_of(content)?,
+                acl: acl.copy()?,
+                ephemeral: *ephemeral,
+                count: *count,
+            }),
+            Op::Delete { path } => Ok(Op::Delete { path: path.copy()? }),
             Op::SetData {
                 path,
                 content,
                 version,
-            } => {
-                let path = path.copy()?;
-                let content = node::copy_of(content)?;
-                Ok(Op::SetData {
-                    path,
-                    content,
-                    version: *version,
-                })
-            }
-            Op::SetAcl { path, acl, version } => {
-                let path = path.copy()?;
-                let acl = acl.copy()?;
-                Ok(Op::SetAcl {
-                    path,
-                    acl,
-                    version: *version,
-                })
-            }
+            } => Ok(Op::SetData {
+                path: path.copy()?,
+                content: node::copy_of(content)?,
+                version: *version,
+            }),
+            Op::SetAcl { path, acl, version } => Ok(Op::SetAcl {
+                path: path.copy()?,
+                acl: acl.copy()?,
+                version: *version,
+            }),
             Op::OpenSession { timeout } => Ok(Op::OpenSession { timeout: *timeout }),
             Op::CloseSession => Ok(Op::CloseSession),
-            Op::Multi { parts } => {
-                let parts = parts.copy()?;
-                Ok(Op::Multi { parts })
-            }
+            Op::Multi { parts } => Ok(Op::Multi {
+                parts: parts.copy()?,
+            }),
             Op::Error { code } => Ok(Op::Error { code: *code }),
         }
     }
