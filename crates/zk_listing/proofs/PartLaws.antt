@@ -186,6 +186,7 @@ sub_at_takes bytes y rest h =
 
 -- ---- parts
 
+-- the first byte tells whether a space begins a text; an empty text gives 0 for it
 pub begins_first : (text : List ℕ) → begins_with_space text ≡ eqb (get_or text 0 0) 32
 begins_first [] = refl
 begins_first (b ∷ bs) = refl

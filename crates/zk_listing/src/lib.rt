@@ -1,6 +1,7 @@
 //! Transaction logs as text, one line for each transaction, and the spelling of reports.
 //!
-//! Fields stand side by side with one space between. Each value has one spelling, and nothing else is read as that value.
+//! Fields stand side by side with one space between. Each value has one spelling, and nothing else is read as that
+//! value.
 #![tactic(auto)]
 
 mod assembling;

@@ -27,7 +27,8 @@ const ALL_WORDS: &str =
     0000000000000002 0000000000000000 0 0 error -110\n\
     0000000000000003 0000000000000000 0 0 setACL \"/\" 0 0\n\
     0000000000000004 0000000000000000 0 0 multi\n\
-    0000000000000005 0000000000000000 0 0 multi ; check \"/a\" 3 ; setData \"/a\" - 1 ; error -2 ; create \"/e\" - 0 e -1\n";
+    0000000000000005 0000000000000000 0 0 multi ; check \"/a\" 3 ; setData \"/a\" - 1 \
+    ; error -2 ; create \"/e\" - 0 e -1\n";
 
 /// What each line below begins with.
 const HEAD: &str = "0000000100000001 0100000000000001 0 1000 ";
