@@ -1,6 +1,6 @@
 -- What each transaction does to a state, and what it answers: `zookeeper.jute`, module `org.apache.zookeeper.txn`, as
 -- the 3.4 server applies its log. Each refusal changes nothing but the last zxid.
-use Rattle.std.specs.Prelude.{ℕ, ℤ, pos, List, []}
+use Rattle.std.specs.Prelude.{ℤ, pos, []}
 use Rattle.std.specs.Int.{w64, cast_unsigned}
 use Rattle.std.specs.FinMap.{insert, remove}
 use Rattle.zk_table.specs.declared.result.TxnResult.{TxnResult}

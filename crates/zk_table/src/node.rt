@@ -86,11 +86,9 @@ impl Node {
     pub fn copy(&self) -> Result<Node, NoMemory>
         ensures { IfOk result (λ copy. copy ≡ self.now) }
     {
-        let content = copy_of(&self.content)?;
-        let acl = self.acl.copy()?;
         Ok(Node {
-            content,
-            acl,
+            content: copy_of(&self.content)?,
+            acl: self.acl.copy()?,
             ..*self
         })
     }
@@ -187,10 +185,9 @@ fn next_creates(before: i32, count: i32) -> i32
 fn content_length(content: &Option<Content>) -> usize
     ensures { result ≡ content_length content.now }
 {
-    match content {
-        Some(content) => content.as_slice().len(),
-        None => 0,
-    }
+    content
+        .as_ref()
+        .map_or(0, |content| content.as_slice().len())
 }
 
 /// A number as the 32 bits of a stat keep it.

@@ -56,10 +56,7 @@ fn place_of(entries: &[(Path, Node)], path: &str) -> Result<usize, usize>
 fn is_child_of(path: &Path, parent: &str) -> bool
     ensures { result ≡ is_child_of parent.now path.now }
 {
-    match path.parent() {
-        Some(above) => above == parent,
-        None => false,
-    }
+    path.parent().is_some_and(|above| above == parent)
 }
 
 impl Nodes {

@@ -178,8 +178,7 @@ impl Nodes {
     fn stat_at(&self, path: &str) -> Option<Stat>
         ensures { result ≡ stat_at self.now path.now }
     {
-        let node = self.get(path)?;
-        Some(self.stat_of(path, node))
+        self.get(path).map(|node| self.stat_of(path, node))
     }
 
     /// The stat that a node has at a path.

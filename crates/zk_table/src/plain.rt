@@ -1,4 +1,5 @@
-ghost use Rattle.std.specs.Prelude.{◌≡◌, [], IfOk, OnErr};
+ghost use Rattle.std.specs.Prelude.{◌≡◌, ℤ, [], IfOk, IsOk, OnErr};
+ghost use Rattle.zk_table.specs.declared.txn.Op.TheVariants as ops;
 ghost use Rattle.std.specs.FinMap as finite;
 ghost use Rattle.zk_table.specs.States.{start_state, stat_of};
 ghost use Rattle.zk_table.specs.Multis.{multi};
@@ -56,6 +57,8 @@ impl Plain {
     pub fn apply(&mut self, txn: &Txn) -> Result<TxnResult, NoMemory>
         ensures step { IfOk result (λ answer. (self.new, answer) ≡ step self.old txn.now) }
         ensures unchanged { OnErr result (self.new ≡ self.old) }
+        // An error takes no memory.
+        ensures error { (code : ℤ) → txn.now.op ≡ ops.Error code → IsOk result }
     {
         let answer = match &txn.op {
             Op::Create {

@@ -23,11 +23,9 @@ impl TxnResult {
     pub fn copy(&self) -> Result<TxnResult, NoMemory>
         ensures { IfOk result (λ copy. copy ≡ self.now) }
     {
-        let path = copy_of(&self.path)?;
-        let parts = self.parts.copy()?;
         Ok(TxnResult {
-            path,
-            parts,
+            path: copy_of(&self.path)?,
+            parts: self.parts.copy()?,
             ..*self
         })
     }

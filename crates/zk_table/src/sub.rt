@@ -1,4 +1,4 @@
-ghost use Rattle.std.specs.Prelude.{◌≡◌, IfOk};
+ghost use Rattle.std.specs.Prelude.{◌≡◌, IfOk, IsOk, IsTrue};
 ghost use Rattle.zk_table.specs.Multis.{is_error, code_of, path_of};
 
 use crate::content::Content;
@@ -44,7 +44,9 @@ pub enum Sub {
 impl Sub {
     /// The same part once more.
     pub fn copy(&self) -> Result<Sub, NoMemory>
-        ensures { IfOk result (λ copy. copy ≡ self.now) }
+        ensures same { IfOk result (λ copy. copy ≡ self.now) }
+        // An error takes no memory.
+        ensures error { IsTrue (is_error self.now) → IsOk result }
     {
         match self {
             Sub::Create {

@@ -157,11 +157,39 @@ fn parts_of(alloc: Global, rows: &[Row]) -> Result<Vec<Sub>, Fail> {
     Ok(parts)
 }
 
+fn copied_part(part: &Sub) -> Result<Sub, NoMemory> {
+    part.copy()
+}
+
+fn copied_op(op: &Op) -> Result<Op, NoMemory> {
+    op.copy()
+}
+
+fn copied_parts(parts: &Subs) -> Result<Vec<Sub>, NoMemory> {
+    Ok(parts.copy()?.into_vec())
+}
+
+/// These parts, each by its own copy.
+fn each_copied(alloc: Global, parts: &Subs) -> Result<Subs, NoMemory> {
+    let mut copies = Vec::new(alloc);
+    for part in parts.as_slice() {
+        copies.push(copied_part(part)?)?;
+    }
+    Ok(Subs::new(copies))
+}
+
+/// A multi of these parts, after copies of all.
+fn copied_multi(alloc: Global, parts: &Subs) -> Result<Op, NoMemory> {
+    let parts = Subs::new(copied_parts(parts)?);
+    let multi = Op::Multi {
+        parts: each_copied(alloc, &parts)?,
+    };
+    copied_op(&multi)
+}
+
 fn multi_of(alloc: Global, rows: &[Row]) -> Result<Op, Fail> {
     let parts = Subs::new(parts_of(alloc, rows)?);
-    Ok(Op::Multi {
-        parts: Subs::new(parts.into_vec()),
-    })
+    Ok(copied_multi(alloc, &parts)?)
 }
 
 /// The transaction after the last one, at ten times its number of milliseconds.
@@ -216,7 +244,13 @@ fn tells_stat(row: Row) -> bool {
 fn is_answered(alloc: Global, table: &mut Plain, row: Row) -> Result<bool, Fail> {
     let told = apply(table, row.0, op_of(alloc, row)?)?;
     let told = copied_result(&told)?;
-    Ok(told.err == row.5 && is_path(&told.path, row.2) && told.stat.is_some() == tells_stat(row))
+    let is_last = told.zxid == table.last();
+    Ok(
+        is_last
+            && told.err == row.5
+            && is_path(&told.path, row.2)
+            && told.stat.is_some() == tells_stat(row),
+    )
 }
 
 /// Whether each of these answers as its row says.
@@ -228,16 +262,27 @@ fn are_answered(alloc: Global, table: &mut Plain, rows: &[Row]) -> Result<bool, 
     Ok(all)
 }
 
-/// Whether the parts of a multi answered as their rows say.
-fn are_told(answers: &[PartResult], rows: &[Row]) -> bool {
+fn copied_answer(answer: &PartResult) -> Result<PartResult, NoMemory> {
+    answer.copy()
+}
+
+/// Whether a part answers as its row says.
+fn is_told(answer: &PartResult, row: Row) -> Result<bool, NoMemory> {
+    let answer = copied_answer(answer)?;
+    Ok(
+        answer.err == row.5
+            && is_path(&answer.path, row.2)
+            && answer.stat.is_some() == tells_stat(row),
+    )
+}
+
+/// Whether the parts of a multi answer as their rows say.
+fn are_told(answers: &[PartResult], rows: &[Row]) -> Result<bool, NoMemory> {
     let mut all = answers.len() == rows.len();
     for (answer, row) in answers.iter().zip(rows) {
-        all = all
-            && answer.err == row.5
-            && is_path(&answer.path, row.2)
-            && answer.stat.is_some() == tells_stat(*row);
+        all = is_told(answer, *row)? && all;
     }
-    all
+    Ok(all)
 }
 
 /// The stat that the first part tells.
@@ -246,6 +291,18 @@ fn first_told(answers: &[PartResult]) -> Option<Stat> {
         [first, ..] => first.stat,
         [] => None,
     }
+}
+
+/// The answers of the parts, by their copy.
+fn copied_answers(told: &TxnResult) -> Result<PartResults, NoMemory> {
+    let copies = told.parts.copy()?;
+    Ok(PartResults::new(copies.into_vec()))
+}
+
+/// Whether the parts tell this stat first, and otherwise as their rows say.
+fn tells(told: &TxnResult, rows: &[Row], stat: Option<Stat>) -> Result<bool, NoMemory> {
+    let answers = copied_answers(told)?;
+    Ok(first_told(answers.as_slice()) == stat && are_told(answers.as_slice(), rows)?)
 }
 
 /// Whether a node holds this, where none stands for null.
@@ -311,12 +368,7 @@ fn is_multi_answered(
     stat: Option<Stat>,
 ) -> Result<bool, Fail> {
     let told = apply(table, 7, multi_of(alloc, parts)?)?;
-    let answers = PartResults::new(told.parts.into_vec());
-    Ok(
-        told.err == err
-            && are_told(answers.as_slice(), parts)
-            && first_told(answers.as_slice()) == stat,
-    )
+    Ok(told.err == err && tells(&told, parts, stat)?)
 }
 
 /// The same, and whether it then leaves these nodes.

@@ -1,4 +1,5 @@
-ghost use Rattle.std.specs.Prelude.{◌≡◌, IfOk};
+ghost use Rattle.std.specs.Prelude.{◌≡◌, ℤ, IfOk, IsOk};
+ghost use Rattle.zk_table.specs.declared.txn.Op.TheVariants as ops;
 
 use crate::content::Content;
 use crate::node;
@@ -24,7 +25,8 @@ pub struct Txn {
 impl Txn {
     /// The same transaction once more.
     pub fn copy(&self) -> Result<Txn, NoMemory>
-        ensures { IfOk result (λ copy. copy ≡ self.now) }
+        ensures same { IfOk result (λ copy. copy ≡ self.now) }
+        ensures error { (code : ℤ) → self.now.op ≡ ops.Error code → IsOk result }
     {
         let op = self.op.copy()?;
         Ok(Txn { op, ..*self })
@@ -79,7 +81,9 @@ pub enum Op {
 impl Op {
     /// The same operation once more.
     pub fn copy(&self) -> Result<Op, NoMemory>
-        ensures { IfOk result (λ copy. copy ≡ self.now) }
+        ensures same { IfOk result (λ copy. copy ≡ self.now) }
+        // An error takes no memory.
+        ensures error { (code : ℤ) → self.now ≡ ops.Error code → IsOk result }
     {
         match self {
             Op::Create {

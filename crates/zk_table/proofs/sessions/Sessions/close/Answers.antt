@@ -1,4 +1,4 @@
-use Rattle.std.proofs.Common.{◌≡◌, ap, ◌∙◌, sym, subst, IsTrue, w64, of_z}
+use Rattle.std.proofs.Common.{ap, ◌∙◌, sym, subst, IsTrue, w64, of_z}
 use Rattle.std.proofs.lemmas.Cmp.{nat_cmp_total}
 use Rattle.std.proofs.lemmas.Int.{to_z-of_z}
 use Rattle.std.specs.FinMap.{nat_cmp-IsAntisymmetric, from_sorted, is_sorted}
