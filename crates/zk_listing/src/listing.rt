@@ -1,18 +1,22 @@
 ghost use Rattle.std.specs.Prelude.{◌≡◌, ◌++◌, ◌∷◌, codes, IfOk, OnErr, OnOk};
-ghost use Rattle.std.specs.List.{flat_map};
+ghost use Rattle.std.specs.List.{flat_map, AllByRecursion};
 ghost use Rattle.std.specs.String.{string_bytes};
-ghost use Rattle.zk_listing.specs.Listings.{listing_of, line_of, op_text, sub_text, part_text, create_text, delete_text, set_data_text, set_acl_text, check_text, error_text, ephemeral_text, header_text};
+ghost use Rattle.zk_listing.specs.Listings.{IsListed, HasCountedAcls, listing_of, line_of, op_text, sub_text, part_text, create_text, delete_text, set_data_text, set_acl_text, check_text, error_text, ephemeral_text, header_text};
 
+use crate::ranges::{txn_is_listed, txns_are_listed};
 use crate::spelling::{push_id, spell_acl, spell_content, spell_quoted};
 use std::alloc::Global;
 use zk_acl::Acls;
 use zk_path::{NoMemory, Path};
 use zk_table::{Content, Op, Sub, Txn};
 
-/// The listing of these transactions: one line for each.
+/// The listing of these transactions: one line for each. [`assemble`](crate::assemble) gives them back, unless an access
+/// control list has more entries than a line can count.
 pub fn list(alloc: Global, txns: &[Txn]) -> Result<String, NoMemory>
-    ensures { IfOk result (λ text. string_bytes text ≡ listing_of txns.now) }
+    ensures spelled { IfOk result (λ text. string_bytes text ≡ listing_of txns.now) }
+    ensures listed { AllByRecursion HasCountedAcls txns.now → AllByRecursion IsListed txns.now }
 {
+    txns_are_listed(txns);
     let mut text = String::new(alloc);
     for txn in txns {
         spell_line(&mut text, txn)?;
@@ -24,7 +28,9 @@ pub fn list(alloc: Global, txns: &[Txn]) -> Result<String, NoMemory>
 pub fn push_line(text: &mut String, txn: &Txn) -> Result<(), NoMemory>
     ensures appended { OnOk result (string_bytes text.new ≡ string_bytes text.old ++ line_of txn.now) }
     ensures unchanged { OnErr result (string_bytes text.new ≡ string_bytes text.old) }
+    ensures listed { HasCountedAcls txn.now → IsListed txn.now }
 {
+    txn_is_listed(txn);
     let mut line = String::new(*text.allocator());
     spell_line(&mut line, txn)?;
     text.push_str(line.as_str())?;
