@@ -3,4 +3,3 @@ pub mod DigitsLaws
 pub mod LinesLaws
 pub mod ListedLaws
 pub mod PageLaws
-pub mod TextLaws

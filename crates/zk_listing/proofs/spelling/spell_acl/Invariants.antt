@@ -4,7 +4,7 @@ use Rattle.std.specs.Fmt.{decimal}
 use Rattle.std.specs.List.{flat_map}
 use Rattle.std.specs.String.{string_bytes}
 use Rattle.zk_listing.specs.Spelling.{acl_entry_text}
-use Rattle.zk_listing.proofs.spelling.push_acl.Given as goal
+use Rattle.zk_listing.proofs.spelling.spell_acl.Given as goal
 
 abbrev pub invariant-loop-entry : goal.invariant-loop-entry
 invariant-loop-entry l =

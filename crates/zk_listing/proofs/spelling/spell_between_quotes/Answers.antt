@@ -8,7 +8,7 @@ use Rattle.std.specs.String.{string_bytes}
 use lib.Utf8.{encode}
 use Rattle.zk_listing.specs.Spelling.{escaped, is_escaped}
 use Rattle.zk_listing.proofs.QuotedLaws.{nothing_escaped}
-use Rattle.zk_listing.proofs.spelling.push_between_quotes.Goals as goal
+use Rattle.zk_listing.proofs.spelling.spell_between_quotes.Goals as goal
 
 pub returns-then-not-has_escaped : goal.returns-then-not-has_escaped
 returns-then-not-has_escaped c =
