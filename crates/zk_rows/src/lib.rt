@@ -6,6 +6,10 @@
 #![tactic(auto)]
 
 #[cfg(test)]
+mod acl_rows;
+#[cfg(test)]
 mod jute_rows;
 #[cfg(test)]
 mod path_rows;
+#[cfg(test)]
+mod table_rows;
