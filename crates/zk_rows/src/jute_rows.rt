@@ -93,7 +93,7 @@ fn create(alloc: Global, content: Option<Content>) -> Result<Txn, Fail> {
         op: Op::Create {
             path: Path::read(alloc, "/n")?,
             content,
-            acl: Acls::new(Vec::new(alloc)),
+            acl: Acls::new(alloc, Vec::new(alloc))?,
             ephemeral: false,
             count: 1,
         },

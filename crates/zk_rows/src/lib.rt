@@ -6,8 +6,12 @@
 #![tactic(auto)]
 
 #[cfg(test)]
+mod acl_rows;
+#[cfg(test)]
 mod jute_rows;
 #[cfg(test)]
 mod log_rows;
 #[cfg(test)]
 mod path_rows;
+#[cfg(test)]
+mod table_rows;

@@ -1,12 +1,14 @@
-use super::*;
+//! Rows of `zk_table`.
+
 use std::alloc::Global;
 use std::test::Fail;
 use zk_acl::{Acl, Acls, Id, Stat, Text};
 use zk_path::{NoMemory, Path};
+use zk_table::{Content, Node, Op, PartResult, PartResults, Plain, Sub, Subs, Txn, TxnResult};
 
 // A test is a table of what is asked, with the answers, and of what stands there afterwards. A proof of a function's
-// safety grows steeply with its exits and with its locals, so those are in few helpers, which have no clauses. What is
-// applied is a copy, and so is what is compared: answers, and nodes.
+// safety grows steeply with its exits and with its locals, so helpers are small. What is applied is a copy, and so is what
+// is compared: answers, and nodes.
 
 /// What a row asks of the table, alone or as a part of a multi.
 #[derive(Clone, Copy)]
@@ -33,7 +35,8 @@ fn path_of(alloc: Global, text: &str) -> Result<Path, Fail> {
 }
 
 fn read_content(alloc: Global, text: &str) -> Result<Content, Fail> {
-    let bytes = Vec::from_slice(alloc, text.as_bytes())?;
+    let read = Content::read(alloc, text.as_bytes())?;
+    let bytes = Vec::from_slice(alloc, read.as_slice())?;
     Ok(Content::new(alloc, bytes)?.copy()?)
 }
 
@@ -149,47 +152,20 @@ fn op_of(alloc: Global, row: Row) -> Result<Op, Fail> {
     }
 }
 
-fn parts_of(alloc: Global, rows: &[Row]) -> Result<Vec<Sub>, Fail> {
+fn parts_of(alloc: Global, rows: &[Row]) -> Result<Subs, Fail> {
     let mut parts = Vec::new(alloc);
     for row in rows {
         parts.push(part_of(alloc, *row)?)?;
     }
-    Ok(parts)
+    Ok(Subs::new(parts))
 }
 
-fn copied_part(part: &Sub) -> Result<Sub, NoMemory> {
-    part.copy()
-}
-
-fn copied_op(op: &Op) -> Result<Op, NoMemory> {
-    op.copy()
-}
-
-fn copied_parts(parts: &Subs) -> Result<Vec<Sub>, NoMemory> {
-    Ok(parts.copy()?.into_vec())
-}
-
-/// These parts, each by its own copy.
-fn each_copied(alloc: Global, parts: &Subs) -> Result<Subs, NoMemory> {
-    let mut copies = Vec::new(alloc);
-    for part in parts.as_slice() {
-        copies.push(copied_part(part)?)?;
-    }
-    Ok(Subs::new(copies))
-}
-
-/// A multi of these parts, after copies of all.
-fn copied_multi(alloc: Global, parts: &Subs) -> Result<Op, NoMemory> {
-    let parts = Subs::new(copied_parts(parts)?);
-    let multi = Op::Multi {
-        parts: each_copied(alloc, &parts)?,
-    };
-    copied_op(&multi)
-}
-
+/// A multi of these parts, by their copies.
 fn multi_of(alloc: Global, rows: &[Row]) -> Result<Op, Fail> {
-    let parts = Subs::new(parts_of(alloc, rows)?);
-    Ok(copied_multi(alloc, &parts)?)
+    let parts = parts_of(alloc, rows)?.copy()?.into_vec();
+    Ok(Op::Multi {
+        parts: Subs::new(parts),
+    })
 }
 
 /// The transaction after the last one, at ten times its number of milliseconds.
@@ -205,26 +181,10 @@ fn txn_of(last: i64, session: i64, op: Op) -> Txn {
     }
 }
 
-fn copied(txn: &Txn) -> Result<Txn, NoMemory> {
-    txn.copy()
-}
-
-fn told(table: &mut Plain, txn: &Txn) -> Result<TxnResult, NoMemory> {
-    table.apply(txn)
-}
-
-fn told_of_copy(table: &mut Plain, txn: &Txn) -> Result<TxnResult, NoMemory> {
-    let copy = copied(txn)?;
-    told(table, &copy)
-}
-
+/// What a table answers to a copy of this, by a copy of the answer.
 fn apply(table: &mut Plain, session: i64, op: Op) -> Result<TxnResult, NoMemory> {
-    let txn = txn_of(table.last(), session, op);
-    told_of_copy(table, &txn)
-}
-
-fn copied_result(told: &TxnResult) -> Result<TxnResult, NoMemory> {
-    told.copy()
+    let txn = txn_of(table.last(), session, op).copy()?;
+    table.apply(&txn)?.copy()
 }
 
 /// Whether this path is told, where none is as nothing.
@@ -243,7 +203,6 @@ fn tells_stat(row: Row) -> bool {
 /// Whether a row's operation answers as the row says.
 fn is_answered(alloc: Global, table: &mut Plain, row: Row) -> Result<bool, Fail> {
     let told = apply(table, row.0, op_of(alloc, row)?)?;
-    let told = copied_result(&told)?;
     let is_last = told.zxid == table.last();
     Ok(
         is_last
@@ -262,27 +221,20 @@ fn are_answered(alloc: Global, table: &mut Plain, rows: &[Row]) -> Result<bool, 
     Ok(all)
 }
 
-fn copied_answer(answer: &PartResult) -> Result<PartResult, NoMemory> {
-    answer.copy()
-}
-
 /// Whether a part answers as its row says.
-fn is_told(answer: &PartResult, row: Row) -> Result<bool, NoMemory> {
-    let answer = copied_answer(answer)?;
-    Ok(
-        answer.err == row.5
-            && is_path(&answer.path, row.2)
-            && answer.stat.is_some() == tells_stat(row),
-    )
+fn is_told(answer: &PartResult, row: Row) -> bool {
+    answer.err == row.5
+        && is_path(&answer.path, row.2)
+        && answer.stat.is_some() == tells_stat(row)
 }
 
 /// Whether the parts of a multi answer as their rows say.
-fn are_told(answers: &[PartResult], rows: &[Row]) -> Result<bool, NoMemory> {
+fn are_told(answers: &[PartResult], rows: &[Row]) -> bool {
     let mut all = answers.len() == rows.len();
     for (answer, row) in answers.iter().zip(rows) {
-        all = is_told(answer, *row)? && all;
+        all = is_told(answer, *row) && all;
     }
-    Ok(all)
+    all
 }
 
 /// The stat that the first part tells.
@@ -293,16 +245,10 @@ fn first_told(answers: &[PartResult]) -> Option<Stat> {
     }
 }
 
-/// The answers of the parts, by their copy.
-fn copied_answers(told: &TxnResult) -> Result<PartResults, NoMemory> {
-    let copies = told.parts.copy()?;
-    Ok(PartResults::new(copies.into_vec()))
-}
-
 /// Whether the parts tell this stat first, and otherwise as their rows say.
-fn tells(told: &TxnResult, rows: &[Row], stat: Option<Stat>) -> Result<bool, NoMemory> {
-    let answers = copied_answers(told)?;
-    Ok(first_told(answers.as_slice()) == stat && are_told(answers.as_slice(), rows)?)
+fn tells(told: &PartResults, rows: &[Row], stat: Option<Stat>) -> Result<bool, NoMemory> {
+    let answers = PartResults::new(told.copy()?.into_vec());
+    Ok(first_told(answers.as_slice()) == stat && are_told(answers.as_slice(), rows))
 }
 
 /// Whether a node holds this, where none stands for null.
@@ -325,10 +271,6 @@ fn is_open(node: &Node, perms: i32) -> bool {
     }
 }
 
-fn copied_node(node: &Node) -> Result<Node, NoMemory> {
-    node.copy()
-}
-
 /// Whether a node is as shown.
 fn is_shown(table: &Plain, path: &Path, node: &Node, shown: &Shown) -> bool {
     path.text() == shown.0
@@ -341,7 +283,7 @@ fn is_shown(table: &Plain, path: &Path, node: &Node, shown: &Shown) -> bool {
 fn are_shown(table: &Plain, nodes: &[Shown]) -> Result<bool, NoMemory> {
     let mut all = table.nodes().len() == nodes.len();
     for ((path, node), shown) in table.nodes().iter().zip(nodes) {
-        let node = copied_node(node)?;
+        let node = node.copy()?;
         all = all && is_shown(table, path, &node, shown);
     }
     Ok(all)
@@ -368,7 +310,7 @@ fn is_multi_answered(
     stat: Option<Stat>,
 ) -> Result<bool, Fail> {
     let told = apply(table, 7, multi_of(alloc, parts)?)?;
-    Ok(told.err == err && tells(&told, parts, stat)?)
+    Ok(told.err == err && tells(&told.parts, parts, stat)?)
 }
 
 /// The same, and whether it then leaves these nodes.
