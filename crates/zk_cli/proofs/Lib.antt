@@ -3,3 +3,4 @@ pub mod DigitsLaws
 pub mod LinesLaws
 pub mod ListedLaws
 pub mod PageLaws
+pub mod WordsLaws

@@ -1,5 +1,5 @@
 -- A listing is a text in UTF-8.
-use Rattle.std.proofs.Common.{◌≡◌, ℕ, zero, suc, ◌<◌, ◌≤◌, ◌^◌, ℤ, List, [], ◌∷◌, ◌++◌, Bool, true, false, eqb, ltb, ◌&&◌, inl, inr, length, Option, Some, None, refl, ap, ◌∙◌, arith}
+use Rattle.std.proofs.Common.{◌≡◌, ℕ, zero, suc, ◌<◌, ℤ, List, [], ◌∷◌, ◌++◌, Bool, true, false, eqb, ltb, ◌&&◌, inl, inr, length, Option, Some, None, refl, ap, ◌∙◌, arith}
 use Rattle.std.proofs.lemmas.Bool.{cases_lt, ltb-true}
 use Rattle.std.proofs.lemmas.Bool.Decides.{nat_tests}
 use Rattle.std.proofs.lemmas.Fmt.{IsAscii-decimal, IsAscii-signed}
@@ -15,7 +15,7 @@ use Rattle.std.specs.Str.{IsUtf8, IsAscii, chars}
 use Rattle.hex.proofs.HexLemmas.{IsAscii-encode_with}
 use Rattle.hex.specs.Hex.{encode_lower, lower_digits}
 use Rattle.zk_acl.specs.declared.acl.Acl.{Acl}
-use Rattle.zk_listing.specs.Listings.{create_text, delete_text, set_data_text, set_acl_text, check_text, error_text, ephemeral_text, sub_text, part_text, op_text, header_text, line_of, listing_of, IsListed, IsListedAcl, AreListedAcls, IsListedContent, IsListedPath, IsListedSub, IsListedOp}
+use Rattle.zk_listing.specs.Listings.{create_text, delete_text, set_data_text, set_acl_text, check_text, error_text, ephemeral_text, sub_text, part_text, op_text, header_text, line_of, listing_of, IsListed, IsListedAcl, AreListedAcls, IsListedPath, IsListedSub, IsListedOp}
 use Rattle.zk_listing.specs.Spelling.{escaped, quoted, content_text, acl_entry_text, acl_text, sixteen_digits, id_digits}
 use Rattle.zk_table.specs.declared.sub.Sub.{Sub}
 use Rattle.zk_table.specs.declared.sub.Sub.TheVariants as subs
