@@ -8,4 +8,6 @@
 #[cfg(test)]
 mod jute_rows;
 #[cfg(test)]
+mod listing_rows;
+#[cfg(test)]
 mod path_rows;
