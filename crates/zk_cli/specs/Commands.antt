@@ -74,8 +74,13 @@ abbrev pub ReadsJob : List (List ℕ) → Option Job → Type 0
 ReadsJob words (Some job) = Names words job.order job.input.now job.output.now
 ReadsJob words None = NamesNothing words
 
+-- the words name this job, and no other
+pub record NamesOnly (words : List (List ℕ)) (job : Job) : Type 0 where
+  pub names : Names words job.order job.input.now job.output.now
+  pub only : (order : Order) (input output : List ℕ) → Names words order input output → (order ≡ job.order) × (input ≡ job.input.now) × (output ≡ job.output.now)
+
 abbrev pub ReadsCommandLine : List (List ℕ) → Result Job CommandFault → Type 0
-ReadsCommandLine words (Ok job) = Names words job.order job.input.now job.output.now
+ReadsCommandLine words (Ok job) = NamesOnly words job
 ReadsCommandLine words (Err (faults.Refused error)) = NamesNothing words
 ReadsCommandLine words (Err faults.NoMemory) = Unit {0}
 

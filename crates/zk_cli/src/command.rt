@@ -33,6 +33,7 @@ pub enum CommandFault {
 }
 
 /// Reads a command line, whose first word is the program's name.
+#[tactic(auto, using(crate::proofs::NamesLaws::names_only))]
 pub fn read_command_line<'a>(alloc: Global, words: &'a [&'a str]) -> Result<Job<'a>, CommandFault>
     ensures { ReadsCommandLine (map (λ word. word.now) words.now) result }
 {

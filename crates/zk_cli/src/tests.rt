@@ -2,6 +2,7 @@ use crate::act::{Order, act};
 use crate::asm::AsmFault;
 use crate::command::{CommandFault, read_command_line};
 use crate::fault_lines::{asm_line, log_line};
+use crate::text::{TextFault, read_text};
 use clap::error::ErrorKind;
 use std::fmt::Display;
 use std::process::Abort;
@@ -336,6 +337,22 @@ fn lines_of_faults_are_their_texts(rt: HostRuntime) -> Result<(), Fail> {
     ] {
         let fault = AsmFault::Listing(ListFault { line: 2, cause });
         check_line(&rt, &fault, &asm_line(rt.alloc(), fault)?)?;
+    }
+    Ok(())
+}
+
+#[test]
+fn texts_are_read_to_their_end_and_no_further(rt: HostRuntime) -> Result<(), Fail> {
+    // ten bytes, five in a read: how many turns there are, which read fails, what comes of it and after how many reads
+    for (turns, good_calls, expected) in [
+        (3, None, (None, 3)),
+        (2, None, (Some(TextFault::Read), 2)),
+        (9, Some(3), (None, 3)),
+        (9, Some(2), (Some(TextFault::Read), 3)),
+    ] {
+        let mut source = Source::new(DripIn::new(b"0123456789", 5, good_calls));
+        let read = read_text(rt.alloc(), &mut source, turns);
+        assert_eq!(rt; (read.err(), source.reads()), expected);
     }
     Ok(())
 }
