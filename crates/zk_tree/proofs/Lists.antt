@@ -1,5 +1,5 @@
 -- Lists of paths in order, and the maps that have them as their keys.
-use Rattle.std.proofs.Common.{◌≡◌, ℕ, ℤ, pos, Bool, true, false, cond, not, ◌||◌, ◌&&◌, T, List, [], ◌∷◌, map, filter, length, is_some, Option, Some, None, String, refl, sym, ap, subst, ◌∙◌, is_eq, is_lt, Less, Equal, Greater, IsTrue, suc, arith}
+use Rattle.std.proofs.Common.{◌≡◌, ℕ, ℤ, pos, Bool, true, false, cond, not, ◌||◌, ◌&&◌, T, List, [], ◌∷◌, ◌++◌, map, filter, length, is_some, Option, Some, None, String, refl, sym, ap, subst, ◌∙◌, is_eq, is_lt, Less, Equal, Greater, IsTrue, suc, arith}
 use Rattle.std.proofs.lemmas.Bool.{false≢true, and_parts, and_from}
 use Rattle.std.proofs.lemmas.Cmp.{nat_list_cmp_total, eq_by_cmp_equiv}
 use Rattle.std.proofs.lemmas.List.Kept.{IsStrictlySortedBy-filter}
@@ -142,3 +142,16 @@ none_of (x ∷ xs) q e = absurd (omega arith)
 -- a path without children is nobody's parent
 pub no_children : (nodes : NodeMap) (path : List ℕ) → length (children_of nodes path) ≡ 0 → (q : List ℕ) → (is_child_of path q && finite.contains_key nodes q) ≡ false
 no_children nodes path none q = any-children_of nodes path q ∙ none_of (children_of nodes path) q none
+
+nothing_rises : IsStrictlySortedBy path_cmp []
+unfolding IsStrictlySortedBy
+nothing_rises = tt
+
+pub keys-empty : finite.keys (finite.empty {X = Unit {0}} {R = path_cmp}) ≡ []
+keys-empty = keys_are finite.empty [] nothing_rises (λ q. ap is_some (finite.get-empty path_cmp q))
+
+-- ---- what stands in the middle of a list
+
+pub any_middle : (q : List ℕ) (xs ys : List (List ℕ)) → list_any (eq_by_cmp path_cmp q) (xs ++ q ∷ ys) ≡ true
+any_middle q [] ys = ap (λ b. b || list_any (eq_by_cmp path_cmp q) ys) (same_itself q)
+any_middle q (x ∷ xs) ys = elim (eq_by_cmp path_cmp q x) as (λ b. (b || list_any (eq_by_cmp path_cmp q) (xs ++ q ∷ ys)) ≡ true) [ true ↦ refl | false ↦ any_middle q xs ys ]

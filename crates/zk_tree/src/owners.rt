@@ -77,8 +77,9 @@ impl Owners {
             return;
         };
         set.remove(path);
-        if set.len() == 0 {
-            self.sets.remove(&session);
+        if set.len() > 0 {
+            return;
         }
+        self.sets.remove(&session);
     }
 }
