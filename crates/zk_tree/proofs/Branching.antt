@@ -8,9 +8,9 @@ use Rattle.std.specs.Option.{option_map}
 use Rattle.std.specs.Ordering.{eq_by_cmp}
 use Rattle.zk_path.specs.Paths.{parent_of}
 use Rattle.zk_table.specs.declared.node.Node.{Node}
-use Rattle.zk_table.specs.States.{NodeMap, path_cmp, is_child_of, is_parent, children_of}
+use Rattle.zk_table.specs.States.{path_cmp, is_child_of, is_parent, children_of}
 use Rattle.zk_tree.specs.declared.slots.Slot.{Slot}
-use Rattle.zk_tree.specs.Branches.{SlotMap, IsKeyed, IsBranching, AreKept, nodes_of, path_at, new_slot, with_child, without_child, with_node, slot_changed, slot_changed_found}
+use Rattle.zk_tree.specs.Branches.{SlotMap, IsBranching, AreKept, nodes_of, new_slot, with_child, without_child, with_node, slot_changed, slot_changed_found}
 use Rattle.zk_tree.specs.Views.{PathKeys}
 use Rattle.zk_tree.proofs.Kept.{path_cmp-IsAntisymmetric, tests_alike, contains_key-insert, contains_key-remove, get-insert_itself, same_members}
 use Rattle.zk_tree.proofs.Lists.{same_is, same_itself, no_children}

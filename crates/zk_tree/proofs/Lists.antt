@@ -1,12 +1,12 @@
 -- Lists of paths in order, and the maps that have them as their keys.
-use Rattle.std.proofs.Common.{◌≡◌, ℕ, ℤ, pos, Bool, true, false, cond, not, ◌||◌, ◌&&◌, T, List, [], ◌∷◌, ◌++◌, map, filter, length, is_some, Option, Some, None, String, refl, sym, ap, subst, ◌∙◌, is_eq, is_lt, Less, Equal, Greater, IsTrue, suc, arith}
+use Rattle.std.proofs.Common.{◌≡◌, ℕ, Bool, true, false, cond, ◌||◌, ◌&&◌, List, [], ◌∷◌, ◌++◌, map, filter, length, is_some, String, refl, sym, ap, ◌∙◌, is_eq, is_lt, Less, Equal, Greater, IsTrue, suc, arith}
 use Rattle.std.proofs.lemmas.Bool.{false≢true, and_parts, and_from}
 use Rattle.std.proofs.lemmas.Cmp.{nat_list_cmp_total, eq_by_cmp_equiv}
 use Rattle.std.proofs.lemmas.List.Kept.{IsStrictlySortedBy-filter}
 use Rattle.std.specs.BTreeSet.{BTreeSet}
 use Rattle.std.specs.declared.cmp.Ordering.{Ordering}
 use Rattle.std.specs.FinMap as finite
-use Rattle.std.specs.FinMap.{FinMap, is_sorted, find}
+use Rattle.std.specs.FinMap.{FinMap, is_sorted}
 use Rattle.std.specs.List.{list_any, AllByRecursion}
 use Rattle.std.specs.List.Sorted.{IsStrictlySortedBy}
 use Rattle.std.specs.Ordering.{eq_by_cmp}
@@ -143,7 +143,7 @@ none_of (x ∷ xs) q e = absurd (omega arith)
 pub no_children : (nodes : NodeMap) (path : List ℕ) → length (children_of nodes path) ≡ 0 → (q : List ℕ) → (is_child_of path q && finite.contains_key nodes q) ≡ false
 no_children nodes path none q = any-children_of nodes path q ∙ none_of (children_of nodes path) q none
 
-nothing_rises : IsStrictlySortedBy path_cmp []
+pub nothing_rises : IsStrictlySortedBy path_cmp []
 unfolding IsStrictlySortedBy
 nothing_rises = tt
 

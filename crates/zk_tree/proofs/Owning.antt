@@ -1,11 +1,11 @@
 -- The paths that sessions own, after one came or went.
-use Rattle.std.proofs.Common.{◌≡◌, ◌≢◌, ℕ, ℤ, pos, Bool, true, false, cond, not, w64, of_z, ◌||◌, ◌&&◌, ◌==◌, List, [], ◌∷◌, is_some, Option, Some, None, refl, sym, ap, subst, ◌∙◌}
+use Rattle.std.proofs.Common.{◌≡◌, ◌≢◌, ℕ, ℤ, pos, Bool, true, false, cond, not, w64, of_z, ◌&&◌, ◌==◌, List, is_some, Option, Some, None, refl, sym, ap, ◌∙◌}
 use Rattle.std.proofs.lemmas.Bool.{cond-false, ne_eqb}
 use Rattle.std.proofs.lemmas.Cmp.{nat_list_cmp_total, int_cmp_total, eq_by_cmp_equiv}
 use Rattle.std.specs.Cmp.{IsTotalOrder}
 use Rattle.std.specs.FinMap as finite
 use Rattle.std.specs.FinMap.{FinMap, IsAntisymmetric, int_cmp-IsAntisymmetric}
-use Rattle.std.specs.Ordering.{eq_by_cmp, int_cmp, int_eq}
+use Rattle.std.specs.Ordering.{eq_by_cmp, int_eq}
 use Rattle.std.specs.declared.cmp.Ordering.{Ordering}
 use Rattle.zk_table.specs.States.{path_cmp}
 use Rattle.zk_tree.specs.Owners.{set_at, set_found, with_owned, with_set, without_owned}

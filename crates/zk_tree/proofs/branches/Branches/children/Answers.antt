@@ -1,4 +1,4 @@
-use Rattle.std.proofs.Common.{◌≡◌, ◌&&◌, Some, None, is_some, List, ℕ, IfOk, subst, sym, ap, ◌∙◌}
+use Rattle.std.proofs.Common.{◌≡◌, ◌&&◌, is_some, List, ℕ, IfOk, subst, sym, ap, ◌∙◌}
 use Rattle.std.specs.FinMap as finite
 use Rattle.zk_table.specs.States.{path_cmp, children_of, is_child_of}
 use Rattle.zk_tree.specs.Branches.{nodes_of}

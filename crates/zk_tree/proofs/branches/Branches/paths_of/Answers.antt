@@ -1,6 +1,5 @@
 use Rattle.std.proofs.Common.{sym, ap, ◌∙◌}
 use Rattle.std.specs.FinMap as finite
-use Rattle.zk_tree.specs.Branches.{nodes_of}
 use Rattle.zk_tree.proofs.Branching.{contains_key-nodes_of, kept_paths}
 use Rattle.zk_tree.proofs.branches.Branches.paths_of.Goals as goal
 

@@ -1,9 +1,8 @@
-use Rattle.std.proofs.Common.{◌≡◌, Some, None, true, rules, is_some, ap, sym, ◌∙◌}
+use Rattle.std.proofs.Common.{◌≡◌, Some, None, rules, is_some, ap, sym, ◌∙◌}
 use Rattle.std.proofs.lemmas.Bool.{false≢true}
 use Rattle.std.specs.FinMap as finite
 use Rattle.std.specs.Option.{option_copied_mut, option_map}
 use Rattle.zk_tree.specs.Branches.{with_node}
-use Rattle.zk_tree.specs.Views.{map_of}
 use Rattle.zk_tree.proofs.Branching.{changed_slot}
 use Rattle.zk_tree.proofs.Kept.{get-map_of, map_inserted}
 use Rattle.zk_tree.proofs.slots.Slots.change.Goals as goal
