@@ -1,4 +1,4 @@
-ghost use Rattle.std.specs.Prelude.{◌≡◌, IfOk, IfErr, OnOk, OnErr, None, Some, IsSome, true, length, List, ℕ};
+ghost use Rattle.std.specs.Prelude.{◌≡◌, IfOk, IfErr, IfSome, option_map, OnOk, OnErr, None, Some, IsSome, true, length, List, ℕ};
 ghost use Rattle.std.specs.FinMap as finite;
 ghost use Rattle.std.specs.Option.{option_copied, ForSome};
 ghost use Rattle.zk_path.specs.Paths.{parent_of};
@@ -60,6 +60,17 @@ impl Branches {
     {
         match self.slots.get(path) {
             Some(slot) => Some(&slot.node),
+            None => None,
+        }
+    }
+
+    /// The path of a text and its node.
+    pub(crate) fn entry(&self, text: &str) -> Option<(&Path, &Node)>
+        ensures node { option_map (λ found. found.1.now) result ≡ finite.get self.now text.now }
+        ensures path { IfSome result (λ found. found.0.now ≡ text.now) }
+    {
+        match self.slots.get(text) {
+            Some(slot) => Some((&slot.path, &slot.node)),
             None => None,
         }
     }
@@ -130,10 +141,10 @@ impl Branches {
             return Ok(());
         };
         let Slot { path, node, .. } = slot;
-        let Some(parent) = path.parent() else {
+        let Some(above) = path.parent() else {
             unreachable!()
         };
-        self.slots.lose_child(parent, path.text());
+        self.slots.lose_child(above, path.text());
         Err(Refused { path, node })
     }
 

@@ -32,7 +32,7 @@ invariant_of-self-2 c =
     let below : Some above ≡ parent_of c.args.path = c.in-Some.ensures in
     let there : finite.contains_key (nodes_of m) above ≡ true = ap (λ m. finite.contains_key m above) c.self.view_is ∙ c.requires.below above (sym below) in
     let path : c.in-Err.slot.path ≡ c.args.path = ap (λ both. both.1.path) c.in-Err.ensures.back in
-    let parent : c.in-Some-parent.parent.now ≡ above = ap (λ o. unwrap_or o above) (c.in-Some-parent.ensures ∙ ap parent_of path ∙ sym below) in
+    let parent : c.in-Some-parent.above.now ≡ above = ap (λ o. unwrap_or o above) (c.in-Some-parent.ensures ∙ ap parent_of path ∙ sym below) in
     let lost : c.lose_child.new.self ≡ slot_changed c.insert.new.self above (without_child c.args.path) = c.lose_child.ensures ∙ ap (λ k. slot_changed c.insert.new.self k (without_child c.text-3.result.now)) parent ∙ ap (λ k. slot_changed c.insert.new.self above (without_child k)) (c.text-3.ensures.text ∙ path) in
     let same : c.lose_child.new.self ≡ m = unplaced m c.args.path above c.self.invariant free below there _ (c.in-Ok-Ok.ensures'.ok ∙ c.text-2.ensures.text) _ c.in-Ok.ensures.noted c.insert.new.self c.lose_child.new.self c.in-Err.ensures.unchanged lost in
     subst IsBranching (sym same) c.self.invariant
@@ -45,7 +45,7 @@ returns-clause-unchanged c =
     let below : Some above ≡ parent_of c.args.path = c.in-Some.ensures in
     let there : finite.contains_key (nodes_of m) above ≡ true = ap (λ m. finite.contains_key m above) c.self.view_is ∙ c.requires.below above (sym below) in
     let path : c.in-Err.slot.path ≡ c.args.path = ap (λ both. both.1.path) c.in-Err.ensures.back in
-    let parent : c.in-Some-parent.parent.now ≡ above = ap (λ o. unwrap_or o above) (c.in-Some-parent.ensures ∙ ap parent_of path ∙ sym below) in
+    let parent : c.in-Some-parent.above.now ≡ above = ap (λ o. unwrap_or o above) (c.in-Some-parent.ensures ∙ ap parent_of path ∙ sym below) in
     let lost : c.lose_child.new.self ≡ slot_changed c.insert.new.self above (without_child c.args.path) = c.lose_child.ensures ∙ ap (λ k. slot_changed c.insert.new.self k (without_child c.text-3.result.now)) parent ∙ ap (λ k. slot_changed c.insert.new.self above (without_child k)) (c.text-3.ensures.text ∙ path) in
     let same : c.lose_child.new.self ≡ m = unplaced m c.args.path above c.self.invariant free below there _ (c.in-Ok-Ok.ensures'.ok ∙ c.text-2.ensures.text) _ c.in-Ok.ensures.noted c.insert.new.self c.lose_child.new.self c.in-Err.ensures.unchanged lost in
     ap nodes_of same ∙ c.self.view_is
