@@ -36,7 +36,7 @@ pub struct Node {
 
 impl Node {
     /// A node that stands there before any transaction: empty, and open to all.
-    pub(crate) fn first(alloc: Global) -> Result<Node, NoMemory>
+    pub fn first(alloc: Global) -> Result<Node, NoMemory>
         ensures { IfOk result (λ node. node ≡ first_node) }
     {
         Ok(Node {
@@ -127,7 +127,7 @@ impl Node {
     }
 
     /// What a client is told of the node, which has so many children.
-    pub(crate) fn stat(&self, children: usize) -> Stat
+    pub fn stat(&self, children: usize) -> Stat
         ensures { result ≡ stat_with self.now children }
     {
         Stat {
