@@ -18,8 +18,9 @@ impl<T: Drop> Model for Table<T> {
 }
 
 impl<T: Drop> Table<T> {
-    ghost use Rattle.std.specs.Prelude.{◌≡◌, IfOk};
-    ghost use Rattle.zab_epoch.specs.Tables.{silent_servers, put, marks_of};
+    ghost use Rattle.std.specs.Prelude.{◌≡◌, [], IfOk};
+    ghost use Rattle.std.specs.Option.{option_copied};
+    ghost use Rattle.zab_epoch.specs.Tables.{silent_servers, put, said_by, marks_of};
 
     /// Nothing of each of so many servers.
     pub fn new(alloc: Global, servers: usize) -> Result<Table<T>, NoMemory>
@@ -32,12 +33,31 @@ impl<T: Drop> Table<T> {
         Ok(Table { slots })
     }
 
+    /// Nothing of no server.
+    pub fn empty(alloc: Global) -> Table<T>
+        ensures { result ≡ [] }
+    {
+        Table {
+            slots: Vec::new(alloc),
+        }
+    }
+
     /// What a server says now, in place of what it said before. Of a server that the table lacks nothing is kept.
     pub fn put(&mut self, server: usize, value: T)
         ensures { self.new ≡ put self.old server value }
     {
         if let Some(slot) = self.slots.get_mut(server.saturating_sub(1)) {
             *slot = Some(value);
+        }
+    }
+
+    /// What a server has said, lent; none of a server that the table lacks.
+    pub fn said_by(&self, server: usize) -> Option<&T>
+        ensures { option_copied result ≡ said_by self.now server }
+    {
+        match self.slots.as_slice().get(server.saturating_sub(1)) {
+            Some(Some(said)) => Some(said),
+            _ => None,
         }
     }
 
