@@ -46,7 +46,8 @@ restored servers me stable = record {
 
 abbrev pub news_of : {C : Type 0} → State → Option ℕ → ℕ → Option ℕ → List (Message C)
 news_of state whom above commit =
-    news state.peer.me 1 state.peer.stable.promised whom (above + 1) (drop above state.peer.stable.history) commit (marks_of state.has)
+    news state.peer.me 1 state.peer.stable.promised whom (above + 1) (drop above state.peer.stable.history) commit
+    (marks_of state.has)
 
 -- the server after it, and the commit, if the count rose
 abbrev pub Settled : Type 0
@@ -64,7 +65,10 @@ counted passes state = commit_count passes state.has (length state.peer.stable.h
 abbrev pub settles : (List Bool → Bool) → State → Settled
 settles passes state =
     if nat_lt state.top (counted passes state)
-    then (record state { top = counted passes state; delivered = max state.delivered (counted passes state) }, Some (counted passes state))
+    then (
+      record state { top = counted passes state; delivered = max state.delivered (counted passes state) },
+      Some (counted passes state),
+    )
     else (state, None)
 
 -- ---- 6: AckLeader of the leader's epoch
@@ -89,12 +93,14 @@ entered state count = record state {
 
 abbrev pub enters : {C : Type 0} → (List Bool → Bool) → State → Acts C
 enters passes state =
-    tells_news None (length state.peer.stable.history) (entered state (counted passes state), Some (counted passes state))
+    tells_news None (length state.peer.stable.history)
+    (entered state (counted passes state), Some (counted passes state))
 
 -- a server that has so many is told the entries above and the commit; the others the commit, if the count rose
 abbrev pub catches_up : {C : Type 0} → (List Bool → Bool) → State → ℕ → ℕ → Option ℕ → List (Message C)
 catches_up passes state to above None =
-    tells_all state.peer.me to state.peer.stable.promised (above + 1) (drop above state.peer.stable.history) (Some (counted passes state))
+    tells_all state.peer.me to state.peer.stable.promised (above + 1) (drop above state.peer.stable.history)
+    (Some (counted passes state))
 catches_up passes state to above (Some commit) = news_of state (Some to) above (Some commit)
 
 abbrev pub catching_up : {C : Type 0} → (List Bool → Bool) → ℕ → ℕ → Settled → Acts C
@@ -204,12 +210,15 @@ by_peer state acts = (record state { peer = acts.0 }, acts.1)
 
 -- the history may be another; what is delivered is at most it
 abbrev pub with_peer : State → Peer → List (Option ℕ) → State
-with_peer state peer has = record state { peer = peer; delivered = min state.delivered (length peer.stable.history); has = has }
+with_peer state peer has =
+    record state { peer = peer; delivered = min state.delivered (length peer.stable.history); has = has }
 
 -- a leader that begins its epoch has its own length
 abbrev pub begun : {C : Type 0} → State → epoch_rules.Acts C → Acts C
-begun state acts =
-    (with_peer state acts.0 (put (silent_servers state.peer.servers) state.peer.me (length acts.0.stable.history)), acts.1)
+begun state acts = (
+  with_peer state acts.0 (put (silent_servers state.peer.servers) state.peer.me (length acts.0.stable.history)),
+  acts.1,
+)
 
 abbrev pub joined : {C : Type 0} → State → epoch_rules.Acts C → Acts C
 joined state acts = (with_peer state acts.0 state.has, acts.1)
@@ -234,4 +243,6 @@ ack_epoch passes state from epoch vote said =
 
 abbrev pub new_leader : {C : Type 0} → State → ℕ → ℕ → List Entry → Acts C
 new_leader state from epoch history =
-    if follows state.peer.role from then joined state (epoch_rules.new_leader state.peer from epoch history) else silent state
+    if follows state.peer.role from
+    then joined state (epoch_rules.new_leader state.peer from epoch history)
+    else silent state

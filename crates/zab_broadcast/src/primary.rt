@@ -39,23 +39,28 @@ pub trait Primary: Drop {
     /// Makes the entry of a call, which may follow the history.
     fn make(&self, call: &Self::Call, zxid: i64) -> Result<Entry, NoMemory>
         requires { (h : List Entry) × ((d : ℕ) × stands_for self.now h d) }
-        ensures { (h : List Entry) (d : ℕ) → stands_for self.now h d → IfOk result (λ entry. entry ≡ made_of h call.now zxid) };
+        ensures { (h : List Entry) (d : ℕ) → stands_for self.now h d
+            → IfOk result (λ entry. entry ≡ made_of h call.now zxid) };
 
     /// The history goes on with an entry. Once it was refused memory, a primary may only be dropped.
     fn taken(&mut self, entry: &Entry) -> Result<(), NoMemory>
         requires { (h : List Entry) × ((d : ℕ) × stands_for self.old h d) }
-        ensures { (h : List Entry) (d : ℕ) → stands_for self.old h d → OnOk result (stands_for self.new (h ++ entry.now ∷ []) d) };
+        ensures { (h : List Entry) (d : ℕ) → stands_for self.old h d
+            → OnOk result (stands_for self.new (h ++ entry.now ∷ []) d) };
 
     /// So many more entries are delivered.
     fn delivered(&mut self, count: usize)
         requires { (h : List Entry) × ((d : ℕ) × (stands_for self.old h d × (d + count ≤ length h))) }
-        ensures { (h : List Entry) (d : ℕ) → stands_for self.old h d → d + count ≤ length h → stands_for self.new h (d + count) };
+        ensures { (h : List Entry) (d : ℕ) → stands_for self.old h d → d + count ≤ length h
+            → stands_for self.new h (d + count) };
 
     /// What is made carries its zxid,
-    ghost made_zxid: { (h : List Entry) (call : Self.Call) (zxid : ℤ) → (made_of h call zxid).txn.zxid ≡ zxid };
+    ghost made_zxid: { (h : List Entry) (call : Self.Call) (zxid : ℤ)
+        → (made_of h call zxid).txn.zxid ≡ zxid };
 
     /// and the tag of its call.
-    ghost made_tag: { (h : List Entry) (call : Self.Call) (zxid : ℤ) → (made_of h call zxid).tag ≡ tag_of call };
+    ghost made_tag: { (h : List Entry) (call : Self.Call) (zxid : ℤ)
+        → (made_of h call zxid).tag ≡ tag_of call };
 
     ghost closing_tag: { (tag : ℕ) (session now : ℤ) → tag_of (closing_of tag session now) ≡ tag };
 }

@@ -10,7 +10,8 @@ use zk_path::NoMemory;
 
 /// A server, with what makes entries while it leads.
 ///
-/// Each rule answers the messages to send. Where memory is refused, the stable part is as it was, and the rest may not be.
+/// Each rule answers the messages to send. Where memory is refused, the stable part is as it was, and the rest may
+/// not be.
 #[derive(Drop)]
 pub struct Server<P: Primary> {
     state: State,
@@ -27,18 +28,21 @@ impl<P: Primary> Model for Server<P> {
     ghost view = { λ server. server.state };
 
     ghost invariant = { λ server. (server.state.delivered ≤ length server.state.peer.stable.history)
-        × IfSome server.primary (λ primary. P.stands_for primary server.state.peer.stable.history server.state.delivered) };
+        × IfSome server.primary
+        (λ primary. P.stands_for primary server.state.peer.stable.history server.state.delivered) };
 }
 
 impl<P: Primary> Server<P> {
     ghost use Rattle.std.specs.Prelude.{◌≡◌, ◌≢◌, ◌≤◌, ◌<◌, max, length, take, None, IfOk, OnOk, OnErr};
     ghost use Rattle.zab_epoch.specs.declared.fault.RuleFault.TheVariants as faults;
     ghost use Rattle.zab_broadcast.specs.Calls.{setting_of};
-    ghost use Rattle.zab_broadcast.specs.Rules.{restored, is_serving, lead, follow, c_epoch, new_epoch, ack_epoch, new_leader, ack_leader, submit, request, propose, ack, commit};
+    ghost use Rattle.zab_broadcast.specs.Rules.{restored, is_serving, lead, follow, c_epoch, new_epoch, ack_epoch};
+    ghost use Rattle.zab_broadcast.specs.Rules.{new_leader, ack_leader, submit, request, propose, ack, commit};
+    ghost use Rattle.zab_broadcast.specs.Rules.{begun, counted, settles, raised, enters, catches_up, tells_news};
+    ghost use Rattle.zab_broadcast.specs.Rules.{took, appends};
     ghost use Rattle.zab_epoch.specs.Rules.{ack_epoch as peer_ack_epoch};
-    ghost use Rattle.zab_broadcast.specs.Rules.{begun, took, settles, tells_news, counted, appends, catches_up, enters, raised};
 
-    /// A server that has started again with its stable part: it has delivered nothing, and is looking for a leader.
+    /// A server that has started again with its stable part: it has delivered nothing, and is Looking.
     pub fn restored(alloc: Global, servers: usize, me: usize, stable: Stable) -> Server<P>
         ensures { result ≡ restored servers me stable }
     {
@@ -118,7 +122,8 @@ impl<P: Primary> Server<P> {
         from: usize,
         promised: u32,
     ) -> Result<Messages<P::Call>, RuleFault>
-        ensures acts { result ≢ Err faults.NoMemory → (self.new, result) ≡ c_epoch (Q.passes quorums.now) self.old from promised }
+        ensures acts { result ≢ Err faults.NoMemory
+            → (self.new, result) ≡ c_epoch (Q.passes quorums.now) self.old from promised }
         ensures err { OnErr result (self.new.peer.stable ≡ self.old.peer.stable) }
     {
         self.state.peer.c_epoch(alloc, quorums, from, promised)
@@ -131,7 +136,8 @@ impl<P: Primary> Server<P> {
         from: usize,
         epoch: u32,
     ) -> Result<Messages<P::Call>, NoMemory>
-        ensures acts { IfOk result (λ messages. (self.new, Ok messages) ≡ new_epoch self.old from epoch) }
+        ensures acts { IfOk result (λ messages. (self.new, Ok messages)
+            ≡ new_epoch self.old from epoch) }
         ensures err { OnErr result (self.new ≡ self.old) }
     {
         self.state.peer.new_epoch(alloc, from, epoch)
@@ -147,7 +153,8 @@ impl<P: Primary> Server<P> {
         vote: bool,
         said: Vote,
     ) -> Result<Messages<P::Call>, NoMemory>
-        ensures acts { IfOk result (λ messages. (self.new, Ok messages) ≡ ack_epoch (Q.passes quorums.now) self.old from epoch vote said) }
+        ensures acts { IfOk result (λ messages. (self.new, Ok messages)
+            ≡ ack_epoch (Q.passes quorums.now) self.old from epoch vote said) }
         ensures err { OnErr result (self.new.peer.stable ≡ self.old.peer.stable) }
     {
         if self.state.peer.role.is_choosing() {
@@ -194,7 +201,8 @@ impl<P: Primary> Server<P> {
         epoch: u32,
         history: &History,
     ) -> Result<Messages<P::Call>, NoMemory>
-        ensures acts { IfOk result (λ messages. (self.new, Ok messages) ≡ new_leader self.old from epoch history.now) }
+        ensures acts { IfOk result (λ messages. (self.new, Ok messages)
+            ≡ new_leader self.old from epoch history.now) }
         ensures err { OnErr result (self.new ≡ self.old) }
     {
         if !self.state.peer.role.follows(from) {
@@ -266,7 +274,8 @@ impl<P: Primary> Server<P> {
         epoch: u32,
         length: u64,
     ) -> Result<Messages<P::Call>, NoMemory>
-        ensures acts { IfOk result (λ messages. (self.new, Ok messages) ≡ ack_leader (Q.passes quorums.now) self.old from epoch length) }
+        ensures acts { IfOk result (λ messages. (self.new, Ok messages)
+            ≡ ack_leader (Q.passes quorums.now) self.old from epoch length) }
         ensures err { OnErr result (self.new.peer.stable ≡ self.old.peer.stable) }
     {
         if epoch != self.state.peer.stable.promised {
@@ -296,7 +305,8 @@ impl<P: Primary> Server<P> {
         alloc: Global,
         quorums: &Q,
     ) -> Result<Messages<P::Call>, NoMemory>
-        ensures acts { IfOk result (λ messages. (self.new, Ok messages) ≡ enters (Q.passes quorums.now) self.old) }
+        ensures acts { IfOk result (λ messages. (self.new, Ok messages)
+            ≡ enters (Q.passes quorums.now) self.old) }
         ensures err { OnErr result (self.new.peer.stable ≡ self.old.peer.stable) }
     {
         let count = self.counted(alloc, quorums)?;
@@ -321,7 +331,8 @@ impl<P: Primary> Server<P> {
         above: usize,
         commit: Option<u64>,
     ) -> Result<Messages<P::Call>, NoMemory>
-        ensures { IfOk result (λ messages. messages ≡ catches_up (Q.passes quorums.now) self.now to above commit) }
+        ensures { IfOk result (λ messages. messages
+            ≡ catches_up (Q.passes quorums.now) self.now to above commit) }
     {
         if commit.is_some() {
             return self.state.news(alloc, Some(to), above, commit);
@@ -411,7 +422,8 @@ impl<P: Primary> Server<P> {
     /// Makes an entry of a call and takes it.
     fn take_call(&mut self, call: &P::Call, zxid: i64) -> Result<(), NoMemory>
         requires { self.old.made < 4294967295 }
-        ensures took { OnOk result (self.new ≡ took self.old (P.made_of self.old.peer.stable.history call.now zxid)) }
+        ensures took { OnOk result
+            (self.new ≡ took self.old (P.made_of self.old.peer.stable.history call.now zxid)) }
         ensures err { OnErr result (self.new.peer.stable ≡ self.old.peer.stable) }
     {
         let Some(mut primary) = self.primary.take() else {
@@ -435,7 +447,8 @@ impl<P: Primary> Server<P> {
         quorums: &Q,
         above: usize,
     ) -> Result<Messages<P::Call>, NoMemory>
-        ensures acts { IfOk result (λ messages. (self.new, Ok messages) ≡ tells_news None above (settles (Q.passes quorums.now) self.old)) }
+        ensures acts { IfOk result (λ messages. (self.new, Ok messages)
+            ≡ tells_news None above (settles (Q.passes quorums.now) self.old)) }
         ensures err { self.new.peer.stable ≡ self.old.peer.stable }
     {
         let commit = self.settle(alloc, quorums)?;
@@ -444,7 +457,8 @@ impl<P: Primary> Server<P> {
 
     /// Drops the entries above a length, which were not told to anyone.
     fn forget(&mut self, length: usize)
-        ensures { self.new.peer.stable ≡ record self.old.peer.stable { history = take length self.old.peer.stable.history } }
+        ensures { self.new.peer.stable
+            ≡ record self.old.peer.stable { history = take length self.old.peer.stable.history } }
     {
         self.primary = None;
         self.state.peer.stable.history.truncate(length);
@@ -461,7 +475,8 @@ impl<P: Primary> Server<P> {
         index: u64,
         entry: &Entry,
     ) -> Result<Messages<P::Call>, NoMemory>
-        ensures acts { IfOk result (λ messages. (self.new, Ok messages) ≡ propose self.old from epoch index entry.now) }
+        ensures acts { IfOk result (λ messages. (self.new, Ok messages)
+            ≡ propose self.old from epoch index entry.now) }
         ensures err { OnErr result (self.new ≡ self.old) }
     {
         let mut messages = Messages::new(alloc);
@@ -483,7 +498,8 @@ impl<P: Primary> Server<P> {
         epoch: u32,
         length: u64,
     ) -> Result<Messages<P::Call>, NoMemory>
-        ensures acts { IfOk result (λ messages. (self.new, Ok messages) ≡ ack (Q.passes quorums.now) self.old from epoch length) }
+        ensures acts { IfOk result (λ messages. (self.new, Ok messages)
+            ≡ ack (Q.passes quorums.now) self.old from epoch length) }
         ensures err { OnErr result (self.new.peer.stable ≡ self.old.peer.stable) }
     {
         match &self.state.peer.role {

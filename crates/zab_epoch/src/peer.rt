@@ -12,7 +12,8 @@ use zk_path::NoMemory;
 
 /// A server in phases 1 and 2.
 ///
-/// Each rule answers the messages to send. Where it is refused, the stable part is as it was, and the role may not be.
+/// Each rule answers the messages to send. Where it is refused, the stable part is as it was, and the role may not
+/// be.
 #[derive(Debug, Drop)]
 pub struct Peer {
     /// The server's number, from 1.
@@ -27,7 +28,8 @@ impl Peer {
     ghost use Rattle.std.specs.Prelude.{◌≡◌, ◌≢◌, false, IfOk, OnErr};
     ghost use Rattle.zab_epoch.specs.declared.role.Role.TheVariants as roles;
     ghost use Rattle.zab_epoch.specs.declared.fault.RuleFault.TheVariants as faults;
-    ghost use Rattle.zab_epoch.specs.Rules.{lead, follow, c_epoch, new_epoch, ack_epoch, new_leader, chooses, next_epoch, begins};
+    ghost use Rattle.zab_epoch.specs.Rules.{lead, follow, c_epoch, new_epoch, ack_epoch, new_leader};
+    ghost use Rattle.zab_epoch.specs.Rules.{next_epoch, chooses, begins};
     ghost use Rattle.zab_epoch.specs.Roles.{is_choosing};
 
     /// A server that has started again with its stable part: it is looking for a leader.
@@ -107,7 +109,8 @@ impl Peer {
         heard: &[bool],
         top: u32,
     ) -> Result<Messages<C>, RuleFault>
-        ensures acts { result ≢ Err faults.NoMemory → (self.new, result) ≡ chooses self.old heard.now (next_epoch top) }
+        ensures acts { result ≢ Err faults.NoMemory
+            → (self.new, result) ≡ chooses self.old heard.now (next_epoch top) }
         ensures history { self.new.stable.history ≡ self.old.stable.history }
         ensures err { OnErr result (self.new.stable ≡ self.old.stable) }
     {
@@ -131,7 +134,8 @@ impl Peer {
         from: usize,
         epoch: u32,
     ) -> Result<Messages<C>, NoMemory>
-        ensures acts { IfOk result (λ messages. (self.new, Ok messages) ≡ new_epoch self.old from epoch) }
+        ensures acts { IfOk result (λ messages. (self.new, Ok messages)
+            ≡ new_epoch self.old from epoch) }
         ensures history { self.new.stable.history ≡ self.old.stable.history }
         ensures err { OnErr result (self.new ≡ self.old) }
     {
@@ -160,8 +164,10 @@ impl Peer {
         vote: bool,
         said: Vote,
     ) -> Result<Messages<C>, NoMemory>
-        ensures acts { IfOk result (λ messages. (self.new, Ok messages) ≡ ack_epoch (Q.passes quorums.now) self.old from epoch vote said) }
-        ensures history { is_choosing self.old.role ≡ false → self.new.stable.history ≡ self.old.stable.history }
+        ensures acts { IfOk result (λ messages. (self.new, Ok messages)
+            ≡ ack_epoch (Q.passes quorums.now) self.old from epoch vote said) }
+        ensures history { is_choosing self.old.role ≡ false
+            → self.new.stable.history ≡ self.old.stable.history }
         ensures err { OnErr result (self.new.stable ≡ self.old.stable) }
     {
         let mut messages = Messages::new(alloc);
@@ -197,7 +203,8 @@ impl Peer {
         joiners: &[bool],
         history: History,
     ) -> Result<Messages<C>, NoMemory>
-        ensures acts { IfOk result (λ messages. (self.new, Ok messages) ≡ begins self.old joiners.now history) }
+        ensures acts { IfOk result (λ messages. (self.new, Ok messages)
+            ≡ begins self.old joiners.now history) }
         ensures err { OnErr result (self.new ≡ self.old) }
     {
         let epoch = self.stable.promised;
@@ -216,7 +223,8 @@ impl Peer {
         epoch: u32,
         history: &History,
     ) -> Result<Messages<C>, NoMemory>
-        ensures acts { IfOk result (λ messages. (self.new, Ok messages) ≡ new_leader self.old from epoch history.now) }
+        ensures acts { IfOk result (λ messages. (self.new, Ok messages)
+            ≡ new_leader self.old from epoch history.now) }
         ensures err { OnErr result (self.new ≡ self.old) }
     {
         let mut messages = Messages::new(alloc);

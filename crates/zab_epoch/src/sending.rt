@@ -33,7 +33,8 @@ pub(crate) fn new_leaders<C: Drop>(
     history: &History,
     marks: &[bool],
 ) -> Result<Messages<C>, NoMemory>
-    ensures { IfOk result (λ messages. messages ≡ to_others me 1 (say.NewLeader epoch history.now) marks.now) }
+    ensures { IfOk result (λ messages. messages
+        ≡ to_others me 1 (say.NewLeader epoch history.now) marks.now) }
 {
     let mut messages = Messages::new(alloc);
     for (index, mark) in marks.iter().enumerate() {

@@ -42,7 +42,7 @@ impl<T: Drop> Table<T> {
         }
     }
 
-    /// What a server says now, in place of what it said before. Of a server that the table lacks nothing is kept.
+    /// What a server says now, in place of what it said before. Nothing is kept of a server that the table lacks.
     pub fn put(&mut self, server: usize, value: T)
         ensures { self.new ≡ put self.old server value }
     {
