@@ -1,4 +1,5 @@
 pub mod AclLaws
+pub mod Appending
 pub mod DecimalLaws
 pub mod EachLaws
 pub mod Exact

@@ -16,8 +16,6 @@ mod ranges;
 mod readers;
 mod report;
 mod spelling;
-#[cfg(test)]
-mod tests;
 
 pub use assembling::assemble;
 pub use fault::{ListCause, ListFault};

@@ -4,7 +4,7 @@ ghost use Rattle.std.specs.String.{string_bytes};
 ghost use Rattle.zk_listing.specs.Listings.{IsListed, HasCountedAcls, listing_of, line_of, op_text, sub_text, part_text, create_text, delete_text, set_data_text, set_acl_text, check_text, error_text, ephemeral_text, header_text};
 
 use crate::ranges::{txn_is_listed, txns_are_listed};
-use crate::spelling::{push_id, spell_acl, spell_content, spell_quoted};
+use crate::spelling::{push_id, spell_acl, spell_content, spell_next_id, spell_quoted};
 use std::alloc::Global;
 use zk_acl::Acls;
 use zk_path::{NoMemory, Path};
@@ -52,8 +52,7 @@ fn spell_header(text: &mut String, txn: &Txn) -> Result<(), NoMemory>
     ensures { OnOk result (string_bytes text.new ≡ string_bytes text.old ++ header_text txn.now) }
 {
     push_id(text, txn.zxid)?;
-    text.push(' ')?;
-    push_id(text, txn.session)?;
+    spell_next_id(text, txn.session)?;
     write!(text, " {} {}", txn.cxid, txn.time)?;
     Ok(())
 }

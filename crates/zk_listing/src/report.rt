@@ -35,7 +35,8 @@ fn spell_node_line(line: &mut String, path: &Path, node: &Node, stat: &Stat) -> 
     line.push(' ')?;
     spell_acl(line, &node.acl)?;
     line.push(' ')?;
-    spell_stat(line, stat)
+    spell_stat(line, stat)?;
+    Ok(())
 }
 
 /// Appends the line of what a transaction answered, without a newline: `result`, its number, its code, path and stat,
@@ -57,7 +58,8 @@ fn spell_result_line(line: &mut String, answer: &TxnResult) -> Result<(), NoMemo
     push_id(line, answer.zxid)?;
     line.push(' ')?;
     spell_answer(line, answer.err, &answer.path, &answer.stat)?;
-    spell_part_answers(line, answer.parts.as_slice())
+    spell_part_answers(line, answer.parts.as_slice())?;
+    Ok(())
 }
 
 /// Appends the answers of a multi's parts, each behind its separator.
@@ -84,7 +86,8 @@ fn spell_answer(
     write!(line, "{err} ")?;
     spell_path_or_dash(line, path)?;
     line.push(' ')?;
-    spell_stat_or_dash(line, stat)
+    spell_stat_or_dash(line, stat)?;
+    Ok(())
 }
 
 /// Appends a path, or `-`.

@@ -1,6 +1,6 @@
 //! The spelling of fields. What is public appends a whole field, or nothing where memory is refused; what is not leaves a
 //! part behind then, and goes into a text of its own.
-ghost use Rattle.std.specs.Prelude.{◌≡◌, ◌++◌, OnErr, OnOk};
+ghost use Rattle.std.specs.Prelude.{◌≡◌, ◌++◌, ◌∷◌, OnErr, OnOk};
 ghost use Rattle.std.specs.List.{flat_map, list_any};
 ghost use Rattle.std.specs.Option.{option_copied};
 ghost use Rattle.std.specs.Str.{chars};
@@ -28,6 +28,15 @@ pub fn push_id(line: &mut String, id: i64) -> Result<(), NoMemory>
     ensures unchanged { OnErr result (string_bytes line.new ≡ string_bytes line.old) }
 {
     push_digits(line, id.cast_unsigned())
+}
+
+/// Appends a space and the digits of a number.
+pub(crate) fn spell_next_id(line: &mut String, id: i64) -> Result<(), NoMemory>
+    ensures { OnOk result (string_bytes line.new ≡ string_bytes line.old ++ 32 ∷ id_digits id) }
+{
+    line.push_str(" ")?;
+    push_id(line, id)?;
+    Ok(())
 }
 
 /// Appends a text between quotes. Quotes, backslashes and control characters are escaped.
@@ -68,8 +77,14 @@ fn spell_between_quotes(line: &mut String, text: &str) -> Result<(), NoMemory>
 fn has_escaped(text: &str) -> bool
     ensures { result ≡ list_any is_escaped text.now }
 {
-    text.bytes()
-        .any(|b| b == b'"' || b == b'\\' || b.is_ascii_control())
+    text.bytes().any(is_escaped)
+}
+
+/// Whether a byte doesn't stand for itself between quotes.
+fn is_escaped(byte: u8) -> bool
+    ensures { result ≡ is_escaped byte }
+{
+    byte == b'"' || byte == b'\\' || byte.is_ascii_control()
 }
 
 /// Appends a character as it stands between quotes.
@@ -142,10 +157,12 @@ pub(crate) fn spell_acl(line: &mut String, acl: &Acls) -> Result<(), NoMemory>
 fn spell_acl_entry(line: &mut String, entry: &Acl) -> Result<(), NoMemory>
     ensures { OnOk result (string_bytes line.new ≡ string_bytes line.old ++ acl_entry_text entry.now) }
 {
-    write!(line, " {} ", entry.perms)?;
+    write!(line, " {}", entry.perms)?;
+    line.push(' ')?;
     spell_quoted(line, entry.id.scheme.as_str())?;
     line.push(' ')?;
-    spell_quoted(line, entry.id.id.as_str())
+    spell_quoted(line, entry.id.id.as_str())?;
+    Ok(())
 }
 
 /// Appends a stat's eleven fields.
@@ -167,7 +184,8 @@ pub(crate) fn spell_stat(line: &mut String, stat: &Stat) -> Result<(), NoMemory>
     line.push(' ')?;
     spell_stat_versions(line, stat)?;
     line.push(' ')?;
-    spell_stat_rest(line, stat)
+    spell_stat_rest(line, stat)?;
+    Ok(())
 }
 
 /// Appends a stat's first four fields.
@@ -176,8 +194,7 @@ fn spell_stat_times(line: &mut String, stat: &Stat) -> Result<(), NoMemory>
     ensures { OnOk result (string_bytes line.new ≡ string_bytes line.old ++ stat_times stat.now) }
 {
     push_id(line, stat.czxid)?;
-    line.push(' ')?;
-    push_id(line, stat.mzxid)?;
+    spell_next_id(line, stat.mzxid)?;
     write!(line, " {} {}", stat.ctime, stat.mtime)?;
     Ok(())
 }
@@ -197,6 +214,7 @@ fn spell_stat_rest(line: &mut String, stat: &Stat) -> Result<(), NoMemory>
     ensures { OnOk result (string_bytes line.new ≡ string_bytes line.old ++ stat_rest stat.now) }
 {
     push_id(line, stat.ephemeral_owner)?;
-    write!(line, " {} {} ", stat.data_length, stat.num_children)?;
-    push_id(line, stat.pzxid)
+    write!(line, " {} {}", stat.data_length, stat.num_children)?;
+    spell_next_id(line, stat.pzxid)?;
+    Ok(())
 }

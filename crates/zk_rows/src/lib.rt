@@ -10,6 +10,8 @@ mod acl_rows;
 #[cfg(test)]
 mod jute_rows;
 #[cfg(test)]
+mod listing_rows;
+#[cfg(test)]
 mod log_rows;
 #[cfg(test)]
 mod path_rows;
