@@ -1,20 +1,21 @@
 -- Trees whose sessions' nodes are noted: what a change of one node does to them.
 use Rattle.std.proofs.Common.{◌≡◌, ◌≢◌, ℕ, ℤ, pos, Bool, true, false, cond, not, ◌||◌, ◌&&◌, ◌==◌, List, [], ◌∷◌, length, unwrap_or, codes, is_some, IsSome, Option, Some, None, refl, sym, ap, subst, ◌∙◌}
-use Rattle.std.proofs.lemmas.Bool.{false≢true, eqb-true, eqb-false}
+use Rattle.std.proofs.lemmas.Bool.{false≢true, and_parts, eqb-true, eqb-false}
 use Rattle.std.proofs.lemmas.Cmp.{nat_list_cmp_total, int_cmp_total, eq_by_cmp_equiv}
 use Rattle.std.specs.FinMap as finite
 use Rattle.std.specs.FinMap.{int_cmp-IsAntisymmetric}
+use Rattle.std.specs.List.{list_any}
 use Rattle.std.specs.Option.{option_map}
 use Rattle.std.specs.Ordering.{eq_by_cmp, int_cmp, int_eq}
-use Rattle.zk_path.specs.Paths.{parent_of, is_root, before_last_slash}
+use Rattle.zk_path.specs.Paths.{parent_of}
 use Rattle.zk_table.specs.declared.node.Node.{Node}
-use Rattle.zk_table.specs.States.{NodeMap, path_cmp, children_of}
+use Rattle.zk_table.specs.States.{NodeMap, path_cmp, is_child_of, children_of}
 use Rattle.zk_tree.specs.Owners.{set_at, set_found, with_owned, with_set, without_owned, is_noted, is_owner, IsOwned}
 use Rattle.zk_tree.specs.Trees.{IsTree, owner_at}
 use Rattle.zk_tree.specs.Views.{PathKeys, OwnerMap}
-use Rattle.zk_tree.proofs.Branching.{none_not_some, is_child}
-use Rattle.zk_tree.proofs.Kept.{tied, tests_alike, contains_key-insert, contains_key-remove, get-insert_itself}
-use Rattle.zk_tree.proofs.Lists.{same_is, same_itself, no_children}
+use Rattle.zk_tree.proofs.Branching.{none_not_some, is_child, child_parent}
+use Rattle.zk_tree.proofs.Kept.{tied, contains_key-insert, contains_key-remove, get-insert_itself}
+use Rattle.zk_tree.proofs.Lists.{same_is, same_itself, no_children, any-children_of}
 
 -- ---- sessions
 
@@ -140,20 +141,6 @@ none_free nodes q e = from (finite.get nodes q) e
     from : (x : Option Node) → is_some x ≡ false → x ≡ None
     from None e = refl
     from (Some n) e = absurd (false≢true (sym e))
-
-pub free_node : (nodes : NodeMap) (q : List ℕ) → finite.contains_key nodes q ≡ false → finite.get nodes q ≡ None
-free_node = none_free
-
-pub owner_there : (nodes : NodeMap) (q : List ℕ) (z : ℤ) → owner_at nodes q ≡ Some z → finite.contains_key nodes q ≡ true
-owner_there = some_owner
-
--- a free path is not the root's, and so has a parent
-pub has_parent : (nodes : NodeMap) (path : List ℕ) → IsTree nodes → finite.contains_key nodes path ≡ false → IsSome (parent_of path)
-has_parent nodes path tree free =
-    elim (is_root path) as (λ b. is_root path ≡ b → IsSome (cond b None (Some (cond (length (before_last_slash path) == 0) (47 ∷ []) (before_last_slash path))))) [
-      | true ↦ λ e. absurd (false≢true (sym free ∙ ap (finite.contains_key nodes) (sym (same_is (47 ∷ []) path (sym (tests_alike path (47 ∷ [])) ∙ e))) ∙ some_owner nodes (codes "/") (pos 0) tree.root))
-      | false ↦ λ e. refl
-    ] refl
 
 pub parent_there : (path : List ℕ) → IsSome (parent_of path) → (above : List ℕ) × (parent_of path ≡ Some above)
 parent_there path some = from (parent_of path) some
@@ -353,3 +340,14 @@ module _ (root : List ℕ) (node : Node) (is : root ≡ codes "/") (free : node.
     noted = λ s q. noted_nowhere s q ∙ sym (ap (is_owner s) (get-alone q) ∙ nobody_owns s q);
     filled = λ s set there. absurd (none_not_some (finite.get-empty int_cmp s) there);
   }
+
+-- ---- what has an owner has no children
+
+pub owned_childless : (nodes : NodeMap) (path : List ℕ) → IsTree nodes → (owner_at nodes path ≡ Some (pos 0) → ⊥) → length (children_of nodes path) ≡ 0
+owned_childless nodes path tree owned = from (children_of nodes path) (any-children_of nodes path)
+  where
+    from : (xs : List (List ℕ)) → ((q : List ℕ) → (is_child_of path q && finite.contains_key nodes q) ≡ list_any (eq_by_cmp path_cmp q) xs) → length xs ≡ 0
+    from [] any = refl
+    from (x ∷ xs) any =
+        let both = and_parts (is_child_of path x) (finite.contains_key nodes x) (any x ∙ ap (λ b. b || list_any (eq_by_cmp path_cmp x) xs) (same_itself x)) in
+        absurd (owned (tree.parents x path both.1 (child_parent path x both.0)))
