@@ -1,7 +1,7 @@
 #!/usr/bin/env bash
 # Logs to listings and back by the proved program, on files and on standard streams: the first log against its listing,
 # the real server's log against itself, and what stays of an output where a text is refused.
-set -eu
+set -euo pipefail
 work=$(mktemp -d)
 trap 'rm -rf "$work"' EXIT
 zk=crates/zk_cli/out/zk_cli

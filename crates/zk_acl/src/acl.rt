@@ -3,6 +3,7 @@ ghost use Rattle.std.specs.Prelude.{◌≡◌, IfOk};
 use crate::text::Text;
 use std::alloc::Global;
 use std::marker::Model;
+use std::sync::Arc;
 use zk_path::NoMemory;
 
 /// Who is meant: a scheme and an identity in it.
@@ -47,35 +48,30 @@ impl Acl {
     }
 }
 
-/// An access control list, seen as its entries in order.
+/// An access control list, seen as its entries in order. Copies share the entries.
 #[derive(Debug, Drop)]
 pub struct Acls {
-    entries: Vec<Acl>,
+    entries: Arc<Vec<Acl>>,
 }
 
 impl Model for Acls {
+    ghost use Rattle.std.specs.Arc.{arc_value};
     ghost use Rattle.std.specs.Prelude.{List};
     ghost use Rattle.zk_acl.specs.declared.acl.Acl.{Acl};
 
     ghost Value = { List Acl };
 
-    ghost view = { λ acls. acls.entries.items };
+    ghost view = { λ acls. (arc_value acls.entries).items };
 }
 
 impl Acls {
-    /// The list of these entries, without memory.
-    pub fn new(entries: Vec<Acl>) -> Acls
-        ensures { result ≡ entries.items }
+    /// The list of these entries.
+    pub fn new(alloc: Global, entries: Vec<Acl>) -> Result<Acls, NoMemory>
+        ensures { IfOk result (λ acls. acls ≡ entries.items) }
     {
-        Acls { entries }
-    }
-
-    /// The entries, without memory.
-    pub fn into_vec(self) -> Vec<Acl>
-        ensures { result.items ≡ self }
-    {
-        let Acls { entries } = self;
-        entries
+        Ok(Acls {
+            entries: Arc::new(alloc, entries)?,
+        })
     }
 
     /// The entries, lent.
@@ -85,14 +81,13 @@ impl Acls {
         self.entries.as_slice()
     }
 
-    /// The same list once more.
+    /// The same list once more, over the same entries: no memory is taken. [`NoMemory`] says that the count of the
+    /// list's owners is full.
     pub fn copy(&self) -> Result<Acls, NoMemory>
         ensures { IfOk result (λ copy. copy ≡ self.now) }
     {
-        let mut entries = Vec::new(*self.entries.allocator());
-        for acl in &self.entries {
-            entries.push(acl.copy()?)?;
-        }
-        Ok(Acls { entries })
+        Ok(Acls {
+            entries: Arc::try_clone(&self.entries)?,
+        })
     }
 }

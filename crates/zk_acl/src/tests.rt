@@ -22,7 +22,7 @@ fn copies_are_the_same(rt: HostRuntime) -> Result<(), Fail> {
     let mut entries = Vec::new(rt.alloc());
     entries.push(acl)?;
     entries.push(copy)?;
-    let acls = Acls::new(entries);
+    let acls = Acls::new(rt.alloc(), entries)?;
     let twice = acls.copy()?;
     assert_eq!(rt; acls.as_slice().len(), 2);
     for entry in twice.as_slice() {
@@ -30,6 +30,5 @@ fn copies_are_the_same(rt: HostRuntime) -> Result<(), Fail> {
         assert_eq!(rt; entry.id.scheme.as_str(), "world");
         assert_eq!(rt; entry.id.id.copy()?.as_str(), "anyone");
     }
-    assert_eq!(rt; twice.into_vec().len(), 2);
     Ok(())
 }

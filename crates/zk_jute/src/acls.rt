@@ -29,7 +29,7 @@ fn entries(alloc: Global, count: u32, input: &mut &[u8]) -> Result<Acls, JuteFau
     for _ in 0..count {
         entries.push(acl(alloc, input)?)?;
     }
-    Ok(Acls::new(entries))
+    Ok(Acls::new(alloc, entries)?)
 }
 
 /// A vector of `ACL`.

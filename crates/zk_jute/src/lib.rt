@@ -21,6 +21,3 @@ pub use laws::{records_end_by_themselves, short_transactions_have_records};
 pub use reading::read_txn;
 pub use sizes::size;
 pub use writing::write_txn;
-
-#[cfg(test)]
-mod tests;

@@ -158,7 +158,7 @@ fn content_of_digits(alloc: Global, digits: &str) -> Result<Option<Content>, Lis
         return Err(ListCause::Hex);
     }
     match hex::decode(alloc, digits) {
-        Ok(bytes) => Ok(Some(Content::new(bytes))),
+        Ok(bytes) => Ok(Some(Content::new(alloc, bytes)?)),
         Err(FromHexError::OutOfMemory) => Err(ListCause::NoMemory),
         Err(_) => Err(ListCause::Hex),
     }

@@ -75,7 +75,7 @@ fn entries(alloc: Global, count: u32, input: &mut &str) -> Result<Acls, ListCaus
     for _ in 0..count {
         entries.push(entry(alloc, input)?)?;
     }
-    Ok(Acls::new(entries))
+    Ok(Acls::new(alloc, entries)?)
 }
 
 /// A space, and the fields of an entry.

@@ -74,7 +74,7 @@ fn for_anyone(rt: &HostRuntime) -> Result<Acls, Fail> {
         perms: 31,
         id: Id { scheme, id },
     })?;
-    Ok(Acls::new(acl))
+    Ok(Acls::new(rt.alloc(), acl)?)
 }
 
 fn create(rt: &HostRuntime) -> Result<Op, Fail> {
@@ -325,7 +325,7 @@ const STAT_TEXT: &str =
 fn nodes_have_lines(rt: HostRuntime) -> Result<(), Fail> {
     let node = Node {
         content: Some(Content::read(rt.alloc(), b"hi")?),
-        acl: Acls::new(Vec::new(rt.alloc())),
+        acl: Acls::new(rt.alloc(), Vec::new(rt.alloc()))?,
         czxid: 0,
         mzxid: 0,
         pzxid: 0,

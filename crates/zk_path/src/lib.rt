@@ -12,6 +12,3 @@ mod path;
 pub use fault::PathFault;
 pub use memory::NoMemory;
 pub use path::Path;
-
-#[cfg(test)]
-mod tests;

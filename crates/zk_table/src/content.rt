@@ -2,45 +2,39 @@ ghost use Rattle.std.specs.Prelude.{◌≡◌, IfOk};
 
 use std::alloc::Global;
 use std::marker::Model;
+use std::sync::Arc;
 use zk_path::NoMemory;
 
-/// The bytes that a node holds, which the standard calls its data.
+/// The bytes that a node holds, which the standard calls its data. Copies share the bytes.
 #[derive(Debug, Drop)]
 pub struct Content {
-    bytes: Vec<u8>,
+    bytes: Arc<Vec<u8>>,
 }
 
 impl Model for Content {
+    ghost use Rattle.std.specs.Arc.{arc_value};
     ghost use Rattle.std.specs.Prelude.{List, ℕ};
 
     ghost Value = { List ℕ };
 
-    ghost view = { λ content. content.bytes.items };
+    ghost view = { λ content. (arc_value content.bytes).items };
 }
 
 impl Content {
-    /// The content of these bytes, without memory.
-    pub fn new(bytes: Vec<u8>) -> Content
-        ensures { result ≡ bytes.items }
+    /// The content of these bytes.
+    pub fn new(alloc: Global, bytes: Vec<u8>) -> Result<Content, NoMemory>
+        ensures { IfOk result (λ content. content ≡ bytes.items) }
     {
-        Content { bytes }
+        Ok(Content {
+            bytes: Arc::new(alloc, bytes)?,
+        })
     }
 
     /// Content of a copy of these bytes.
     pub fn read(alloc: Global, bytes: &[u8]) -> Result<Content, NoMemory>
         ensures { IfOk result (λ content. content ≡ bytes.now) }
     {
-        Ok(Content {
-            bytes: Vec::from_slice(alloc, bytes)?,
-        })
-    }
-
-    /// The bytes, without memory.
-    pub fn into_vec(self) -> Vec<u8>
-        ensures { result.items ≡ self }
-    {
-        let Content { bytes } = self;
-        bytes
+        Content::new(alloc, Vec::from_slice(alloc, bytes)?)
     }
 
     /// The bytes, lent.
@@ -50,12 +44,13 @@ impl Content {
         self.bytes.as_slice()
     }
 
-    /// The same content once more.
+    /// The same content once more, over the same bytes: no memory is taken. [`NoMemory`] says that the count of the
+    /// bytes' owners is full.
     pub fn copy(&self) -> Result<Content, NoMemory>
         ensures { IfOk result (λ copy. copy ≡ self.now) }
     {
         Ok(Content {
-            bytes: Vec::from_slice(*self.bytes.allocator(), &self.bytes)?,
+            bytes: Arc::try_clone(&self.bytes)?,
         })
     }
 }

@@ -39,10 +39,9 @@ impl Node {
     pub(crate) fn first(alloc: Global) -> Result<Node, NoMemory>
         ensures { IfOk result (λ node. node ≡ first_node) }
     {
-        let acl = open_to_all(alloc)?;
         Ok(Node {
-            content: Some(Content::new(Vec::new(alloc))),
-            acl,
+            content: Some(Content::new(alloc, Vec::new(alloc))?),
+            acl: open_to_all(alloc)?,
             czxid: 0,
             mzxid: 0,
             pzxid: 0,
@@ -157,7 +156,7 @@ fn open_to_all(alloc: Global) -> Result<Acls, NoMemory>
         perms: 31,
         id: Id { scheme, id },
     })?;
-    Ok(Acls::new(entries))
+    Acls::new(alloc, entries)
 }
 
 /// A copy of a node's content.

@@ -1,7 +1,7 @@
 ghost use Rattle.std.specs.Prelude.{◌≡◌, ◌<◌, ◌≤◌, length, MatchResult, IfOk, OnOk, OnErr};
 ghost use Rattle.std.specs.FinMap as finite;
 ghost use Rattle.std.specs.Option.{option_copied};
-ghost use Rattle.zk_table.specs.Nodes.{with_child, without_child, written, guarded};
+ghost use Rattle.zk_table.specs.Nodes.{first_node, with_child, without_child, written, guarded};
 ghost use Rattle.zk_table.specs.Places.{place_of};
 ghost use Rattle.zk_table.specs.States.{path_cmp, is_child_of, children_of, owned_by, changed};
 
@@ -57,6 +57,13 @@ fn is_child_of(path: &Path, parent: &str) -> bool
     ensures { result ≡ is_child_of parent.now path.now }
 {
     path.parent().is_some_and(|above| above == parent)
+}
+
+/// The path of a text that is one, so that it is refused for want of memory alone.
+fn fixed_path(alloc: Global, text: &str) -> Result<Path, NoMemory>
+    ensures { IfOk result (λ path. path ≡ text.now) }
+{
+    Path::read(alloc, text).map_err(|_| NoMemory)
 }
 
 impl Nodes {
@@ -143,6 +150,15 @@ impl Nodes {
             Err(at) => self.entries.insert(at, (path, node))?,
         }
         Ok(())
+    }
+
+    /// Puts a node at a path that stands there before any transaction.
+    pub(crate) fn plant(&mut self, text: &str) -> Result<(), NoMemory>
+        ensures { OnOk result (self.new ≡ finite.insert self.old text.now first_node) }
+    {
+        let path = fixed_path(self.allocator(), text)?;
+        let node = Node::first(self.allocator())?;
+        self.insert(path, node)
     }
 
     /// Takes the node at a path away, where there is one.

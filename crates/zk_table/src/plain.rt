@@ -43,9 +43,9 @@ impl Plain {
         ensures { IfOk result (λ plain. plain ≡ start_state) }
     {
         let mut nodes = Nodes::new(alloc);
-        nodes.insert(fixed_path(alloc, "/")?, Node::first(alloc)?)?;
-        nodes.insert(fixed_path(alloc, "/zookeeper")?, Node::first(alloc)?)?;
-        nodes.insert(fixed_path(alloc, "/zookeeper/quota")?, Node::first(alloc)?)?;
+        nodes.plant("/")?;
+        nodes.plant("/zookeeper")?;
+        nodes.plant("/zookeeper/quota")?;
         Ok(Plain {
             nodes,
             sessions: Sessions::new(alloc),
@@ -184,11 +184,4 @@ pub(crate) fn plain_answer(err: i32) -> PartResult
         path: None,
         stat: None,
     }
-}
-
-/// The path of a text that is one, so that it is refused for want of memory alone.
-fn fixed_path(alloc: Global, text: &str) -> Result<Path, NoMemory>
-    ensures { IfOk result (λ path. path ≡ text.now) }
-{
-    Path::read(alloc, text).map_err(|_| NoMemory)
 }

@@ -33,8 +33,8 @@ fn path_of(alloc: Global, text: &str) -> Result<Path, Fail> {
 }
 
 fn read_content(alloc: Global, text: &str) -> Result<Content, Fail> {
-    let read = Content::read(alloc, text.as_bytes())?;
-    Ok(Content::new(read.copy()?.into_vec()))
+    let bytes = Vec::from_slice(alloc, text.as_bytes())?;
+    Ok(Content::new(alloc, bytes)?.copy()?)
 }
 
 fn content_of(alloc: Global, text: Option<&str>) -> Result<Option<Content>, Fail> {
@@ -50,7 +50,7 @@ fn acl_of(alloc: Global, perms: i32) -> Result<Acls, Fail> {
         scheme: Text::read(alloc, "world")?,
         id: Text::read(alloc, "anyone")?,
     };
-    Ok(Acls::new(vec![in alloc; Acl { perms, id }]?))
+    Ok(Acls::new(alloc, vec![in alloc; Acl { perms, id }]?)?)
 }
 
 fn create(alloc: Global, row: Row, ephemeral: bool) -> Result<Sub, Fail> {

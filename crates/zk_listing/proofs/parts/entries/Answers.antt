@@ -14,4 +14,4 @@ loop-preserved c =
 
 pub returns : goal.returns
 returns c =
-    rw c.new.ensures (is_done entry_at c.loop.entries.items c.args.count c.loop.counter c.loop.input.now (many_at entry_at c.args.count c.args.input.now.now) c.loop-test.false c.loop.invariant)
+    rw c.in_ok-new.ensures (is_done entry_at c.loop.entries.items c.args.count c.loop.counter c.loop.input.now (many_at entry_at c.args.count c.args.input.now.now) c.loop-test.false c.loop.invariant)

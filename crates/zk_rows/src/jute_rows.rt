@@ -1,7 +1,9 @@
-use super::*;
+//! Rows of `zk_jute`.
+
 use std::alloc::Global;
 use std::test::*;
 use zk_acl::Acls;
+use zk_jute::{JuteFault, read_txn, size, write_txn};
 use zk_path::Path;
 use zk_table::{Content, Op, Sub, Txn};
 
