@@ -6,3 +6,7 @@ pub mod Parts
 pub mod Orders
 pub mod Search
 pub mod Kept
+pub mod Timeouts
+pub mod Families
+pub mod Owned
+pub mod Restores

@@ -123,22 +123,17 @@ module _ (t u : NoteMap) (m n : NodeMap) (path : List ℕ) (is : u ≡ noted t p
 pub before_nothing : (m : NodeMap) → nodes_before finite.empty m ≡ m
 before_nothing m = finite.same_map nat_list_cmp_total path_cmp-IsAntisymmetric _ _ (λ q. get-nodes_before finite.empty m q ∙ ap (λ x. was x (finite.get m q)) (finite.get-empty path_cmp q))
 
--- ---- a run from where nothing is touched to its end
+-- ---- an instruction, from where nothing is touched to its end
 
-module _ (t : NoteMap) (idle : t ≡ finite.empty) (m : NodeMap) (u : NoteMap) (n : NodeMap) (before : nodes_before u n ≡ nodes_before t m) where
-  begun : nodes_before u n ≡ m
-  begun = before ∙ ap (λ t. nodes_before t m) idle ∙ before_nothing m
+module _ (t : NoteMap) (idle : t ≡ finite.empty) (m first : NodeMap) (kept : m ≡ first) (u : NoteMap) (n : NodeMap) (before : nodes_before u n ≡ nodes_before t m) where
+  begun : nodes_before u n ≡ first
+  begun = before ∙ ap (λ t. nodes_before t m) idle ∙ before_nothing m ∙ kept
 
-  pub begun_changes : (changes : List Change) → changes ≡ changes_between (nodes_before u n) n → (o : NodeMap) → o ≡ n → changes ≡ changes_between m o
+  pub begun_changes : (changes : List Change) → changes ≡ changes_between (nodes_before u n) n → (o : NodeMap) → o ≡ n → changes ≡ changes_between first o
   begun_changes changes is o same = is ∙ (λ i. changes_between (begun i) (sym same i))
 
-  pub begun_undone : (notes : List Note) → notes ≡ finite.entries u → (o : NodeMap) → o ≡ n → all_put_back notes o ≡ m
-  begun_undone notes is o same = (λ i. all_put_back (is i) (same i)) ∙ begun
-
--- the last note is put back first
-pub back_last : (notes : List Note) (note : Note) (m : NodeMap) → all_put_back (notes ++ note ∷ []) m ≡ all_put_back notes (put_back note.0 note.1 m)
-back_last [] note m = refl
-back_last (first ∷ notes) note m = ap (put_back first.0 first.1) (back_last notes note m)
+  pub begun_undone : (noted : NoteMap) → noted ≡ u → (o : NodeMap) → o ≡ n → nodes_before noted o ≡ first
+  begun_undone noted is o same = (λ i. nodes_before (is i) (same i)) ∙ begun
 
 -- a parent that was changed and put
 pub changed_parent : (m : NodeMap) (path : List ℕ) (change : Node → Node) (parent : List ℕ) → parent_of path ≡ Some parent → (old : Node) → finite.get m parent ≡ Some old → (key : List ℕ) → key ≡ parent → (new : Node) → new ≡ change old → finite.insert m key new ≡ parent_changed m path change

@@ -9,7 +9,7 @@ use Rattle.zk_table.specs.States.{path_cmp}
 pub path_cmp-IsAntisymmetric : IsAntisymmetric path_cmp
 path_cmp-IsAntisymmetric = slice_cmp-IsAntisymmetric nat_cmp-IsAntisymmetric
 
-tied : (r : Ordering) → is_eq r ≡ true → r ≡ Equal
+pub tied : (r : Ordering) → is_eq r ≡ true → r ≡ Equal
 tied Less e = absurd (false≢true e)
 tied Equal e = refl
 tied Greater e = absurd (false≢true e)

@@ -47,8 +47,12 @@ part_changes txn nodes [] = []
 part_changes txn nodes (part ∷ parts) =
     let next = (apply_part txn nodes part).nodes in changes_between nodes next ++ part_changes txn next parts
 
+-- with an error among them no part is applied
+abbrev pub multi_changes : State → Txn → List Sub → List Change
+multi_changes state txn parts = if list_any is_error parts then [] else part_changes txn state.nodes parts
+
 abbrev pub op_changes : State → Txn → Op → List Change
-op_changes state txn (Multi parts) = if list_any is_error parts then [] else part_changes txn state.nodes parts
+op_changes state txn (Multi parts) = multi_changes state txn parts
 op_changes state txn op = changes_between state.nodes (step state txn).0.nodes
 
 abbrev pub changes_of : State → Txn → List Change

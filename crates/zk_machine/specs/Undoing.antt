@@ -1,9 +1,12 @@
 -- What a transaction had touched, and the state that comes back when that is put back. This project's own.
-use Rattle.std.specs.Prelude.{◌≡◌, ℕ, ℤ, pos, true, List, [], ◌∷◌, Option, Some, None, option_map, codes}
+use Rattle.std.specs.Prelude.{◌≡◌, ◌<◌, ℕ, ℤ, pos, true, List, [], ◌∷◌, Option, Some, None, option_map, codes, refl}
+use Rattle.std.specs.Coded.{Coded, code_by, coded×, coded_list, coded_option, coded_ℕ, coded_ℤ}
+use Rattle.std.specs.FinMap as finite
 use Rattle.std.specs.FinMap.{FinMap, get, insert, remove, entries, contains_key}
 use Rattle.zk_path.specs.Paths.{parent_of}
 use Rattle.zk_table.specs.declared.node.Node.{Node}
 use Rattle.zk_table.specs.States.{NodeMap, SessionMap, State, path_cmp}
+use Rattle.zk_machine.specs.Trees.{owner_at}
 
 -- ---- nodes
 
@@ -59,10 +62,18 @@ restored undo state = record {
 
 -- ---- which nodes are a state's
 
-abbrev pub owner_at : NodeMap → List ℕ → Option ℤ
-owner_at nodes path = option_map (λ node. node.owner) (get nodes path)
-
 -- the root is there, and with each other path its parent, which has no owner
 pub record IsState (nodes : NodeMap) : Type 0 where
   pub root : contains_key nodes (codes "/") ≡ true
   pub parents : (child parent : List ℕ) → contains_key nodes child ≡ true → parent_of child ≡ Some parent → owner_at nodes parent ≡ Some (pos 0)
+
+-- what was noted of the root, if anything, is a node without owner
+abbrev pub KeepsRoot : NoteMap → Type 0
+KeepsRoot touched = (before : Option Node) → get touched (codes "/") ≡ Some before → option_map (λ node. node.owner) before ≡ Some (pos 0)
+
+pub record IsUndoing (step : ℕ) (touched : NoteMap) : Type 0 where
+  pub counted : 0 < step
+  pub root : KeepsRoot touched
+
+abbrev pub undo_code : Coded Node → Coded Undoing
+undo_code node = code_by (ℕ × (ℤ × (Option (ℕ × Option ℤ) × NoteMap))) (coded× coded_ℕ (coded× coded_ℤ (coded× (coded_option (coded× coded_ℕ (coded_option coded_ℤ))) (finite.code (coded_list coded_ℕ) (coded_option node))))) (λ u. (u.step, (u.last, (u.session, u.touched)))) (λ p. record { step = p.0; last = p.1.0; session = p.1.1.0; touched = p.1.1.1 }) (λ _. refl)

@@ -1,4 +1,10 @@
-use zk_path::Path;
+ghost use Rattle.std.specs.Prelude.{◌≡◌, ◌++◌, ◌∷◌, [], OnOk};
+ghost use Rattle.std.specs.FinMap as finite;
+ghost use Rattle.zk_machine.specs.Changes.{compared, changed_unless};
+
+use crate::tree::Tree;
+use zk_path::{NoMemory, Path};
+use zk_table::Node;
 
 /// What happened at a path. The numbers are those of the events of the 3.4 server.
 ///
@@ -20,4 +26,43 @@ pub enum ChangeKind {
 pub struct Change {
     pub path: Path,
     pub kind: ChangeKind,
+}
+
+/// Tells what happened at a path, by the node before and the tree after.
+pub(crate) fn compare(
+    changes: &mut Vec<Change>,
+    path: &Path,
+    before: &Option<Node>,
+    after: &Tree,
+) -> Result<(), NoMemory>
+    ensures { OnOk result (changes.new.items ≡ changes.old.items ++ compared path.now before.now (finite.get after.now path.now)) }
+{
+    match (before, after.get(path)) {
+        (None, None) => Ok(()),
+        (None, Some(_)) => tell_unless(changes, false, path, ChangeKind::Created),
+        (Some(_), None) => tell_unless(changes, false, path, ChangeKind::Deleted),
+        (Some(before), Some(after)) => {
+            let same = before.mzxid == after.mzxid;
+            tell_unless(changes, same, path, ChangeKind::DataChanged)?;
+            let same = before.pzxid == after.pzxid;
+            tell_unless(changes, same, path, ChangeKind::ChildrenChanged)
+        }
+    }
+}
+
+/// Tells what happened at a path, unless it is the same.
+fn tell_unless(
+    changes: &mut Vec<Change>,
+    same: bool,
+    path: &Path,
+    kind: ChangeKind,
+) -> Result<(), NoMemory>
+    ensures { OnOk result (changes.new.items ≡ changes.old.items ++ changed_unless same path.now kind) }
+{
+    if same {
+        return Ok(());
+    }
+    let path = path.copy()?;
+    changes.push(Change { path, kind })?;
+    Ok(())
 }

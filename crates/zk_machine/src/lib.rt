@@ -3,10 +3,21 @@
 //! ZooKeeper Programmer's Guide, "The ZooKeeper Data Model" and "ZooKeeper Watches".
 #![tactic(auto)]
 
+mod applied;
 mod change;
+mod deed;
 mod fault;
+mod machine;
+mod noted_tree;
+mod operations;
 mod sessions;
+mod table;
 mod touched;
+mod tree;
+mod undo;
 
+pub use applied::Applied;
 pub use change::{Change, ChangeKind};
 pub use fault::MachineFault;
+pub use machine::Machine;
+pub use undo::Undo;
