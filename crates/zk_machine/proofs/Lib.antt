@@ -10,3 +10,4 @@ pub mod Timeouts
 pub mod Families
 pub mod Owned
 pub mod Restores
+pub mod Slashes

@@ -1,7 +1,7 @@
 -- How what was noted is put back into a tree, where a node may only be taken when it has no children, put where its
 -- parent stands, and changed to one of the same owner.
-use Rattle.std.proofs.Common.{◌≡◌, ℕ, ℤ, pos, Bool, true, false, cond, not, ◌&&◌, List, [], ◌∷◌, ◌++◌, length, Option, Some, None, is_some, IsSome, unwrap_or, refl, sym, ap, subst, ◌∙◌, codes, is_lt, is_eq, Less, Equal, Greater}
-use Rattle.std.proofs.lemmas.Bool.{false≢true, and_parts}
+use Rattle.std.proofs.Common.{◌≡◌, ℕ, ℤ, pos, Bool, true, false, cond, not, ◌&&◌, List, [], ◌∷◌, ◌++◌, length, get_or, take, drop, zero, suc, add-one, ◌+◌, ◌-◌, ◌<◌, ◌≤◌, arith, Option, Some, None, is_some, IsSome, unwrap_or, refl, sym, ap, subst, ◌∙◌, codes, is_lt, is_eq, Less, Equal, Greater}
+use Rattle.std.proofs.lemmas.Bool.{false≢true, and_parts, and_from}
 use Rattle.std.proofs.lemmas.Bool.Decides.{Decides-int_eq, Decides-eqb}
 use Rattle.std.proofs.lemmas.Cmp.{nat_list_cmp_total, eq_by_cmp_equiv}
 use Rattle.std.specs.declared.cmp.Ordering.{Ordering}
@@ -75,6 +75,27 @@ module _ (e : Note) (rest : List Note) where
   find_before : (q : List ℕ) → path_cmp q e.0 ≡ Less → (front : List Note) → is_sorted path_cmp (front ++ e ∷ rest) ≡ true → find path_cmp q (front ++ e ∷ rest) ≡ find path_cmp q front
   find_before q less [] h = ap (λ r. cond (is_eq r) (Some e.1) (find path_cmp q rest)) less ∙ find_less q e.0 rest less (and_parts _ _ h).0
   find_before q less (x ∷ front) h = ap (cond (eq_by_cmp path_cmp q x.0) (Some x.1)) (find_before q less front (and_parts _ _ h).1)
+
+  front_in_order : (front : List Note) → is_sorted path_cmp (front ++ e ∷ rest) ≡ true → is_sorted path_cmp front ≡ true
+  front_in_order [] h = refl
+  front_in_order (x ∷ front) h = and_from _ _ (below_front x.0 front (and_parts _ _ h).0) (front_in_order front (and_parts _ _ h).1)
+    where
+      below_front : (x : List ℕ) (front : List Note) → below_all x (front ++ e ∷ rest) ≡ true → below_all x front ≡ true
+      below_front x [] h = refl
+      below_front x (y ∷ front) h = and_from _ _ (and_parts _ _ h).0 (below_front x front (and_parts _ _ h).1)
+
+  rest_in_order : (front : List Note) → is_sorted path_cmp (front ++ e ∷ rest) ≡ true → is_sorted path_cmp rest ≡ true
+  rest_in_order [] h = (and_parts _ _ h).1
+  rest_in_order (x ∷ front) h = rest_in_order front (and_parts _ _ h).1
+
+  mid_begins : (front : List Note) → all_begin (front ++ e ∷ rest) ≡ true → begins_with_slash e.0 ≡ true
+  mid_begins [] h = (and_parts _ _ h).0
+  mid_begins (x ∷ front) h = mid_begins front (and_parts _ _ h).1
+
+split_at : (es : List Note) (i : ℕ) (e : Note) → i < length es → get_or es i e ≡ e → es ≡ take i es ++ e ∷ drop (suc i) es
+split_at [] i e lt is = absurd (omega arith)
+split_at (x ∷ es) zero e lt is = ap (λ e. e ∷ es) is
+split_at (x ∷ es) (suc i) e lt is = ap (λ l. x ∷ l) (split_at es i e (omega arith) is)
 
 find_begins : (es : List Note) (q : List ℕ) (x : Option Node) → all_begin es ≡ true → find path_cmp q es ≡ Some x → begins_with_slash q ≡ true
 find_begins [] q x h found = absurd (false≢true (ap is_some found))
@@ -250,3 +271,59 @@ module _ (es front rest : List Note) (e : Note) (split : es ≡ front ++ e ∷ r
         by_now : (x : Option Node) → gone_by (Some (Some node)) x ≡ Some old → old.owner ≡ node.owner
         by_now None is = absurd (false≢true (ap is_some is))
         by_now (Some x) is = by_going x (must_go (Some node) (Some x)) refl is
+
+-- ---- the turns, place by place
+
+drop_at : (es : List Note) (i : ℕ) (e : Note) → i < length es → get_or es i e ≡ e → drop i es ≡ e ∷ drop (suc i) es
+drop_at [] i e lt is = absurd (omega arith)
+drop_at (x ∷ es) zero e lt is = ap (λ e. e ∷ es) is
+drop_at (x ∷ es) (suc i) e lt is = drop_at es i e (omega arith) is
+
+take_next : (es : List Note) (i : ℕ) (e : Note) → i < length es → get_or es i e ≡ e → take (suc i) es ≡ take i es ++ e ∷ []
+take_next [] i e lt is = absurd (omega arith)
+take_next (x ∷ es) zero e lt is = ap (λ e. e ∷ []) is
+take_next (x ∷ es) (suc i) e lt is = ap (λ l. x ∷ l) (take_next es i e (omega arith) is)
+
+module _ (es : List Note) (at : ℕ) (e : Note) (some : 0 < at) (within : at ≤ length es) (is : get_or es (at - 1) e ≡ e) (h : is_sorted path_cmp es ≡ true) (slashes : all_begin es ≡ true) (now : NodeMap) (cur : NodeMap) (so_far : cur ≡ cleared (drop at es) now) where
+  here : suc (at - 1) ≡ at
+  here = omega arith
+
+  before_here : at - 1 < length es
+  before_here = omega arith
+
+  split : es ≡ take (at - 1) es ++ e ∷ drop at es
+  split = subst (λ (n : ℕ). es ≡ take (at - 1) es ++ e ∷ drop n es) here (split_at es (at - 1) e before_here is)
+
+  pub clear_next : (n : NodeMap) → n ≡ cleared_at e.0 e.1 cur → n ≡ cleared (drop (at - 1) es) now
+  clear_next n next = next ∙ ap (cleared_at e.0 e.1) so_far ∙ ap (λ l. cleared l now) (sym (drop_at es (at - 1) e before_here is ∙ ap (λ n. e ∷ drop n es) here))
+
+  module _ (tree : IsTree now) (cur_tree : IsTree cur) (root : (before : Option Node) → find path_cmp (codes "/") es ≡ Some before → owner_of before ≡ Some (pos 0)) (state : IsState (all_put_back es now)) (go : must_go e.1 (finite.get cur e.0) ≡ true) where
+    abbrev in_order : is_sorted path_cmp (drop at es) ≡ true
+    in_order = rest_in_order e (drop at es) (take (at - 1) es) (ap (is_sorted path_cmp) (sym split) ∙ h)
+
+    pub clear_childless : length (children_of cur e.0) ≡ 0
+    clear_childless = take_childless es (take (at - 1) es) (drop at es) e split h now state cur tree root slashes in_order so_far cur_tree go
+
+    pub clear_below : IsSome (parent_of e.0)
+    clear_below = take_below es (take (at - 1) es) (drop at es) e split h now state cur tree root slashes in_order so_far cur_tree go
+
+module _ (es : List Note) (i : ℕ) (e : Note) (within : i < length es) (is : get_or es i e ≡ e) (h : is_sorted path_cmp es ≡ true) (slashes : all_begin es ≡ true) (mid : NodeMap) (cur : NodeMap) (so_far : cur ≡ filled (take i es) mid) where
+  abbrev parts : es ≡ take i es ++ e ∷ drop (suc i) es
+  parts = split_at es i e within is
+
+  pub fill_next : (n : NodeMap) → n ≡ filled_at e.0 e.1 cur → n ≡ filled (take (i + 1) es) mid
+  fill_next n next =
+      next ∙ ap (filled_at e.0 e.1) so_far ∙ sym (filled-push (take i es) e mid) ∙ ap (λ l. filled l mid) (sym (ap (λ n. take n es) (add-one i) ∙ take_next es i e within is))
+
+  module _ (now : NodeMap) (clear : mid ≡ cleared es now) (state : IsState (all_put_back es now)) (node : Node) (comes : e.1 ≡ Some node) where
+    abbrev begin : begins_with_slash e.0 ≡ true
+    begin = mid_begins e (drop (suc i) es) (take i es) (ap all_begin (sym parts) ∙ slashes)
+
+    abbrev before_in_order : is_sorted path_cmp (take i es) ≡ true
+    before_in_order = front_in_order e (drop (suc i) es) (take i es) (ap (is_sorted path_cmp) (sym parts) ∙ h)
+
+    pub fill_below : (above : List ℕ) → parent_of e.0 ≡ Some above → owner_at cur above ≡ Some (pos 0)
+    fill_below = put_below es (take i es) (drop (suc i) es) e parts h now state cur begin before_in_order (so_far ∙ ap (filled (take i es)) clear) node comes
+
+    pub fill_owner : (old : Node) → finite.get cur e.0 ≡ Some old → owner_at cur e.0 ≡ Some node.owner
+    fill_owner = change_owner es (take i es) (drop (suc i) es) e parts h now state cur begin before_in_order (so_far ∙ ap (filled (take i es)) clear) node comes

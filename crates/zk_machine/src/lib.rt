@@ -10,6 +10,7 @@ mod fault;
 mod machine;
 mod noted_tree;
 mod operations;
+mod restore;
 mod sessions;
 mod table;
 mod touched;

@@ -3,6 +3,7 @@ ghost use Rattle.std.specs.FinMap as finite;
 ghost use Rattle.zk_table.specs.Places.{place_of};
 ghost use Rattle.zk_table.specs.States.{path_cmp};
 ghost use Rattle.zk_machine.specs.Notes.{noted, all_noted};
+ghost use Rattle.zk_machine.specs.Restoring.{all_begin};
 
 use std::alloc::Global;
 use std::cmp::Ordering;
@@ -22,6 +23,7 @@ impl Model for Touched {
     ghost use Rattle.std.specs.FinMap as finite;
     ghost use Rattle.zk_table.specs.contracts.node.Node as node;
     ghost use Rattle.zk_table.specs.States.{path_cmp};
+    ghost use Rattle.zk_machine.specs.Restoring.{all_begin};
     ghost use Rattle.zk_machine.specs.Undoing.{NoteMap};
 
     ghost Value = { NoteMap };
@@ -30,7 +32,7 @@ impl Model for Touched {
 
     ghost view = { λ touched. finite.from_sorted touched.notes.items };
 
-    ghost invariant = { λ touched. IsTrue (finite.is_sorted path_cmp touched.notes.items) };
+    ghost invariant = { λ touched. IsTrue (finite.is_sorted path_cmp touched.notes.items) × IsTrue (all_begin touched.notes.items) };
 }
 
 /// Where a path stands, or else where it would go.
@@ -84,7 +86,8 @@ impl Touched {
 
     /// The notes, in order.
     pub(crate) fn as_slice(&self) -> &[(Path, Option<Node>)]
-        ensures { result.now ≡ finite.entries self.now }
+        ensures notes { result.now ≡ finite.entries self.now }
+        ensures slashes { IsTrue (all_begin result.now) }
     {
         self.notes.as_slice()
     }

@@ -12,5 +12,5 @@ pub returns : goal.returns
 returns c =
     let f : List ℕ × Option Node → List Change = λ e. compared e.0 e.1 (finite.get c.args.self.now.tree e.0) in
     c.loop-path.invariant ∙ ap (flat_map f) (take_all c.loop-path.path-index c.as_slice-path-items.result.now c.loop-path-test.false)
-    ∙ ap (flat_map f) c.as_slice-path-items.ensures
+    ∙ ap (flat_map f) c.as_slice-path-items.ensures.notes
     ∙ changes_noted c.args.self.now.touched c.args.self.now.tree
