@@ -10,6 +10,3 @@ mod text;
 pub use acl::{Acl, Acls, Id};
 pub use stat::Stat;
 pub use text::Text;
-
-#[cfg(test)]
-mod tests;

@@ -1,10 +1,10 @@
 -- Texts that are put together on pages, and written a page at a time.
-use Rattle.std.proofs.Common.{◌≡◌, ℕ, ◌+◌, ◌<◌, List, [], ◌∷◌, ◌++◌, Option, Result, Ok, Err, length, take, drop, get_or, refl, sym, ap, ◌∙◌, subst, append_assoc, append-nil, take-append-drop}
-use Rattle.std.proofs.lemmas.List.{drop_more, take_more}
+use Rattle.std.proofs.Common.{◌≡◌, ℕ, ◌+◌, ◌<◌, List, [], ◌∷◌, ◌++◌, Option, length, take, drop, get_or, refl, sym, ap, ◌∙◌, subst, append_assoc, append-nil, take-append-drop}
+use Rattle.std.proofs.lemmas.List.{take_more}
 use Rattle.std.proofs.lemmas.List.Concat.{flat_map-append}
 use Rattle.std.specs.List.{flat_map}
 use Rattle.zk_log.specs.declared.sink.Sink.{Sink}
-use Rattle.zk_cli.proofs.LinesLaws.{wrote_nothing, wrote_more, broke_off_later, broke_off_earlier, part_earlier}
+use Rattle.zk_cli.proofs.LinesLaws.{wrote_nothing, wrote_more, broke_off_later, broke_off_earlier}
 use Rattle.zk_cli.specs.Writing.{Wrote, BrokeOff, WrotePart}
 
 -- a front of the text was written, and the rest is on the page

@@ -1,6 +1,7 @@
 pub mod Acting
 pub mod Assembling
 pub mod Commands
+pub mod FaultLines
 pub mod Reading
 pub mod Reports
 pub mod Showing

@@ -1,11 +1,13 @@
-ghost use Rattle.std.specs.Prelude.{IfOk};
-ghost use Rattle.zk_cli.specs.Commands.{ReadsDigits, ReadsUpto};
+ghost use Rattle.std.specs.Prelude.{◌≡◌, IfOk, map, option_map};
+ghost use Rattle.zk_cli.specs.Commands.{AreOnly, IsOnly, ReadsCommandLine, ReadsDigits, ReadsJob, ReadsJobBy, ReadsUpto, is_option, values_of};
+ghost use Rattle.zk_cli.specs.declared.command.CommandFault.TheVariants as faults;
 
 use crate::act::Order;
+use crate::usage::refusal_of;
 use clap::error::ErrorKind;
-use clap::{Arg, Command, Error};
 use hex::FromHex;
-use std::alloc::{AllocError, Global};
+use std::alloc::Global;
+use thiserror::Error;
 use zk_listing::push_digits;
 use zk_path::NoMemory;
 
@@ -19,95 +21,131 @@ pub struct Job<'a> {
     pub output: &'a str,
 }
 
+/// Why a command line asks for no job.
+#[derive(Debug, Drop, Error)]
+pub enum CommandFault {
+    /// What is wrong with the line, or the help or the version that it asks for.
+    #[error("{0}")]
+    Refused(clap::Error),
+    /// Memory was refused.
+    #[error("memory")]
+    NoMemory,
+}
+
 /// Reads a command line, whose first word is the program's name.
-///
-/// The error says what is wrong with the line, or has the help that was asked for, or tells that memory was refused.
-pub fn read_command_line<'a>(alloc: Global, words: &'a [&'a str]) -> Result<Job<'a>, Error> {
-    let matches = command(alloc)?.try_get_matches_from(words)?;
-    let Some((name, order)) = matches.subcommand() else {
-        return Err(refusal(alloc, "an order is missing")?);
-    };
-    let Some(file) = order.get_str("FILE") else {
-        return Err(refusal(alloc, "FILE is missing")?);
-    };
-    match name {
-        "show" => read_show(alloc, file, order.get_str("ZXID").unwrap_or_default()),
-        "list" => Ok(Job {
-            order: Order::List,
-            input: file,
-            output: "@",
-        }),
-        _ => Ok(Job {
-            order: Order::Asm,
-            input: order.get_str("TEXT").unwrap_or_default(),
-            output: file,
-        }),
+#[tactic(auto, using(crate::proofs::NamesLaws::names_only))]
+pub fn read_command_line<'a>(alloc: Global, words: &'a [&'a str]) -> Result<Job<'a>, CommandFault>
+    ensures { ReadsCommandLine (map (λ word. word.now) words.now) result }
+{
+    match job_of(alloc, words) {
+        Ok(Some(job)) => Ok(job),
+        Ok(None) => Err(fault_of(alloc, words)),
+        Err(NoMemory) => Err(CommandFault::NoMemory),
     }
 }
 
-/// What `zk show` asks for, by its words.
-fn read_show<'a>(alloc: Global, file: &'a str, zxid: &str) -> Result<Job<'a>, Error> {
-    let Some(upto) = read_upto(alloc, zxid).map_err(|_| AllocError)? else {
-        return Err(refusal(
-            alloc,
-            "ZXID is neither sixteen hexadecimal digits nor `last`",
-        )?);
+/// What is wrong with words that name no job.
+fn fault_of(alloc: Global, words: &[&str]) -> CommandFault {
+    match refusal_of(alloc, words) {
+        Ok(error) if error.kind() != ErrorKind::OutOfMemory => CommandFault::Refused(error),
+        _ => CommandFault::NoMemory,
+    }
+}
+
+/// The job that words name.
+fn job_of<'a>(alloc: Global, words: &'a [&'a str]) -> Result<Option<Job<'a>>, NoMemory>
+    ensures { IfOk result (λ read. ReadsJob (map (λ word. word.now) words.now) read) }
+{
+    let [_, name, rest @ ..] = words else {
+        return Ok(None);
     };
-    Ok(Job {
-        order: Order::Show { upto },
-        input: file,
-        output: "@",
-    })
+    match values_of(alloc, rest)? {
+        Some(values) => job_by(alloc, name, values.as_slice()),
+        None => Ok(None),
+    }
 }
 
-/// The command line's grammar.
-fn command<'a>(alloc: Global) -> Result<Command<'a>, AllocError> {
-    let list = Command::new(alloc, "list")
-        .about("Lists the transactions of a log, one line for each")
-        .arg(log_arg(alloc))?;
-    Command::new(alloc, "zk")
-        .about("Looks at transaction logs of ZooKeeper 3.4")
-        .subcommand_required(true)
-        .subcommand(show_command(alloc)?)?
-        .subcommand(list)?
-        .subcommand(asm_command(alloc)?)
+/// The job that an order's name and its values name.
+fn job_by<'a>(alloc: Global, name: &str, values: &[&'a str]) -> Result<Option<Job<'a>>, NoMemory>
+    ensures { IfOk result (λ read. ReadsJobBy name.now (map (λ value. value.now) values.now) read) }
+{
+    if name == "list" {
+        return Ok(only(values).map(|input| Job {
+            order: Order::List,
+            input,
+            output: "@",
+        }));
+    }
+    let Some((first, second)) = only_two(values) else {
+        return Ok(None);
+    };
+    if name == "asm" {
+        return Ok(Some(Job {
+            order: Order::Asm,
+            input: first,
+            output: second,
+        }));
+    }
+    if name != "show" {
+        return Ok(None);
+    }
+    match read_upto(alloc, second)? {
+        Some(upto) => Ok(Some(Job {
+            order: Order::Show { upto },
+            input: first,
+            output: "@",
+        })),
+        None => Ok(None),
+    }
 }
 
-/// The grammar of `zk show`.
-fn show_command<'a>(alloc: Global) -> Result<Command<'a>, AllocError> {
-    let zxid = Arg::new(alloc, "ZXID").required(true).help(
-        "The last transaction to count: sixteen lower-case hexadecimal digits, or `last`",
-    );
-    Command::new(alloc, "show")
-        .about("Shows the tree that a transaction log leads to")
-        .arg(log_arg(alloc))?
-        .arg(zxid)
+/// A list's only element.
+fn only<'a>(values: &[&'a str]) -> Option<&'a str>
+    ensures { IsOnly (map (λ value. value.now) values.now) (option_map (λ value. value.now) result) }
+{
+    let [value] = values else {
+        return None;
+    };
+    Some(value)
 }
 
-/// The grammar of `zk asm`.
-fn asm_command<'a>(alloc: Global) -> Result<Command<'a>, AllocError> {
-    let text = Arg::new(alloc, "TEXT")
-        .required(true)
-        .help("The listing: a path, or @ for standard input");
-    let file = Arg::new(alloc, "FILE").required(true).help(
-        "The log, which is made or emptied: a path, or @ for standard output",
-    );
-    Command::new(alloc, "asm")
-        .about("Makes the log, with dbid 0, that a listing spells")
-        .arg(text)?
-        .arg(file)
+/// A list's only two elements.
+fn only_two<'a>(values: &[&'a str]) -> Option<(&'a str, &'a str)>
+    ensures { AreOnly (map (λ value. value.now) values.now)
+        (option_map (λ both. (both.0.now, both.1.now)) result) }
+{
+    let [first, second] = values else {
+        return None;
+    };
+    Some((first, second))
 }
 
-/// The argument that names a log to read.
-fn log_arg<'a>(alloc: Global) -> Arg<'a> {
-    Arg::new(alloc, "FILE")
-        .required(true)
-        .help("The log: a path, or @ for standard input")
+/// The values that the words behind an order's name give; none where one of them is an option.
+fn values_of<'a>(alloc: Global, words: &'a [&'a str]) -> Result<Option<Vec<&'a str>>, NoMemory>
+    ensures { IfOk result (λ read. option_map (λ values. map (λ value. value.now) values.items) read
+        ≡ values_of (map (λ word. word.now) words.now)) }
+{
+    let mut values = Vec::new(alloc);
+    let mut options_end = false;
+    for word in words {
+        if options_end {
+            values.push(*word)?;
+        } else if *word == "--" {
+            options_end = true;
+        } else if is_option(word) {
+            return Ok(None);
+        } else {
+            values.push(*word)?;
+        }
+    }
+    Ok(Some(values))
 }
 
-/// The error of a word out of its range.
-fn refusal(alloc: Global, message: &str) -> Result<Error, AllocError> {
-    command(alloc)?.error(ErrorKind::ValueValidation, message)
+/// Whether a word is an option, as `-h` or `--help`; `-` alone is a value.
+fn is_option(word: &str) -> bool
+    ensures { result ≡ is_option word.now }
+{
+    matches!(word.as_bytes(), [b'-', _, ..])
 }
 
 /// The transaction up to which others count, none for the last: sixteen lower-case hexadecimal digits of its 64 bits,

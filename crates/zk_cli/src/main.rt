@@ -4,6 +4,7 @@
 mod act;
 mod asm;
 mod command;
+mod fault_lines;
 mod lines;
 mod list;
 mod report;
@@ -13,13 +14,15 @@ mod telling;
 #[cfg(test)]
 mod tests;
 mod text;
+mod usage;
 
 use act::{Order, act};
-use clap::error::ErrorKind;
-use command::{Job, read_command_line};
+use clap::Error;
+use command::{CommandFault, Job, read_command_line};
 use std::io::{Read, Write};
 use std::process::ExitCode;
 use std::{env, fs, io};
+use usage::refusal_of_bytes;
 use zk_log::{Sink, Source};
 use zk_path::NoMemory;
 
@@ -32,23 +35,29 @@ fn main(rt: HostRuntime) -> ExitCode {
 
 /// Reads the command line and does what it asks for. Answers the exit status.
 fn run(rt: &HostRuntime) -> Result<u8, NoMemory> {
-    let Ok(args) = env::args(rt) else {
-        return Err(NoMemory);
+    let words = match env::args(rt) {
+        Ok(args) => args.collect::<Vec<_>>(rt.alloc())?,
+        Err(error) if error.kind() == io::ErrorKind::InvalidData => {
+            return Ok(print(rt, &refusal_of_bytes(rt.alloc())?));
+        }
+        Err(_) => return Err(NoMemory),
     };
-    let words = args.collect::<Vec<_>>(rt.alloc())?;
     let texts = words
         .iter()
         .map(|word| word.as_str())
         .collect::<Vec<_>>(rt.alloc())?;
     match read_command_line(rt.alloc(), texts.as_slice()) {
         Ok(job) => open_and_act(rt, &job),
-        Err(error) if error.kind() == ErrorKind::OutOfMemory => Err(NoMemory),
-        Err(error) => {
-            // Where the text can't be printed there is nobody left to tell.
-            let _ = error.print(rt);
-            Ok(if error.use_stderr() { 2 } else { 0 })
-        }
+        Err(CommandFault::Refused(error)) => Ok(print(rt, &error)),
+        Err(CommandFault::NoMemory) => Err(NoMemory),
     }
+}
+
+/// Prints what clap says of a command line. Answers the exit status: 0 for a help or a version, 2 for a refusal.
+fn print(rt: &HostRuntime, error: &Error) -> u8 {
+    // Where the text can't be printed there is nobody left to tell.
+    let _ = error.print(rt);
+    if error.use_stderr() { 2 } else { 0 }
 }
 
 /// Opens the input and then the output, and acts. Answers the exit status.

@@ -7,7 +7,7 @@ ghost use Rattle.zk_log.specs.Devices.{reads_of, read_failures_of, write_failure
 use crate::lines::LineFault;
 use crate::list::write_listing;
 use crate::show::write_report;
-use crate::telling::{TURNS, tell, tell_fault};
+use crate::telling::{TURNS, tell, tell_log_fault};
 use std::alloc::Global;
 use std::io::{Read, Write};
 use zk_log::{Loaded, LogFault, Sink, Source, load};
@@ -40,7 +40,7 @@ pub(crate) fn tell_log<F: Read, O: Write, E: Write>(
     match load(alloc, file, TURNS) {
         Ok(loaded) => tell_loaded(alloc, report, &loaded, output, faults),
         Err(LogFault::NoMemory) => Err(NoMemory),
-        Err(fault) => tell_fault(alloc, &fault, faults),
+        Err(fault) => tell_log_fault(alloc, fault, faults),
     }
 }
 

@@ -1,10 +1,15 @@
 use crate::act::{Order, act};
-use crate::command::{Job, read_command_line};
-use clap::Error;
+use crate::asm::AsmFault;
+use crate::command::{CommandFault, read_command_line};
+use crate::fault_lines::{asm_line, log_line};
+use crate::text::{TextFault, read_text};
 use clap::error::ErrorKind;
+use std::fmt::Display;
 use std::process::Abort;
 use std::test::Fail;
-use zk_log::{DripIn, DripOut, Sink, Source};
+use zk_jute::JuteFault;
+use zk_listing::{ListCause, ListFault};
+use zk_log::{DripIn, DripOut, LogFault, Sink, Source};
 
 /// The header of a log with dbid 0.
 const HEADER: &str = "5a4b4c47000000020000000000000000";
@@ -261,58 +266,133 @@ fn failing_devices_of_asm_are_told(rt: HostRuntime) -> Result<(), Fail> {
     check(&rt, Order::Asm, text, output, told)
 }
 
+/// Reads a command line that names a job.
+fn check_job(
+    rt: &(impl Abort + AllocGlobal),
+    words: &[&str],
+    expected: (Order, &str, &str),
+) -> Result<(), Fail> {
+    let job = read_command_line(rt.alloc(), words)?;
+    assert_eq!(rt; (job.order, job.input, job.output), expected);
+    Ok(())
+}
+
+/// Reads a command line that is refused, or asks for a help or the version.
+fn check_no_job(
+    rt: &(impl Abort + AllocGlobal),
+    words: &[&str],
+    kind: ErrorKind,
+) -> Result<(), Fail> {
+    let found = match read_command_line(rt.alloc(), words) {
+        Err(CommandFault::Refused(error)) => Some(error.kind()),
+        _ => None,
+    };
+    assert_eq!(rt; found, Some(kind));
+    Ok(())
+}
+
+/// A fault's line is its text behind the program's name.
+fn check_line(
+    rt: &(impl Abort + AllocGlobal),
+    fault: &impl Display,
+    line: &String,
+) -> Result<(), Fail> {
+    let text = format!(in rt.alloc(); "zk: {fault}\n")?;
+    assert_eq!(rt; line.as_str(), text.as_str());
+    Ok(())
+}
+
 #[test]
-fn command_lines_name_an_order(rt: HostRuntime) -> Result<(), Fail> {
-    let words = ["zk", "show", "a.log", "8000000000000000"];
-    let job = read_command_line(rt.alloc(), words.as_slice())?;
-    assert_eq!(rt; (job.input, job.output), ("a.log", "@"));
-    assert!(rt;
-        job.order
-            == Order::Show {
-                upto: Some(i64::MIN)
-            }
-    );
-    let words = ["zk", "show", "@", "last"];
-    let job = read_command_line(rt.alloc(), words.as_slice())?;
-    assert!(rt; job.order == Order::Show { upto: None });
-    for zxid in [
-        "0",
-        "+000000000000001",
-        "00000001000000020",
-        "000000010000000A",
-        "Last",
+fn lines_of_faults_are_their_texts(rt: HostRuntime) -> Result<(), Fail> {
+    for fault in [
+        LogFault::Header,
+        LogFault::Checksum(65),
+        LogFault::Record(65, JuteFault::Kind),
+        LogFault::Order(65),
+        LogFault::TooLong(65),
+        LogFault::Read,
+        LogFault::Endless,
+        LogFault::NoMemory,
     ] {
-        let words = ["zk", "show", "@", zxid];
-        let refused = read_command_line(rt.alloc(), words.as_slice());
-        assert_eq!(rt; kind_of(refused), Some(ErrorKind::ValueValidation));
+        check_line(&rt, &fault, &log_line(rt.alloc(), fault)?)?;
     }
-    let help = read_command_line(rt.alloc(), ["zk", "show", "--help"].as_slice());
-    assert_eq!(rt; kind_of(help), Some(ErrorKind::DisplayHelp));
-    let none = read_command_line(rt.alloc(), ["zk"].as_slice());
-    assert_eq!(rt; kind_of(none), Some(ErrorKind::MissingSubcommand));
+    for fault in [
+        AsmFault::Read,
+        AsmFault::Utf8,
+        AsmFault::Order(2),
+        AsmFault::Length(2),
+        AsmFault::NoMemory,
+    ] {
+        check_line(&rt, &fault, &asm_line(rt.alloc(), fault)?)?;
+    }
+    for cause in [
+        ListCause::Fields,
+        ListCause::Number,
+        ListCause::Quote,
+        ListCause::Hex,
+        ListCause::Word,
+        ListCause::Path,
+        ListCause::NoNewline,
+        ListCause::NoMemory,
+    ] {
+        let fault = AsmFault::Listing(ListFault { line: 2, cause });
+        check_line(&rt, &fault, &asm_line(rt.alloc(), fault)?)?;
+    }
     Ok(())
 }
 
 #[test]
-fn command_lines_name_an_input_and_an_output(rt: HostRuntime) -> Result<(), Fail> {
-    let words = ["zk", "list", "a.log"];
-    let job = read_command_line(rt.alloc(), words.as_slice())?;
-    assert!(rt; job.order == Order::List);
-    assert_eq!(rt; (job.input, job.output), ("a.log", "@"));
-    let words = ["zk", "asm", "a.txt", "b.log"];
-    let job = read_command_line(rt.alloc(), words.as_slice())?;
-    assert!(rt; job.order == Order::Asm);
-    assert_eq!(rt; (job.input, job.output), ("a.txt", "b.log"));
-    let words = ["zk", "asm", "a.txt"];
-    let refused = read_command_line(rt.alloc(), words.as_slice());
-    assert_eq!(rt; kind_of(refused), Some(ErrorKind::MissingRequiredArgument));
+fn texts_are_read_to_their_end_and_no_further(rt: HostRuntime) -> Result<(), Fail> {
+    // ten bytes, five in a read: how many turns there are, which read fails, what comes of it and after how many reads
+    for (turns, good_calls, expected) in [
+        (3, None, (None, 3)),
+        (2, None, (Some(TextFault::Read), 2)),
+        (9, Some(3), (None, 3)),
+        (9, Some(2), (Some(TextFault::Read), 3)),
+    ] {
+        let mut source = Source::new(DripIn::new(b"0123456789", 5, good_calls));
+        let read = read_text(rt.alloc(), &mut source, turns);
+        assert_eq!(rt; (read.err(), source.reads()), expected);
+    }
     Ok(())
 }
 
-/// The kind of a command line's refusal.
-fn kind_of(read: Result<Job, Error>) -> Option<ErrorKind> {
-    match read {
-        Ok(_) => None,
-        Err(error) => Some(error.kind()),
+#[test]
+fn command_lines_name_jobs(rt: HostRuntime) -> Result<(), Fail> {
+    let last = Order::Show { upto: None };
+    let least = Order::Show {
+        upto: Some(i64::MIN),
+    };
+    let line = ["zk", "show", "a.log", "8000000000000000"];
+    check_job(&rt, line.as_slice(), (least, "a.log", "@"))?;
+    for line in [
+        ["zk", "show", "--", "@", "last"],
+        ["zk", "show", "@", "--", "last"],
+        ["other", "show", "@", "last", "--"],
+    ] {
+        check_job(&rt, line.as_slice(), (last, "@", "@"))?;
     }
+    check_job(&rt, ["zk", "list", "-"].as_slice(), (Order::List, "-", "@"))?;
+    let line = ["zk", "asm", "a.txt", "--", "--"];
+    check_job(&rt, line.as_slice(), (Order::Asm, "a.txt", "--"))
+}
+
+#[test]
+fn clap_refuses_what_names_no_job(rt: HostRuntime) -> Result<(), Fail> {
+    for zxid in ["0", "+000000000000001", "000000010000000A", "Last"] {
+        let line = ["zk", "show", "@", zxid];
+        check_no_job(&rt, line.as_slice(), ErrorKind::ValueValidation)?;
+    }
+    for (line, kind) in [
+        (["zk", "show", "--help", "a"], ErrorKind::DisplayHelp),
+        (["zk", "--version", "show", "a"], ErrorKind::DisplayVersion),
+        (["zk", "list", "-x", "a"], ErrorKind::UnknownArgument),
+        (["zk", "list", "a", "b"], ErrorKind::UnknownArgument),
+        (["zk", "--", "list", "a"], ErrorKind::UnknownArgument),
+        (["zk", "asm", "a", "--"], ErrorKind::MissingRequiredArgument),
+        (["zk", "tree", "a", "b"], ErrorKind::InvalidSubcommand),
+    ] {
+        check_no_job(&rt, line.as_slice(), kind)?;
+    }
+    check_no_job(&rt, ["zk"].as_slice(), ErrorKind::MissingSubcommand)
 }

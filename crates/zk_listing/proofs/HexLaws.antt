@@ -160,7 +160,7 @@ IsBytes-all [] h i = omega arith
 IsBytes-all (b ∷ rest) h zero = h.0
 IsBytes-all (b ∷ rest) h (suc i) = IsBytes-all rest h.1 i
 
-all-IsBytes : (xs : List ℕ) → IsBytes xs → AllByRecursion (λ b. b < 256) xs
+pub all-IsBytes : (xs : List ℕ) → IsBytes xs → AllByRecursion (λ b. b < 256) xs
 all-IsBytes [] h = tt
 all-IsBytes (b ∷ rest) h = (h 0, all-IsBytes rest (IsBytes-tail b rest h))
 

@@ -1,5 +1,7 @@
 pub mod AclLaws
+pub mod Appending
 pub mod DecimalLaws
+pub mod EachLaws
 pub mod Exact
 pub mod FieldLaws
 pub mod HexLaws
@@ -8,5 +10,6 @@ pub mod LineLaws
 pub mod PartLaws
 pub mod QuotedLaws
 pub mod ReaderLaws
+pub mod TextLaws
 pub mod Turns
 pub mod WordLaws

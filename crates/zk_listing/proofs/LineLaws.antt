@@ -140,7 +140,7 @@ no_listing (u ∷ us) rest (t ∷ ts) us_listed ts_listed filled none e =
     let same = same_front u t (listing_of us ++ rest) (listing_of ts) us_listed.0 ts_listed.0 (sym (append_assoc (line_of u) (listing_of us) rest) ∙ e) in
     no_listing us rest ts us_listed.1 ts_listed.1 filled none same.1
 
-same_listing : (us ts : List Txn) → AllByRecursion IsListed us → AllByRecursion IsListed ts → listing_of us ≡ listing_of ts → us ≡ ts
+pub same_listing : (us ts : List Txn) → AllByRecursion IsListed us → AllByRecursion IsListed ts → listing_of us ≡ listing_of ts → us ≡ ts
 same_listing [] [] us_listed ts_listed e = refl
 same_listing [] (t ∷ ts) us_listed ts_listed e = absurd (omega (arith, ap length e, length-append (line_of t) (listing_of ts), line_long t))
 same_listing (u ∷ us) [] us_listed ts_listed e = absurd (omega (arith, ap length e, length-append (line_of u) (listing_of us), line_long u))

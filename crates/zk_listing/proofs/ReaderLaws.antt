@@ -1,5 +1,5 @@
 -- What an exact reading promises of its reader.
-use Rattle.std.proofs.Common.{◌≡◌, ℕ, List, ◌++◌, Option, Some, None, Result, Ok, Err, sym, ap, ◌∙◌}
+use Rattle.std.proofs.Common.{◌≡◌, ℕ, List, ◌++◌, Option, Some, None, Result, Ok, Err, OnOk, sym, ap, ◌∙◌, subst}
 use Rattle.zk_listing.specs.declared.fault.ListCause.{ListCause}
 use Rattle.zk_listing.specs.declared.fault.ListCause.TheVariants as causes
 use Rattle.zk_listing.specs.Promises.{ReadsFound, ReadsOnly}
@@ -30,3 +30,18 @@ reads_only {X} {Y} view spell Fits at f (Ok x) old new h = λ y rest fits e spel
     (first_is (view x, new) (y, rest) same, second_is (view x, new) (y, rest) same)
 reads_only view spell Fits at f (Err causes.NoMemory) old new h = tt
 reads_only view spell Fits at f (Err cause) old new h = none_in spell Fits at f old h
+
+-- ---- the same where the input moves on only after a value
+
+pub moved_found : {X Y : Type 0} (view : X → Y) (spell : Y → List ℕ) (Fits : Y → Type 0) (at : List ℕ → Option (Y × List ℕ)) → IsExact spell Fits at → (r r' : Result X ListCause) (old new new' : List ℕ)
+    → r' ≡ r → OnOk r' (new' ≡ new) → TakesBy view r new (at old) → ReadsFound view spell Fits r' old new'
+moved_found {X} view spell Fits at f r (Ok x) old new new' e moved h =
+    reads_found view spell Fits at f (Ok x) old new' (subst (λ (n : List ℕ). TakesBy view (Ok x) n (at old)) (sym moved) (subst (λ (q : Result X ListCause). TakesBy view q new (at old)) (sym e) h))
+moved_found view spell Fits at f r (Err cause) old new new' e moved h = tt
+
+pub moved_only : {X Y : Type 0} (view : X → Y) (spell : Y → List ℕ) (Fits : Y → Type 0) (at : List ℕ → Option (Y × List ℕ)) → IsExact spell Fits at → (r r' : Result X ListCause) (old new new' : List ℕ)
+    → r' ≡ r → OnOk r' (new' ≡ new) → TakesBy view r new (at old) → ReadsOnly view spell Fits r' old new'
+moved_only {X} view spell Fits at f r (Ok x) old new new' e moved h =
+    reads_only view spell Fits at f (Ok x) old new' (subst (λ (n : List ℕ). TakesBy view (Ok x) n (at old)) (sym moved) (subst (λ (q : Result X ListCause). TakesBy view q new (at old)) (sym e) h))
+moved_only {X} view spell Fits at f r (Err cause) old new new' e moved h =
+    reads_only view spell Fits at f (Err cause) old new' (subst (λ (q : Result X ListCause). TakesBy view q new (at old)) (sym e) h)

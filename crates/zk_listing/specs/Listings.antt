@@ -116,3 +116,26 @@ pub record IsListed (txn : Txn) : Type 0 where
   pub cxid : FitsSigned w32 txn.cxid
   pub time : FitsSigned w64 txn.time
   pub op : IsListedOp txn.op
+
+-- ---- what has few enough entries
+
+-- each access control list has as few entries as a line's number of them may say
+abbrev pub SubHasCountedAcls : Sub → Type 0
+SubHasCountedAcls (sub.Create path content acl ephemeral count) = length acl < 2 ^ 31
+SubHasCountedAcls (sub.Delete path) = Unit {0}
+SubHasCountedAcls (sub.SetData path content version) = Unit {0}
+SubHasCountedAcls (sub.Check path version) = Unit {0}
+SubHasCountedAcls (sub.Error code) = Unit {0}
+
+abbrev pub OpHasCountedAcls : Op → Type 0
+OpHasCountedAcls (op.Create path content acl ephemeral count) = length acl < 2 ^ 31
+OpHasCountedAcls (op.Delete path) = Unit {0}
+OpHasCountedAcls (op.SetData path content version) = Unit {0}
+OpHasCountedAcls (op.SetAcl path acl version) = length acl < 2 ^ 31
+OpHasCountedAcls (op.OpenSession timeout) = Unit {0}
+OpHasCountedAcls op.CloseSession = Unit {0}
+OpHasCountedAcls (op.Error code) = Unit {0}
+OpHasCountedAcls (op.Multi parts) = AllByRecursion SubHasCountedAcls parts
+
+abbrev pub HasCountedAcls : Txn → Type 0
+HasCountedAcls txn = OpHasCountedAcls txn.op

@@ -1,6 +1,7 @@
 -- What the readers promise: they accept just what its spelling gives.
 use Rattle.std.specs.Prelude.{◌≡◌, ◌≢◌, ◌+◌, ℕ, List, [], ◌∷◌, ◌++◌, length, Result, Ok, Err}
 use Rattle.std.specs.List.{AllByRecursion}
+use Rattle.std.specs.Str.{IsUtf8}
 use Rattle.zk_table.specs.declared.txn.Txn.{Txn}
 use Rattle.zk_listing.specs.declared.fault.ListCause.{ListCause}
 use Rattle.zk_listing.specs.declared.fault.ListCause.TheVariants as causes
@@ -52,3 +53,12 @@ pub record IsFirstFault (text : List ℕ) (line : ℕ) : Type 0 where
   pub number : line ≡ length before + 1
   pub filled : rest ≢ []
   pub none : BeginsWithNoLine rest
+
+-- ---- what holds of every listing
+
+abbrev pub ListingsAreTexts : Type 0
+ListingsAreTexts = (txns : List Txn) → AllByRecursion IsListed txns → IsUtf8 (listing_of txns)
+
+-- no two lists have one listing
+abbrev pub ListingsHaveOneMeaning : Type 0
+ListingsHaveOneMeaning = (txns others : List Txn) → AllByRecursion IsListed txns → AllByRecursion IsListed others → listing_of txns ≡ listing_of others → txns ≡ others

@@ -7,18 +7,19 @@
 mod assembling;
 mod fault;
 mod fields;
+mod laws;
 mod listing;
 mod ops;
 mod parts;
 mod quoting;
+mod ranges;
 mod readers;
 mod report;
 mod spelling;
-#[cfg(test)]
-mod tests;
 
 pub use assembling::assemble;
 pub use fault::{ListCause, ListFault};
+pub use laws::listings_read_back;
 pub use listing::{list, push_line};
 pub use readers::{read_acl, read_content, read_id, read_int, read_long, read_path, read_quoted};
 pub use report::{push_node_line, push_result_line};

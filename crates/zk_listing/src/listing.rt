@@ -1,49 +1,64 @@
-ghost use Rattle.std.specs.Prelude.{◌≡◌, ◌++◌, ◌∷◌, codes, IfOk, OnOk};
-ghost use Rattle.std.specs.List.{flat_map};
+ghost use Rattle.std.specs.Prelude.{◌≡◌, ◌++◌, ◌∷◌, codes, IfOk, OnErr, OnOk};
+ghost use Rattle.std.specs.List.{flat_map, AllByRecursion};
 ghost use Rattle.std.specs.String.{string_bytes};
-ghost use Rattle.zk_listing.specs.Listings.{listing_of, line_of, op_text, sub_text, part_text, create_text, delete_text, set_data_text, set_acl_text, check_text, error_text, ephemeral_text, header_text};
+ghost use Rattle.zk_listing.specs.Listings.{IsListed, HasCountedAcls, listing_of, line_of, op_text, sub_text, part_text, create_text, delete_text, set_data_text, set_acl_text, check_text, error_text, ephemeral_text, header_text};
 
-use crate::spelling::{push_acl, push_content, push_id, push_quoted};
+use crate::ranges::{txn_is_listed, txns_are_listed};
+use crate::spelling::{push_id, spell_acl, spell_content, spell_next_id, spell_quoted};
 use std::alloc::Global;
 use zk_acl::Acls;
 use zk_path::{NoMemory, Path};
 use zk_table::{Content, Op, Sub, Txn};
 
-/// The listing of these transactions: one line for each.
+/// The listing of these transactions: one line for each. [`assemble`](crate::assemble) gives them back, unless an access
+/// control list has more entries than a line can count.
 pub fn list(alloc: Global, txns: &[Txn]) -> Result<String, NoMemory>
-    ensures { IfOk result (λ text. string_bytes text ≡ listing_of txns.now) }
+    ensures spelled { IfOk result (λ text. string_bytes text ≡ listing_of txns.now) }
+    ensures listed { AllByRecursion HasCountedAcls txns.now → AllByRecursion IsListed txns.now }
 {
+    txns_are_listed(txns);
     let mut text = String::new(alloc);
     for txn in txns {
-        push_line(&mut text, txn)?;
+        spell_line(&mut text, txn)?;
     }
     Ok(text)
 }
 
 /// Appends a transaction's line, with its newline.
 pub fn push_line(text: &mut String, txn: &Txn) -> Result<(), NoMemory>
+    ensures appended { OnOk result (string_bytes text.new ≡ string_bytes text.old ++ line_of txn.now) }
+    ensures unchanged { OnErr result (string_bytes text.new ≡ string_bytes text.old) }
+    ensures listed { HasCountedAcls txn.now → IsListed txn.now }
+{
+    txn_is_listed(txn);
+    let mut line = String::new(*text.allocator());
+    spell_line(&mut line, txn)?;
+    text.push_str(line.as_str())?;
+    Ok(())
+}
+
+fn spell_line(text: &mut String, txn: &Txn) -> Result<(), NoMemory>
     ensures { OnOk result (string_bytes text.new ≡ string_bytes text.old ++ line_of txn.now) }
 {
-    push_header(text, txn)?;
+    spell_header(text, txn)?;
     text.push(' ')?;
-    push_op(text, &txn.op)?;
+    spell_op(text, &txn.op)?;
     text.push('\n')?;
     Ok(())
 }
 
 /// Appends the fields that each line begins with.
-fn push_header(text: &mut String, txn: &Txn) -> Result<(), NoMemory>
+fn spell_header(text: &mut String, txn: &Txn) -> Result<(), NoMemory>
     ensures { OnOk result (string_bytes text.new ≡ string_bytes text.old ++ header_text txn.now) }
 {
     push_id(text, txn.zxid)?;
-    text.push(' ')?;
-    push_id(text, txn.session)?;
+    spell_next_id(text, txn.session)?;
     write!(text, " {} {}", txn.cxid, txn.time)?;
     Ok(())
 }
 
 /// Appends an operation: its word, and a space before each field.
-fn push_op(text: &mut String, op: &Op) -> Result<(), NoMemory>
+fn spell_op(text: &mut String, op: &Op) -> Result<(), NoMemory>
     ensures { OnOk result (string_bytes text.new ≡ string_bytes text.old ++ op_text op.now) }
 {
     match op {
@@ -53,36 +68,36 @@ fn push_op(text: &mut String, op: &Op) -> Result<(), NoMemory>
             acl,
             ephemeral,
             count,
-        } => push_create(text, path, content, acl, *ephemeral, *count),
-        Op::Delete { path } => push_delete(text, path),
+        } => spell_create(text, path, content, acl, *ephemeral, *count),
+        Op::Delete { path } => spell_delete(text, path),
         Op::SetData {
             path,
             content,
             version,
-        } => push_set_data(text, path, content, *version),
-        Op::SetAcl { path, acl, version } => push_set_acl(text, path, acl, *version),
+        } => spell_set_data(text, path, content, *version),
+        Op::SetAcl { path, acl, version } => spell_set_acl(text, path, acl, *version),
         Op::OpenSession { timeout } => Ok(write!(text, "createSession {timeout}")?),
         Op::CloseSession => Ok(text.push_str("closeSession")?),
-        Op::Error { code } => push_error(text, *code),
-        Op::Multi { parts } => push_multi(text, parts.as_slice()),
+        Op::Error { code } => spell_error(text, *code),
+        Op::Multi { parts } => spell_multi(text, parts.as_slice()),
     }
 }
 
 /// Appends a multi's word, and each part behind its separator.
-fn push_multi(text: &mut String, parts: &[Sub]) -> Result<(), NoMemory>
+fn spell_multi(text: &mut String, parts: &[Sub]) -> Result<(), NoMemory>
     ensures { OnOk result
         (string_bytes text.new ≡ string_bytes text.old ++ (codes "multi" ++ flat_map part_text parts.now)) }
 {
     text.push_str("multi")?;
     for part in parts {
         text.push_str(" ; ")?;
-        push_sub(text, part)?;
+        spell_sub(text, part)?;
     }
     Ok(())
 }
 
 /// Appends a part of a multi.
-fn push_sub(text: &mut String, part: &Sub) -> Result<(), NoMemory>
+fn spell_sub(text: &mut String, part: &Sub) -> Result<(), NoMemory>
     ensures { OnOk result (string_bytes text.new ≡ string_bytes text.old ++ sub_text part.now) }
 {
     match part {
@@ -92,19 +107,19 @@ fn push_sub(text: &mut String, part: &Sub) -> Result<(), NoMemory>
             acl,
             ephemeral,
             count,
-        } => push_create(text, path, content, acl, *ephemeral, *count),
-        Sub::Delete { path } => push_delete(text, path),
+        } => spell_create(text, path, content, acl, *ephemeral, *count),
+        Sub::Delete { path } => spell_delete(text, path),
         Sub::SetData {
             path,
             content,
             version,
-        } => push_set_data(text, path, content, *version),
-        Sub::Check { path, version } => push_check(text, path, *version),
-        Sub::Error { code } => push_error(text, *code),
+        } => spell_set_data(text, path, content, *version),
+        Sub::Check { path, version } => spell_check(text, path, *version),
+        Sub::Error { code } => spell_error(text, *code),
     }
 }
 
-fn push_create(
+fn spell_create(
     text: &mut String,
     path: &Path,
     content: &Option<Content>,
@@ -116,18 +131,18 @@ fn push_create(
         ≡ string_bytes text.old ++ create_text path.now content.now acl.now ephemeral count) }
 {
     text.push_str("create ")?;
-    push_quoted(text, path.text())?;
+    spell_quoted(text, path.text())?;
     text.push(' ')?;
-    push_content(text, content)?;
+    spell_content(text, content)?;
     text.push(' ')?;
-    push_acl(text, acl)?;
-    push_ephemeral(text, ephemeral)?;
+    spell_acl(text, acl)?;
+    spell_ephemeral(text, ephemeral)?;
     write!(text, " {count}")?;
     Ok(())
 }
 
 /// Appends a space, and whether a node goes with its session.
-fn push_ephemeral(text: &mut String, ephemeral: bool) -> Result<(), NoMemory>
+fn spell_ephemeral(text: &mut String, ephemeral: bool) -> Result<(), NoMemory>
     ensures { OnOk result (string_bytes text.new ≡ string_bytes text.old ++ 32 ∷ ephemeral_text ephemeral) }
 {
     if ephemeral {
@@ -138,14 +153,14 @@ fn push_ephemeral(text: &mut String, ephemeral: bool) -> Result<(), NoMemory>
     Ok(())
 }
 
-fn push_delete(text: &mut String, path: &Path) -> Result<(), NoMemory>
+fn spell_delete(text: &mut String, path: &Path) -> Result<(), NoMemory>
     ensures { OnOk result (string_bytes text.new ≡ string_bytes text.old ++ delete_text path.now) }
 {
     text.push_str("delete ")?;
-    push_quoted(text, path.text())
+    spell_quoted(text, path.text())
 }
 
-fn push_set_data(
+fn spell_set_data(
     text: &mut String,
     path: &Path,
     content: &Option<Content>,
@@ -155,35 +170,35 @@ fn push_set_data(
         (string_bytes text.new ≡ string_bytes text.old ++ set_data_text path.now content.now version) }
 {
     text.push_str("setData ")?;
-    push_quoted(text, path.text())?;
+    spell_quoted(text, path.text())?;
     text.push(' ')?;
-    push_content(text, content)?;
+    spell_content(text, content)?;
     write!(text, " {version}")?;
     Ok(())
 }
 
-fn push_set_acl(text: &mut String, path: &Path, acl: &Acls, version: i32) -> Result<(), NoMemory>
+fn spell_set_acl(text: &mut String, path: &Path, acl: &Acls, version: i32) -> Result<(), NoMemory>
     ensures { OnOk result
         (string_bytes text.new ≡ string_bytes text.old ++ set_acl_text path.now acl.now version) }
 {
     text.push_str("setACL ")?;
-    push_quoted(text, path.text())?;
+    spell_quoted(text, path.text())?;
     text.push(' ')?;
-    push_acl(text, acl)?;
+    spell_acl(text, acl)?;
     write!(text, " {version}")?;
     Ok(())
 }
 
-fn push_check(text: &mut String, path: &Path, version: i32) -> Result<(), NoMemory>
+fn spell_check(text: &mut String, path: &Path, version: i32) -> Result<(), NoMemory>
     ensures { OnOk result (string_bytes text.new ≡ string_bytes text.old ++ check_text path.now version) }
 {
     text.push_str("check ")?;
-    push_quoted(text, path.text())?;
+    spell_quoted(text, path.text())?;
     write!(text, " {version}")?;
     Ok(())
 }
 
-fn push_error(text: &mut String, code: i32) -> Result<(), NoMemory>
+fn spell_error(text: &mut String, code: i32) -> Result<(), NoMemory>
     ensures { OnOk result (string_bytes text.new ≡ string_bytes text.old ++ error_text code) }
 {
     write!(text, "error {code}")?;

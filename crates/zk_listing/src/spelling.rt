@@ -1,4 +1,6 @@
-ghost use Rattle.std.specs.Prelude.{◌≡◌, ◌++◌, OnOk};
+//! The spelling of fields. What is public appends a whole field, or nothing where memory is refused; what is not leaves a
+//! part behind then, and goes into a text of its own.
+ghost use Rattle.std.specs.Prelude.{◌≡◌, ◌++◌, ◌∷◌, OnErr, OnOk};
 ghost use Rattle.std.specs.List.{flat_map, list_any};
 ghost use Rattle.std.specs.Option.{option_copied};
 ghost use Rattle.std.specs.Str.{chars};
@@ -12,7 +14,8 @@ use zk_table::Content;
 /// Appends the sixteen lower-case hexadecimal digits of 64 bits.
 #[tactic(auto, unfolding(crate::specs::Spelling::sixteen_digits))]
 pub fn push_digits(line: &mut String, bits: u64) -> Result<(), NoMemory>
-    ensures { OnOk result (string_bytes line.new ≡ string_bytes line.old ++ sixteen_digits bits) }
+    ensures appended { OnOk result (string_bytes line.new ≡ string_bytes line.old ++ sixteen_digits bits) }
+    ensures unchanged { OnErr result (string_bytes line.new ≡ string_bytes line.old) }
 {
     let digits = hex::encode(*line.allocator(), bits.to_be_bytes())?;
     line.push_str(digits.as_str())?;
@@ -21,24 +24,44 @@ pub fn push_digits(line: &mut String, bits: u64) -> Result<(), NoMemory>
 
 /// Appends the sixteen digits of a transaction's or a session's number, which is signed.
 pub fn push_id(line: &mut String, id: i64) -> Result<(), NoMemory>
-    ensures { OnOk result (string_bytes line.new ≡ string_bytes line.old ++ id_digits id) }
+    ensures appended { OnOk result (string_bytes line.new ≡ string_bytes line.old ++ id_digits id) }
+    ensures unchanged { OnErr result (string_bytes line.new ≡ string_bytes line.old) }
 {
     push_digits(line, id.cast_unsigned())
 }
 
+/// Appends a space and the digits of a number.
+pub(crate) fn spell_next_id(line: &mut String, id: i64) -> Result<(), NoMemory>
+    ensures { OnOk result (string_bytes line.new ≡ string_bytes line.old ++ 32 ∷ id_digits id) }
+{
+    line.push_str(" ")?;
+    push_id(line, id)?;
+    Ok(())
+}
+
 /// Appends a text between quotes. Quotes, backslashes and control characters are escaped.
-#[tactic(auto, unfolding(crate::specs::Spelling::quoted))]
 pub fn push_quoted(line: &mut String, text: &str) -> Result<(), NoMemory>
+    ensures appended { OnOk result (string_bytes line.new ≡ string_bytes line.old ++ quoted text.now) }
+    ensures unchanged { OnErr result (string_bytes line.new ≡ string_bytes line.old) }
+{
+    let mut spelled = String::new(*line.allocator());
+    spell_quoted(&mut spelled, text)?;
+    line.push_str(spelled.as_str())?;
+    Ok(())
+}
+
+#[tactic(auto, unfolding(crate::specs::Spelling::quoted))]
+pub(crate) fn spell_quoted(line: &mut String, text: &str) -> Result<(), NoMemory>
     ensures { OnOk result (string_bytes line.new ≡ string_bytes line.old ++ quoted text.now) }
 {
     line.push('"')?;
-    push_between_quotes(line, text)?;
+    spell_between_quotes(line, text)?;
     line.push('"')?;
     Ok(())
 }
 
 /// Appends a text as it stands between quotes. Most texts have nothing to escape, and go in whole.
-fn push_between_quotes(line: &mut String, text: &str) -> Result<(), NoMemory>
+fn spell_between_quotes(line: &mut String, text: &str) -> Result<(), NoMemory>
     ensures { OnOk result (string_bytes line.new ≡ string_bytes line.old ++ flat_map escaped (chars text.now)) }
 {
     if !has_escaped(text) {
@@ -46,7 +69,7 @@ fn push_between_quotes(line: &mut String, text: &str) -> Result<(), NoMemory>
         return Ok(());
     }
     for c in text.chars() {
-        push_escaped(line, c)?;
+        spell_escaped(line, c)?;
     }
     Ok(())
 }
@@ -54,13 +77,19 @@ fn push_between_quotes(line: &mut String, text: &str) -> Result<(), NoMemory>
 fn has_escaped(text: &str) -> bool
     ensures { result ≡ list_any is_escaped text.now }
 {
-    text.bytes()
-        .any(|b| b == b'"' || b == b'\\' || b.is_ascii_control())
+    text.bytes().any(is_escaped)
+}
+
+/// Whether a byte doesn't stand for itself between quotes.
+fn is_escaped(byte: u8) -> bool
+    ensures { result ≡ is_escaped byte }
+{
+    byte == b'"' || byte == b'\\' || byte.is_ascii_control()
 }
 
 /// Appends a character as it stands between quotes.
 #[tactic(auto, unfolding(crate::specs::Spelling::escaped))]
-fn push_escaped(line: &mut String, c: char) -> Result<(), NoMemory>
+fn spell_escaped(line: &mut String, c: char) -> Result<(), NoMemory>
     ensures { OnOk result (string_bytes line.new ≡ string_bytes line.old ++ escaped c) }
 {
     if c == '"' || c == '\\' {
@@ -75,8 +104,18 @@ fn push_escaped(line: &mut String, c: char) -> Result<(), NoMemory>
 }
 
 /// Appends a node's content: `-` where it is null, else `x` and two hexadecimal digits for each byte.
-#[tactic(auto, unfolding(crate::specs::Spelling::content_text))]
 pub fn push_content(line: &mut String, content: &Option<Content>) -> Result<(), NoMemory>
+    ensures appended { OnOk result (string_bytes line.new ≡ string_bytes line.old ++ content_text content.now) }
+    ensures unchanged { OnErr result (string_bytes line.new ≡ string_bytes line.old) }
+{
+    let mut spelled = String::new(*line.allocator());
+    spell_content(&mut spelled, content)?;
+    line.push_str(spelled.as_str())?;
+    Ok(())
+}
+
+#[tactic(auto, unfolding(crate::specs::Spelling::content_text))]
+pub(crate) fn spell_content(line: &mut String, content: &Option<Content>) -> Result<(), NoMemory>
     ensures { OnOk result (string_bytes line.new ≡ string_bytes line.old ++ content_text content.now) }
 {
     match content {
@@ -91,56 +130,78 @@ pub fn push_content(line: &mut String, content: &Option<Content>) -> Result<(), 
 }
 
 /// Appends an access control list: the number of its entries, and the three fields of each.
-#[tactic(auto, unfolding(crate::specs::Spelling::acl_text))]
 pub fn push_acl(line: &mut String, acl: &Acls) -> Result<(), NoMemory>
+    ensures appended { OnOk result (string_bytes line.new ≡ string_bytes line.old ++ acl_text acl.now) }
+    ensures unchanged { OnErr result (string_bytes line.new ≡ string_bytes line.old) }
+{
+    let mut spelled = String::new(*line.allocator());
+    spell_acl(&mut spelled, acl)?;
+    line.push_str(spelled.as_str())?;
+    Ok(())
+}
+
+#[tactic(auto, unfolding(crate::specs::Spelling::acl_text))]
+pub(crate) fn spell_acl(line: &mut String, acl: &Acls) -> Result<(), NoMemory>
     ensures { OnOk result (string_bytes line.new ≡ string_bytes line.old ++ acl_text acl.now) }
 {
     let entries = acl.as_slice();
     write!(line, "{}", entries.len())?;
     for entry in entries {
-        push_acl_entry(line, entry)?;
+        spell_acl_entry(line, entry)?;
     }
     Ok(())
 }
 
 /// Appends a space and the fields of an entry.
 #[tactic(auto, unfolding(crate::specs::Spelling::acl_entry_text))]
-fn push_acl_entry(line: &mut String, entry: &Acl) -> Result<(), NoMemory>
+fn spell_acl_entry(line: &mut String, entry: &Acl) -> Result<(), NoMemory>
     ensures { OnOk result (string_bytes line.new ≡ string_bytes line.old ++ acl_entry_text entry.now) }
 {
-    write!(line, " {} ", entry.perms)?;
-    push_quoted(line, entry.id.scheme.as_str())?;
+    write!(line, " {}", entry.perms)?;
     line.push(' ')?;
-    push_quoted(line, entry.id.id.as_str())
+    spell_quoted(line, entry.id.scheme.as_str())?;
+    line.push(' ')?;
+    spell_quoted(line, entry.id.id.as_str())?;
+    Ok(())
 }
 
 /// Appends a stat's eleven fields.
-#[tactic(auto, unfolding(crate::specs::Spelling::stat_text))]
 pub fn push_stat(line: &mut String, stat: &Stat) -> Result<(), NoMemory>
+    ensures appended { OnOk result (string_bytes line.new ≡ string_bytes line.old ++ stat_text stat.now) }
+    ensures unchanged { OnErr result (string_bytes line.new ≡ string_bytes line.old) }
+{
+    let mut spelled = String::new(*line.allocator());
+    spell_stat(&mut spelled, stat)?;
+    line.push_str(spelled.as_str())?;
+    Ok(())
+}
+
+#[tactic(auto, unfolding(crate::specs::Spelling::stat_text))]
+pub(crate) fn spell_stat(line: &mut String, stat: &Stat) -> Result<(), NoMemory>
     ensures { OnOk result (string_bytes line.new ≡ string_bytes line.old ++ stat_text stat.now) }
 {
-    push_stat_times(line, stat)?;
+    spell_stat_times(line, stat)?;
     line.push(' ')?;
-    push_stat_versions(line, stat)?;
+    spell_stat_versions(line, stat)?;
     line.push(' ')?;
-    push_stat_rest(line, stat)
+    spell_stat_rest(line, stat)?;
+    Ok(())
 }
 
 /// Appends a stat's first four fields.
 #[tactic(auto, unfolding(crate::specs::Spelling::stat_times))]
-fn push_stat_times(line: &mut String, stat: &Stat) -> Result<(), NoMemory>
+fn spell_stat_times(line: &mut String, stat: &Stat) -> Result<(), NoMemory>
     ensures { OnOk result (string_bytes line.new ≡ string_bytes line.old ++ stat_times stat.now) }
 {
     push_id(line, stat.czxid)?;
-    line.push(' ')?;
-    push_id(line, stat.mzxid)?;
+    spell_next_id(line, stat.mzxid)?;
     write!(line, " {} {}", stat.ctime, stat.mtime)?;
     Ok(())
 }
 
 /// Appends a stat's three versions.
 #[tactic(auto, unfolding(crate::specs::Spelling::stat_versions))]
-fn push_stat_versions(line: &mut String, stat: &Stat) -> Result<(), NoMemory>
+fn spell_stat_versions(line: &mut String, stat: &Stat) -> Result<(), NoMemory>
     ensures { OnOk result (string_bytes line.new ≡ string_bytes line.old ++ stat_versions stat.now) }
 {
     write!(line, "{} {} {}", stat.version, stat.cversion, stat.aversion)?;
@@ -149,10 +210,11 @@ fn push_stat_versions(line: &mut String, stat: &Stat) -> Result<(), NoMemory>
 
 /// Appends a stat's last four fields.
 #[tactic(auto, unfolding(crate::specs::Spelling::stat_rest))]
-fn push_stat_rest(line: &mut String, stat: &Stat) -> Result<(), NoMemory>
+fn spell_stat_rest(line: &mut String, stat: &Stat) -> Result<(), NoMemory>
     ensures { OnOk result (string_bytes line.new ≡ string_bytes line.old ++ stat_rest stat.now) }
 {
     push_id(line, stat.ephemeral_owner)?;
-    write!(line, " {} {} ", stat.data_length, stat.num_children)?;
-    push_id(line, stat.pzxid)
+    write!(line, " {} {}", stat.data_length, stat.num_children)?;
+    spell_next_id(line, stat.pzxid)?;
+    Ok(())
 }

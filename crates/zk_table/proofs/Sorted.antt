@@ -1,8 +1,9 @@
 -- Maps that are kept as lists in the order of their keys.
-use Rattle.std.proofs.Common.{◌≡◌, ℕ, zero, suc, ◌+◌, ◌<◌, ◌≤◌, Bool, true, false, cond, ◌&&◌, T, List, [], ◌∷◌, length, get_or, set, insert, remove, Option, Some, None, Result, Ok, Err, MatchResult, refl, sym, subst, ap, ◌∙◌, IsTrue, arith, Less, Equal, Greater, is_eq, is_lt, suc-le-suc}
+use Rattle.std.proofs.Common.{◌≡◌, ℕ, zero, suc, ◌+◌, ◌<◌, ◌≤◌, Bool, true, false, cond, ◌&&◌, T, List, [], ◌∷◌, length, get_or, drop, set, insert, remove, Option, Some, None, Result, Ok, Err, MatchResult, refl, sym, subst, ap, ◌∙◌, IsTrue, arith, Less, Equal, Greater, is_eq, is_lt, suc-le-suc}
 use Rattle.std.proofs.lemmas.Bool.{and_parts, and_from, false≢true}
 use Rattle.std.proofs.lemmas.Result.{MatchResult-at_ok, MatchResult-at_err}
 use Rattle.std.proofs.lemmas.Cmp.{tied_back}
+use Rattle.std.proofs.lemmas.List.{at_drop_more}
 use Rattle.std.specs.declared.cmp.Ordering.{Ordering}
 use Rattle.std.specs.Ordering.{eq_by_cmp, match_ordering}
 use Rattle.std.specs.Cmp.{IsTotalOrder}
@@ -39,6 +40,28 @@ nothing_kept R = empty_of_len _ (len-entries _ ∙ ap length (entries-from_sorte
 abbrev pub later_by : ℕ → Result ℕ ℕ → Result ℕ ℕ
 later_by n (Ok at) = Ok (n + at)
 later_by n (Err at) = Err (n + at)
+
+one_further : (n : ℕ) (r : Result ℕ ℕ) → later_by n (one_later r) ≡ later_by (n + 1) r
+one_further n (Ok at) = ap Ok (omega arith)
+one_further n (Err at) = ap Err (omega arith)
+
+-- a walk along the list, which has come to a place
+module _ {K X : Type 0} (R : K → K → Ordering) (k : K) (es : List (K × X)) (n at : ℕ) (d : K × X) (same : n ≡ at) (below : at < length es) where
+  stepped : (r : Ordering) → R k (get_or es at d).0 ≡ r → place_of R k es ≡ later_by n (place_of R k (drop n es)) → place_of R k es ≡ later_by n (match_ordering r (Err 0) (Ok 0) (one_later (place_of R k (drop (n + 1) es))))
+  stepped r p h =
+      h
+      ∙ at_drop_more (λ l. later_by n (place_of R k l)) es n d (subst (λ i. i < length es) (sym same) below)
+      ∙ ap (λ i. later_by n (match_ordering (R k (get_or es i d).0) (Err 0) (Ok 0) (one_later (place_of R k (drop (n + 1) es))))) same
+      ∙ ap (λ o. later_by n (match_ordering o (Err 0) (Ok 0) (one_later (place_of R k (drop (n + 1) es))))) p
+
+  pub walked_before : R k (get_or es at d).0 ≡ Less → place_of R k es ≡ later_by n (place_of R k (drop n es)) → place_of R k es ≡ Err n
+  walked_before p h = stepped Less p h ∙ ap Err (omega arith)
+
+  pub walked_to : R k (get_or es at d).0 ≡ Equal → place_of R k es ≡ later_by n (place_of R k (drop n es)) → place_of R k es ≡ Ok n
+  walked_to p h = stepped Equal p h ∙ ap Ok (omega arith)
+
+  pub walked_past : R k (get_or es at d).0 ≡ Greater → place_of R k es ≡ later_by n (place_of R k (drop n es)) → place_of R k es ≡ later_by (n + 1) (place_of R k (drop (n + 1) es))
+  walked_past p h = stepped Greater p h ∙ one_further n (place_of R k (drop (n + 1) es))
 
 ordered : (r : Ordering) → is_lt r ≡ true → r ≡ Less
 ordered Less e = refl

@@ -13,8 +13,6 @@ mod plain;
 mod result;
 mod sessions;
 mod sub;
-#[cfg(test)]
-mod tests;
 mod txn;
 
 pub use content::Content;

@@ -1,9 +1,9 @@
 //! What the parts of a multi do, and what they answer.
 
-ghost use Rattle.std.specs.Prelude.{◌≡◌, OnOk, IfOk, pos, if◌then◌else◌};
+ghost use Rattle.std.specs.Prelude.{◌≡◌, OnOk, IfOk, None, pos, if◌then◌else◌};
 ghost use Rattle.std.specs.List.{list_any};
 ghost use Rattle.zk_table.specs.Codes.{runtime_inconsistency};
-ghost use Rattle.zk_table.specs.Multis.{apply_part, nodes_after, answers_of, answers_unapplied, is_error, first_refusal};
+ghost use Rattle.zk_table.specs.Multis.{apply_part, nodes_after, answers_of, answers_unapplied, is_error, code_of, path_of, first_refusal};
 
 use crate::codes::RUNTIME_INCONSISTENCY;
 use crate::nodes::Nodes;
@@ -69,15 +69,22 @@ pub fn answers_unapplied(alloc: Global, parts: &[Sub]) -> Result<Vec<PartResult>
     let mut answers = Vec::new(alloc);
     let mut code = 0;
     for part in parts {
-        let path = part.path_told()?;
-        answers.push(PartResult {
-            err: part.code_of(code),
-            path,
-            stat: None,
-        })?;
+        answers.push(answer_unapplied(part, code)?)?;
         code = code_behind(part, code);
     }
     Ok(answers)
+}
+
+/// What a part answers that is not applied: an error its own code, and any other this one.
+fn answer_unapplied(part: &Sub, code: i32) -> Result<PartResult, NoMemory>
+    ensures { IfOk result (λ answer. answer ≡ record { err = code_of code part.now; path = path_of part.now; stat = None }) }
+{
+    let path = part.path_told()?;
+    Ok(PartResult {
+        err: part.code_of(code),
+        path,
+        stat: None,
+    })
 }
 
 /// What parts answer behind this one, where those before it answer this code.

@@ -81,7 +81,8 @@ impl Node {
         })
     }
 
-    /// The same node once more.
+    /// The same node once more, over the same content and access control list: no memory is taken, as at
+    /// [`Content::copy`].
     pub fn copy(&self) -> Result<Node, NoMemory>
         ensures { IfOk result (λ copy. copy ≡ self.now) }
     {

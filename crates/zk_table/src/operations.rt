@@ -103,7 +103,8 @@ impl Nodes {
         if let Some(code) = self.missing_fault(path) {
             return Ok(PartResult::refused(told, code));
         }
-        self.guard(path.text(), acl.copy()?, version);
+        let acl = acl.copy()?;
+        self.guard(path.text(), acl, version);
         let stat = self.stat_at(path.text());
         Ok(PartResult::done(told, stat))
     }

@@ -1,4 +1,5 @@
 ghost use Rattle.std.specs.Prelude.{◌≡◌, IfOk, IsOk, IsTrue};
+ghost use Rattle.zk_table.specs.declared.sub.Sub.TheVariants as parts;
 ghost use Rattle.zk_table.specs.Multis.{is_error, code_of, path_of};
 
 use crate::content::Content;
@@ -55,27 +56,14 @@ impl Sub {
                 acl,
                 ephemeral,
                 count,
-            } => Ok(Sub::Create {
-                path: path.copy()?,
-                content: node::copy_of(content)?,
-                acl: acl.copy()?,
-                ephemeral: *ephemeral,
-                count: *count,
-            }),
-            Sub::Delete { path } => Ok(Sub::Delete { path: path.copy()? }),
+            } => copy_of_create(path, content, acl, *ephemeral, *count),
+            Sub::Delete { path } => copy_of_delete(path),
             Sub::SetData {
                 path,
                 content,
                 version,
-            } => Ok(Sub::SetData {
-                path: path.copy()?,
-                content: node::copy_of(content)?,
-                version: *version,
-            }),
-            Sub::Check { path, version } => Ok(Sub::Check {
-                path: path.copy()?,
-                version: *version,
-            }),
+            } => copy_of_set_data(path, content, *version),
+            Sub::Check { path, version } => copy_of_check(path, *version),
             Sub::Error { code } => Ok(Sub::Error { code: *code }),
         }
     }
@@ -109,6 +97,53 @@ impl Sub {
             Sub::Error { .. } => Ok(None),
         }
     }
+}
+
+fn copy_of_create(
+    path: &Path,
+    content: &Option<Content>,
+    acl: &Acls,
+    ephemeral: bool,
+    count: i32,
+) -> Result<Sub, NoMemory>
+    ensures { IfOk result (λ part. part ≡ parts.Create path.now content.now acl.now ephemeral count) }
+{
+    let path = path.copy()?;
+    let content = node::copy_of(content)?;
+    let acl = acl.copy()?;
+    Ok(Sub::Create {
+        path,
+        content,
+        acl,
+        ephemeral,
+        count,
+    })
+}
+
+fn copy_of_delete(path: &Path) -> Result<Sub, NoMemory>
+    ensures { IfOk result (λ part. part ≡ parts.Delete path.now) }
+{
+    let path = path.copy()?;
+    Ok(Sub::Delete { path })
+}
+
+fn copy_of_set_data(path: &Path, content: &Option<Content>, version: i32) -> Result<Sub, NoMemory>
+    ensures { IfOk result (λ part. part ≡ parts.SetData path.now content.now version) }
+{
+    let path = path.copy()?;
+    let content = node::copy_of(content)?;
+    Ok(Sub::SetData {
+        path,
+        content,
+        version,
+    })
+}
+
+fn copy_of_check(path: &Path, version: i32) -> Result<Sub, NoMemory>
+    ensures { IfOk result (λ part. part ≡ parts.Check path.now version) }
+{
+    let path = path.copy()?;
+    Ok(Sub::Check { path, version })
 }
 
 /// The parts of a multi, seen as their list.

@@ -92,34 +92,73 @@ impl Op {
                 acl,
                 ephemeral,
                 count,
-            } => Ok(Op::Create {
-                path: path.copy()?,
-                content: node::copy_of(content)?,
-                acl: acl.copy()?,
-                ephemeral: *ephemeral,
-                count: *count,
-            }),
-            Op::Delete { path } => Ok(Op::Delete { path: path.copy()? }),
+            } => copy_of_create(path, content, acl, *ephemeral, *count),
+            Op::Delete { path } => copy_of_delete(path),
             Op::SetData {
                 path,
                 content,
                 version,
-            } => Ok(Op::SetData {
-                path: path.copy()?,
-                content: node::copy_of(content)?,
-                version: *version,
-            }),
-            Op::SetAcl { path, acl, version } => Ok(Op::SetAcl {
-                path: path.copy()?,
-                acl: acl.copy()?,
-                version: *version,
-            }),
+            } => copy_of_set_data(path, content, *version),
+            Op::SetAcl { path, acl, version } => copy_of_set_acl(path, acl, *version),
             Op::OpenSession { timeout } => Ok(Op::OpenSession { timeout: *timeout }),
             Op::CloseSession => Ok(Op::CloseSession),
-            Op::Multi { parts } => Ok(Op::Multi {
-                parts: parts.copy()?,
-            }),
+            Op::Multi { parts } => copy_of_multi(parts),
             Op::Error { code } => Ok(Op::Error { code: *code }),
         }
     }
+}
+
+fn copy_of_create(
+    path: &Path,
+    content: &Option<Content>,
+    acl: &Acls,
+    ephemeral: bool,
+    count: i32,
+) -> Result<Op, NoMemory>
+    ensures { IfOk result (λ op. op ≡ ops.Create path.now content.now acl.now ephemeral count) }
+{
+    let path = path.copy()?;
+    let content = node::copy_of(content)?;
+    let acl = acl.copy()?;
+    Ok(Op::Create {
+        path,
+        content,
+        acl,
+        ephemeral,
+        count,
+    })
+}
+
+fn copy_of_delete(path: &Path) -> Result<Op, NoMemory>
+    ensures { IfOk result (λ op. op ≡ ops.Delete path.now) }
+{
+    let path = path.copy()?;
+    Ok(Op::Delete { path })
+}
+
+fn copy_of_set_data(path: &Path, content: &Option<Content>, version: i32) -> Result<Op, NoMemory>
+    ensures { IfOk result (λ op. op ≡ ops.SetData path.now content.now version) }
+{
+    let path = path.copy()?;
+    let content = node::copy_of(content)?;
+    Ok(Op::SetData {
+        path,
+        content,
+        version,
+    })
+}
+
+fn copy_of_set_acl(path: &Path, acl: &Acls, version: i32) -> Result<Op, NoMemory>
+    ensures { IfOk result (λ op. op ≡ ops.SetAcl path.now acl.now version) }
+{
+    let path = path.copy()?;
+    let acl = acl.copy()?;
+    Ok(Op::SetAcl { path, acl, version })
+}
+
+fn copy_of_multi(parts: &Subs) -> Result<Op, NoMemory>
+    ensures { IfOk result (λ op. op ≡ ops.Multi parts.now) }
+{
+    let parts = parts.copy()?;
+    Ok(Op::Multi { parts })
 }

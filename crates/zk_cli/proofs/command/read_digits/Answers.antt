@@ -16,7 +16,7 @@ returns c = λ bits fits e.
     let read : decode_sized word 8 ≡ Ok c.in-Ok.bytes = sym c.from_hex.ensures ∙ c.in-Ok.is in
     let value : c.from_be_bytes-bits.result ≡ bits = c.from_be_bytes-bits.ensures ∙ same_bits word c.in-Ok.bytes bits fits read e in
     let digits : c.as_str.result.now ≡ word =
-    c.as_str.ensures.value ∙ (c.in_ok-push_digits.ensures ∙ (ap (λ l. l ++ sixteen_digits c.from_be_bytes-bits.result) c.new-digits.ensures.bytes ∙ (ap sixteen_digits value ∙ sym e))) in
+    c.as_str.ensures.value ∙ (c.in_ok-push_digits.ensures.appended ∙ (ap (λ l. l ++ sixteen_digits c.from_be_bytes-bits.result) c.new-digits.ensures.bytes ∙ (ap sixteen_digits value ∙ sym e))) in
     let equal : bytes_eq c.as_str.result.now word ≡ true = (bytes_eq-Decides c.as_str.result.now word).1 digits in
     let differs : false ≡ bytes_eq c.as_str.result.now word = c.if-eq.ensures in
     let never : false ≡ true = differs ∙ equal in

@@ -1,4 +1,4 @@
-use Rattle.std.proofs.Common.{◌≡◌, ◌+◌, ◌<◌, ℕ, List, length, take, get_or, subst, arith}
+use Rattle.std.proofs.Common.{◌+◌, ◌<◌, ℕ, List, length, take, subst, arith}
 use Rattle.std.proofs.lemmas.Result.{err_from_is_err_and}
 use Rattle.std.specs.Io.KnownBytes.{Appends}
 use Rattle.std.specs.List.{flat_map}
@@ -27,7 +27,7 @@ returns-in_err-write_all g c =
     let within : at < length txns = omega arith in
     let page = string_bytes c.push_line.new.text in
     let on : OnPage contents c.args.output.now c.loop-txn.output (flat_map line_of (take (at + 1) txns)) page =
-    line_on_page contents line_of txns at c.txn-item.result c.args.output.now c.loop-txn.output (string_bytes c.loop-txn.page) page within c.txn-item.is c.loop-txn.invariant c.in_ok-push_line.ensures in
+    line_on_page contents line_of txns at c.txn-item.result c.args.output.now c.loop-txn.output (string_bytes c.loop-txn.page) page within c.txn-item.is c.loop-txn.invariant c.in_ok-push_line.ensures.appended in
     let broke : BrokeOff contents c.loop-txn.output c.write_all.new.self page = record {
       bytes = subst (λ (l : List ℕ). AppendsSome (contents (writer_of c.loop-txn.output)) (contents (writer_of c.write_all.new.self)) l) c.as_bytes.ensures.value c.in_err-write_all.ensures.err;
       failures = c.in_err-write_all.ensures.failures;
@@ -43,7 +43,7 @@ loop-txn-preserved g c =
     let within : at < length txns = omega arith in
     let page = string_bytes c.push_line.new.text in
     let on : OnPage contents c.args.output.now c.loop-txn.output (flat_map line_of (take (at + 1) txns)) page =
-    line_on_page contents line_of txns at c.txn-item.result c.args.output.now c.loop-txn.output (string_bytes c.loop-txn.page) page within c.txn-item.is c.loop-txn.invariant c.in_ok-push_line.ensures in
+    line_on_page contents line_of txns at c.txn-item.result c.args.output.now c.loop-txn.output (string_bytes c.loop-txn.page) page within c.txn-item.is c.loop-txn.invariant c.in_ok-push_line.ensures.appended in
     elim c.if-len-ge-PAGE.branch [
       | then-len-ge-PAGE+in_ok-write_all w ↦
           let wrote : Wrote contents c.loop-txn.output w.write_all.new.self page = record {

@@ -1,5 +1,5 @@
-use Rattle.std.proofs.Common.{◌≡◌, ◌∙◌}
-use Rattle.std.proofs.lemmas.List.{take_all}
+use Rattle.std.proofs.Common.{◌≡◌, ◌∙◌, ◌++◌, ◌∷◌, [], sym, ap₂}
+use Rattle.std.proofs.lemmas.List.{take_all, take_more}
 use Rattle.std.specs.FinMap.{entries}
 use Rattle.zk_table.specs.States.{path_cmp}
 use Rattle.zk_table.proofs.Sorted.{sorted_from_entries, kept_from_entries}
@@ -14,3 +14,9 @@ invariant_of-result c = sorted_from_entries path_cmp _ _ (all_copied c)
 
 pub returns : goal.returns
 returns c = kept_from_entries path_cmp _ _ (all_copied c)
+
+pub loop-path-preserved : goal.loop-path-preserved
+loop-path-preserved c =
+    c.in_ok-push.ensures.items
+    ∙ ap₂ (λ es e. es ++ e ∷ []) c.loop-path.invariant (ap₂ (λ path node. (path, node)) c.in_ok-path.ensures c.in_ok-node.ensures ∙ c.loop-path-item.is)
+    ∙ sym (take_more c.as_slice-path-items.result.now c.loop-path.path-index c.loop-path-item.result c.loop-path-test.true)

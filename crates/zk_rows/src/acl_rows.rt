@@ -1,0 +1,51 @@
+//! Rows of `zk_acl`.
+
+use std::alloc::Global;
+use std::test::Fail;
+use zk_acl::{Acl, Acls, Id, Text};
+use zk_path::NoMemory;
+
+fn anyone(alloc: Global) -> Result<Id, NoMemory> {
+    let scheme = Text::new(String::from_str(alloc, "world")?);
+    let id = Text::read(alloc, "anyone")?;
+    Ok(Id { scheme, id })
+}
+
+/// Whether this entry lets everyone do this.
+fn is_for_anyone(acl: &Acl, perms: i32) -> bool {
+    acl.perms == perms && acl.id.scheme.as_str() == "world" && acl.id.id.as_str() == "anyone"
+}
+
+/// An entry of copies.
+fn copied_entry(alloc: Global, perms: i32) -> Result<Acl, NoMemory> {
+    let Id { scheme, id } = anyone(alloc)?.copy()?;
+    let id = Id {
+        scheme: scheme.copy()?,
+        id,
+    };
+    Acl { perms, id }.copy()
+}
+
+#[test]
+fn copies_are_the_same(rt: HostRuntime) -> Result<(), Fail> {
+    assert!(rt; is_for_anyone(&copied_entry(rt.alloc(), 1)?, 1));
+    Ok(())
+}
+
+/// A list of these entries, by its copy.
+fn copied_list(alloc: Global, perms: &[i32]) -> Result<Acls, NoMemory> {
+    let mut entries = Vec::new(alloc);
+    for perms in perms {
+        entries.push(copied_entry(alloc, *perms)?)?;
+    }
+    Acls::new(alloc, entries)?.copy()
+}
+
+#[test]
+fn copied_list_outlives_the_first(rt: HostRuntime) -> Result<(), Fail> {
+    match copied_list(rt.alloc(), &[31, 1])?.as_slice() {
+        [first, second] => assert!(rt; is_for_anyone(first, 31) && is_for_anyone(second, 1)),
+        _ => return Err("two entries".into()),
+    }
+    Ok(())
+}
