@@ -6,7 +6,7 @@ use Rattle.std.specs.FinMap as finite
 use Rattle.std.specs.Ordering.{ordering_then}
 use Rattle.zk_path.specs.Paths.{parent_of, before_last_slash, has_slash}
 use Rattle.zk_table.specs.States.{NodeMap, path_cmp}
-use Rattle.zk_machine.specs.Trees.{owner_at}
+use Rattle.zk_tree.specs.Trees.{owner_at}
 
 stem_less : (bs : List ℕ) → has_slash bs ≡ true → path_cmp (before_last_slash bs) bs ≡ Less
 stem_less [] h = absurd (false≢true h)

@@ -16,7 +16,7 @@ use Rattle.zk_table.specs.Nodes.{without_child}
 use Rattle.zk_table.specs.Operations.{without, without_all}
 use Rattle.zk_table.specs.States.{NodeMap, path_cmp, owned_by, children_of, changed_above, changed_found}
 use Rattle.zk_table.proofs.Sorted.{to_true}
-use Rattle.zk_machine.specs.Trees.{IsTree, owner_at}
+use Rattle.zk_tree.specs.Trees.{IsTree, owner_at}
 use Rattle.zk_machine.proofs.Texts.{same_is}
 use Rattle.zk_machine.proofs.Families.{childless, has_parent, same_itself}
 

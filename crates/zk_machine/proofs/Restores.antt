@@ -14,7 +14,7 @@ use Rattle.zk_table.specs.declared.node.Node.{Node}
 use Rattle.zk_table.specs.States.{NodeMap, path_cmp, children_of}
 use Rattle.zk_machine.specs.Notes.{Note}
 use Rattle.zk_machine.specs.Restoring.{must_go, cleared_at, cleared, filled_at, filled, begins_with_slash, all_begin}
-use Rattle.zk_machine.specs.Trees.{IsTree, owner_at}
+use Rattle.zk_tree.specs.Trees.{IsTree, owner_at}
 use Rattle.zk_machine.specs.Undoing.{all_put_back, IsState}
 use Rattle.zk_machine.proofs.Families.{childless, has_parent, same_itself}
 use Rattle.zk_machine.proofs.Notes.{was, get-all_put_back}

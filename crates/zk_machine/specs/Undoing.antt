@@ -6,7 +6,7 @@ use Rattle.std.specs.FinMap.{FinMap, get, insert, remove, entries, contains_key}
 use Rattle.zk_path.specs.Paths.{parent_of}
 use Rattle.zk_table.specs.declared.node.Node.{Node}
 use Rattle.zk_table.specs.States.{NodeMap, SessionMap, State, path_cmp}
-use Rattle.zk_machine.specs.Trees.{owner_at}
+use Rattle.zk_tree.specs.Trees.{owner_at}
 
 -- ---- nodes
 

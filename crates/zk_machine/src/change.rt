@@ -2,9 +2,9 @@ ghost use Rattle.std.specs.Prelude.{◌≡◌, ◌++◌, ◌∷◌, [], OnOk};
 ghost use Rattle.std.specs.FinMap as finite;
 ghost use Rattle.zk_machine.specs.Changes.{compared, changed_unless};
 
-use crate::tree::Tree;
 use zk_path::{NoMemory, Path};
 use zk_table::Node;
+use zk_tree::Tree;
 
 /// What happened at a path. The numbers are those of the events of the 3.4 server.
 ///

@@ -1,6 +1,7 @@
 ghost use Rattle.std.specs.Prelude.{◌≡◌};
 ghost use Rattle.zk_machine.specs.declared.fault.MachineFault.TheVariants as faults;
 
+use crate::undo::Undo;
 use thiserror::Error;
 use zk_path::NoMemory;
 
@@ -24,4 +25,11 @@ impl From<NoMemory> for MachineFault {
     fn from(_refused: NoMemory) -> MachineFault {
         MachineFault::NoMemory
     }
+}
+
+/// Why a machine didn't take a transaction back, and the record of it, which comes back but where memory was refused.
+#[derive(Debug, Drop)]
+pub struct UndoFault {
+    pub fault: MachineFault,
+    pub undo: Option<Undo>,
 }

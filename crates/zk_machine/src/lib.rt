@@ -14,11 +14,10 @@ mod restore;
 mod sessions;
 mod table;
 mod touched;
-mod tree;
 mod undo;
 
 pub use applied::Applied;
 pub use change::{Change, ChangeKind};
-pub use fault::MachineFault;
+pub use fault::{MachineFault, UndoFault};
 pub use machine::Machine;
 pub use undo::Undo;

@@ -4,23 +4,25 @@ ghost use Rattle.zk_machine.specs.declared.fault.MachineFault.TheVariants as fau
 ghost use Rattle.zk_table.specs.States.{start_state};
 ghost use Rattle.zk_table.specs.Steps.{step};
 ghost use Rattle.zk_machine.specs.Changes.{changes_of};
+ghost use Rattle.zk_machine.specs.Refusals.{IsUndoRefusal};
 ghost use Rattle.zk_machine.specs.Undoing.{IsState, restored};
 
 use crate::applied::Applied;
-use crate::fault::MachineFault;
+use crate::fault::{MachineFault, UndoFault};
 use crate::noted_tree::NotedTree;
 use crate::sessions::Sessions;
 use crate::table::Table;
 use crate::touched::Touched;
-use crate::tree::Tree;
+use crate::undo::Undo;
 use std::alloc::Global;
 use std::marker::Model;
 use zk_path::NoMemory;
 use zk_table::Txn;
+use zk_tree::Tree;
 
 /// The table over an indexed tree. A machine that is refused memory in the middle of a change has failed for good:
 /// every later call but [`Machine::has_failed`] answers [`MachineFault::Failed`].
-#[derive(Debug, Drop)]
+#[derive(Drop)]
 pub struct Machine {
     table: Table,
     steps: u64,
@@ -84,6 +86,40 @@ impl Machine {
         };
         self.steps += 1;
         Ok(applied)
+    }
+
+    /// Takes the last transaction back that was applied and not undone.
+    pub fn undo(&mut self, undo: Undo) -> Result<(), UndoFault>
+        // What the record restores is a state.
+        requires { self.old.failed ≡ false → undo.step ≡ self.old.steps → IsState (restored undo self.old.state).nodes }
+        ensures restored { OnOk result (self.new.state ≡ restored undo self.old.state) }
+        ensures last_step { OnOk result (undo.step ≡ self.old.steps) }
+        ensures counted { OnOk result (self.new.steps + 1 ≡ self.old.steps) }
+        ensures ran { OnOk result ((self.old.failed ≡ false) × (self.new.failed ≡ false)) }
+
+        ensures refused { IfErr result (λ refused. IsUndoRefusal self.old self.new undo refused) }
+    {
+        if self.failed {
+            return Err(UndoFault {
+                fault: MachineFault::Failed,
+                undo: Some(undo),
+            });
+        }
+        if undo.step() != self.steps {
+            return Err(UndoFault {
+                fault: MachineFault::NotLast,
+                undo: Some(undo),
+            });
+        }
+        let Ok(()) = self.table.take_back(undo) else {
+            self.failed = true;
+            return Err(UndoFault {
+                fault: MachineFault::NoMemory,
+                undo: None,
+            });
+        };
+        self.steps -= 1;
+        Ok(())
     }
 
     /// The nodes.

@@ -4,21 +4,21 @@ ghost use Rattle.std.specs.Option.{ForSome};
 ghost use Rattle.zk_path.specs.Paths.{parent_of};
 ghost use Rattle.zk_table.specs.Nodes.{with_child, without_child};
 ghost use Rattle.zk_table.specs.States.{children_of, parent_changed};
-ghost use Rattle.zk_machine.specs.Trees.{owner_at};
+ghost use Rattle.zk_tree.specs.Trees.{owner_at};
 ghost use Rattle.zk_machine.specs.Changes.{changes_between};
 ghost use Rattle.zk_machine.specs.Notes.{noted};
 ghost use Rattle.zk_machine.specs.Undoing.{nodes_before};
 
 use crate::change::{Change, compare};
 use crate::touched::Touched;
-use crate::tree::Tree;
 use std::alloc::Global;
 use zk_path::{NoMemory, Path};
 use zk_table::Node;
+use zk_tree::Tree;
 
 /// A tree, and what was touched in it since a transaction began. After want of memory the tree may be changed where
 /// nothing is noted, so that nothing can be put back.
-#[derive(Debug, Drop)]
+#[derive(Drop)]
 pub(crate) struct NotedTree {
     pub(crate) alloc: Global,
     pub(crate) tree: Tree,

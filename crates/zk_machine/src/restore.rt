@@ -6,13 +6,13 @@ ghost use Rattle.zk_path.specs.Paths.{parent_of};
 ghost use Rattle.zk_table.specs.declared.node.Node.{Node};
 ghost use Rattle.zk_table.specs.States.{NodeMap, path_cmp, children_of};
 ghost use Rattle.zk_machine.specs.Restoring.{must_go, cleared_at, cleared, filled_at, filled, all_begin};
-ghost use Rattle.zk_machine.specs.Trees.{owner_at};
+ghost use Rattle.zk_tree.specs.Trees.{owner_at};
 ghost use Rattle.zk_machine.specs.Undoing.{IsState, KeepsRoot, nodes_before, all_put_back};
 
 use crate::touched::Touched;
-use crate::tree::Tree;
 use zk_path::{NoMemory, Path};
 use zk_table::Node;
+use zk_tree::Tree;
 
 /// Puts back what was noted. Children go before their parents, and come after them.
 pub(crate) fn restore(tree: &mut Tree, touched: &Touched) -> Result<(), NoMemory>

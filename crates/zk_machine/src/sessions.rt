@@ -2,6 +2,7 @@ ghost use Rattle.std.specs.Prelude.{◌≡◌, ◌<◌, ◌≤◌, length, Match
 ghost use Rattle.std.specs.FinMap as finite;
 ghost use Rattle.std.specs.Ordering.{nat_cmp};
 ghost use Rattle.zk_table.specs.Places.{place_of};
+ghost use Rattle.zk_machine.specs.Undoing.{sessions_before};
 
 use std::alloc::Global;
 use std::cmp::Ordering;
@@ -98,5 +99,20 @@ impl Sessions {
             }
             Err(_) => None,
         }
+    }
+
+    /// Gives a session back the timeout that was noted, or closes it.
+    pub(crate) fn put_back(&mut self, note: Option<(u64, Option<i32>)>) -> Result<(), NoMemory>
+        ensures { OnOk result (self.new ≡ sessions_before note self.old) }
+    {
+        let Some((session, before)) = note else {
+            return Ok(());
+        };
+        let Some(timeout) = before else {
+            self.close(session);
+            return Ok(());
+        };
+        self.open(session, timeout)?;
+        Ok(())
     }
 }

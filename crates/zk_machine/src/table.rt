@@ -1,16 +1,17 @@
-ghost use Rattle.std.specs.Prelude.{◌≡◌, ◌<◌, IfOk};
+ghost use Rattle.std.specs.Prelude.{◌≡◌, ◌<◌, IfOk, OnOk};
 ghost use Rattle.std.specs.FinMap as finite;
 ghost use Rattle.zk_table.specs.Operations.{told};
 ghost use Rattle.zk_table.specs.Multis.{multi};
 ghost use Rattle.zk_table.specs.Steps.{open_session, close_session, step};
 ghost use Rattle.zk_machine.specs.Changes.{changes_of, multi_changes, changes_between};
 ghost use Rattle.zk_machine.specs.Tables.{state_of};
-ghost use Rattle.zk_machine.specs.Trees.{IsTree};
-ghost use Rattle.zk_machine.specs.Undoing.{nodes_before, sessions_before, restored};
+ghost use Rattle.zk_tree.specs.Trees.{IsTree};
+ghost use Rattle.zk_machine.specs.Undoing.{IsState, nodes_before, sessions_before, restored};
 
 use crate::applied::Applied;
 use crate::deed::Deed;
 use crate::noted_tree::NotedTree;
+use crate::restore::restore;
 use crate::sessions::Sessions;
 use crate::touched::Touched;
 use crate::undo::Undo;
@@ -20,7 +21,7 @@ use zk_table::{
 };
 
 /// The table: nodes, sessions and the last transaction. After want of memory in a change nothing is said of it.
-#[derive(Debug, Drop)]
+#[derive(Drop)]
 pub(crate) struct Table {
     pub(crate) nodes: NotedTree,
     pub(crate) sessions: Sessions,
@@ -153,5 +154,16 @@ impl Table {
             });
         }
         self.nodes.apply_parts(txn, parts)
+    }
+
+    /// Puts back what a transaction had touched.
+    pub(crate) fn take_back(&mut self, undo: Undo) -> Result<(), NoMemory>
+        requires { IsState (restored undo (state_of self.old)).nodes }
+        ensures { OnOk result (state_of self.new ≡ restored undo (state_of self.old)) }
+    {
+        restore(&mut self.nodes.tree, &undo.touched)?;
+        self.sessions.put_back(undo.session)?;
+        self.last = undo.last;
+        Ok(())
     }
 }

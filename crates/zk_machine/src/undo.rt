@@ -8,10 +8,10 @@ use std::marker::Model;
 /// last one. Dropped, its transaction can't be taken back any more.
 #[derive(Debug, Drop)]
 pub struct Undo {
-    step: u64,
-    last: i64,
-    session: Option<(u64, Option<i32>)>,
-    touched: Touched,
+    pub(crate) step: u64,
+    pub(crate) last: i64,
+    pub(crate) session: Option<(u64, Option<i32>)>,
+    pub(crate) touched: Touched,
 }
 
 impl Model for Undo {
@@ -47,5 +47,13 @@ impl Undo {
             session,
             touched,
         }
+    }
+
+    /// Which step it takes back, counted from 1.
+    pub(crate) fn step(&self) -> u64
+        ensures step { result ≡ self.now.step }
+        ensures counted { 0 < self.now.step }
+    {
+        self.step
     }
 }

@@ -1,6 +1,6 @@
 use Rattle.std.proofs.Common.{◌≡◌, ◌≤◌, drop, length}
 use Rattle.zk_machine.specs.Restoring.{cleared}
-use Rattle.zk_machine.specs.Trees.{IsTree}
+use Rattle.zk_tree.specs.Trees.{IsTree}
 use Rattle.zk_machine.proofs.restore.clear.Given as goal
 
 abbrev pub invariant-loop-at : goal.invariant-loop-at
