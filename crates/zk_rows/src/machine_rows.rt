@@ -146,10 +146,8 @@ fn are_same(one: &Node, other: &Node) -> bool {
 
 fn nodes_are_same(one: &[(Path, Node)], other: &[(Path, Node)]) -> bool {
     one.len() == other.len()
-        && one
-            .iter()
-            .zip(other.iter())
-            .all(|(left, right)| left.0.text() == right.0.text() && are_same(&left.1, &right.1))
+        && one.iter().zip(other.iter()).all(|(left, right)| left.0.text() == right.0.text()
+            && are_same(&left.1, &right.1))
 }
 
 fn stand_alike(one: &Standing, other: &Standing) -> bool {
@@ -269,9 +267,17 @@ fn machine_and_plain_table_agree(rt: HostRuntime) -> Result<(), Fail> {
     for txn in history(rt.alloc())?.as_slice() {
         let applied = applied(&mut machine, txn)?;
         let result = plain.apply(txn)?;
-        assert!(rt; results_are_same(&applied.result, &result), "at {}", txn.zxid);
+        assert!(rt;
+            results_are_same(&applied.result, &result),
+            "at {}",
+            txn.zxid
+        );
         let standing = standing_of(rt.alloc(), &machine)?;
-        assert!(rt; nodes_are_same(&standing.nodes, plain.nodes()), "at {}", txn.zxid);
+        assert!(rt;
+            nodes_are_same(&standing.nodes, plain.nodes()),
+            "at {}",
+            txn.zxid
+        );
         assert_eq!(rt; standing.sessions.as_slice(), plain.sessions());
         assert_eq!(rt; standing.last, plain.last());
     }

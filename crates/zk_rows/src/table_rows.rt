@@ -223,9 +223,7 @@ fn are_answered(alloc: Global, table: &mut Plain, rows: &[Row]) -> Result<bool, 
 
 /// Whether a part answers as its row says.
 fn is_told(answer: &PartResult, row: Row) -> bool {
-    answer.err == row.5
-        && is_path(&answer.path, row.2)
-        && answer.stat.is_some() == tells_stat(row)
+    answer.err == row.5 && is_path(&answer.path, row.2) && answer.stat.is_some() == tells_stat(row)
 }
 
 /// Whether the parts of a multi answer as their rows say.
