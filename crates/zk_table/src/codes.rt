@@ -1,13 +1,13 @@
 //! The codes of refusals, as the 3.4 server and its clients number them.
 
-pub(crate) const RUNTIME_INCONSISTENCY: i32 = -2;
+pub const RUNTIME_INCONSISTENCY: i32 = -2;
 
-pub(crate) const BAD_ARGUMENTS: i32 = -8;
+pub const BAD_ARGUMENTS: i32 = -8;
 
-pub(crate) const NO_NODE: i32 = -101;
+pub const NO_NODE: i32 = -101;
 
-pub(crate) const NO_CHILDREN_FOR_EPHEMERALS: i32 = -108;
+pub const NO_CHILDREN_FOR_EPHEMERALS: i32 = -108;
 
-pub(crate) const NODE_EXISTS: i32 = -110;
+pub const NODE_EXISTS: i32 = -110;
 
-pub(crate) const NOT_EMPTY: i32 = -111;
+pub const NOT_EMPTY: i32 = -111;

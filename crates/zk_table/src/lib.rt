@@ -3,7 +3,7 @@
 //! ZooKeeper Programmer's Guide, "The ZooKeeper Data Model"; `zookeeper.jute`, module `org.apache.zookeeper.txn`.
 #![tactic(auto)]
 
-mod codes;
+pub mod codes;
 mod content;
 mod multi;
 mod node;
@@ -16,6 +16,7 @@ mod sub;
 mod txn;
 
 pub use content::Content;
+pub use multi::{answers_unapplied, first_refusal, hold_error};
 pub use node::Node;
 pub use plain::Plain;
 pub use result::{PartResult, PartResults, TxnResult};

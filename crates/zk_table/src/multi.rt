@@ -7,8 +7,6 @@ ghost use Rattle.zk_table.specs.Multis.{apply_part, nodes_after, answers_of, ans
 
 use crate::codes::RUNTIME_INCONSISTENCY;
 use crate::nodes::Nodes;
-use crate::operations::done;
-use crate::plain::plain_answer;
 use crate::result::PartResult;
 use crate::sub::Sub;
 use crate::txn::Txn;
@@ -51,21 +49,21 @@ impl Nodes {
                 content,
                 version,
             } => self.set_data(txn, path, content, *version),
-            Sub::Check { path, .. } => Ok(done(path.copy()?, None)),
-            Sub::Error { code } => Ok(plain_answer(*code)),
+            Sub::Check { path, .. } => Ok(PartResult::done(path.copy()?, None)),
+            Sub::Error { code } => Ok(PartResult::plain(*code)),
         }
     }
 }
 
 /// Whether a part is an error, so that none is applied.
-pub(crate) fn hold_error(parts: &[Sub]) -> bool
+pub fn hold_error(parts: &[Sub]) -> bool
     ensures { result ≡ list_any is_error parts.now }
 {
     parts.iter().any(|part| part.is_error())
 }
 
 /// What parts answer that are not applied, of which one is an error.
-pub(crate) fn answers_unapplied(alloc: Global, parts: &[Sub]) -> Result<Vec<PartResult>, NoMemory>
+pub fn answers_unapplied(alloc: Global, parts: &[Sub]) -> Result<Vec<PartResult>, NoMemory>
     ensures { IfOk result (λ answers. answers.items ≡ answers_unapplied (pos 0) parts.now) }
 {
     let mut answers = Vec::new(alloc);
@@ -101,7 +99,7 @@ fn code_behind(part: &Sub, code: i32) -> i32
 }
 
 /// The first answer that is a refusal, and 0 where there is none.
-pub(crate) fn first_refusal(answers: &[PartResult]) -> i32
+pub fn first_refusal(answers: &[PartResult]) -> i32
     ensures { result ≡ first_refusal answers.now }
 {
     for answer in answers {

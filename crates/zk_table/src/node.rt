@@ -55,7 +55,7 @@ impl Node {
     }
 
     /// The node that a transaction creates.
-    pub(crate) fn created(
+    pub fn created(
         txn: &Txn,
         content: &Option<Content>,
         acl: &Acls,
@@ -94,7 +94,7 @@ impl Node {
     }
 
     /// Counts a child that the node got.
-    pub(crate) fn add_child(&mut self, zxid: i64, count: i32)
+    pub fn add_child(&mut self, zxid: i64, count: i32)
         ensures { self.new ≡ with_child zxid count self.old }
     {
         self.creates = next_creates(self.creates, count);
@@ -102,14 +102,14 @@ impl Node {
     }
 
     /// Notes that the node lost a child.
-    pub(crate) fn lose_child(&mut self, zxid: i64)
+    pub fn lose_child(&mut self, zxid: i64)
         ensures { self.new ≡ without_child zxid self.old }
     {
         self.pzxid = zxid;
     }
 
     /// Sets the node's content.
-    pub(crate) fn write(&mut self, txn: &Txn, content: Option<Content>, version: i32)
+    pub fn write(&mut self, txn: &Txn, content: Option<Content>, version: i32)
         ensures { self.new ≡ written txn.now content version self.old }
     {
         self.content = content;
@@ -119,7 +119,7 @@ impl Node {
     }
 
     /// Sets the node's access control list.
-    pub(crate) fn guard(&mut self, acl: Acls, version: i32)
+    pub fn guard(&mut self, acl: Acls, version: i32)
         ensures { self.new ≡ guarded acl version self.old }
     {
         self.acl = acl;

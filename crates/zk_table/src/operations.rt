@@ -1,6 +1,6 @@
 //! What each operation does to the nodes, alone or as a part of a multi.
 
-ghost use Rattle.std.specs.Prelude.{◌≡◌, pos, Some, None, IfOk, OnErr};
+ghost use Rattle.std.specs.Prelude.{◌≡◌, IfOk, OnErr};
 ghost use Rattle.zk_table.specs.Nodes.{with_child, without_child};
 ghost use Rattle.zk_table.specs.States.{parent_changed, stat_at, stat_of};
 ghost use Rattle.zk_table.specs.Operations.{create, create_fault, delete, delete_fault, missing_fault, set_data, set_acl, without, without_all};
@@ -30,12 +30,12 @@ impl Nodes {
     {
         let told = path.copy()?;
         if let Some(code) = self.create_fault(path) {
-            return Ok(refused(told, code));
+            return Ok(PartResult::refused(told, code));
         }
         let node = Node::created(txn, content, acl, ephemeral)?;
         self.insert(path.copy()?, node)?;
         self.parent_gains(path, txn.zxid, count);
-        Ok(done(told, None))
+        Ok(PartResult::done(told, None))
     }
 
     /// Removes a node that has no children. After [`NoMemory`] nothing is changed.
@@ -45,10 +45,10 @@ impl Nodes {
     {
         let told = path.copy()?;
         if let Some(code) = self.delete_fault(path) {
-            return Ok(refused(told, code));
+            return Ok(PartResult::refused(told, code));
         }
         self.take_away(txn, path);
-        Ok(done(told, None))
+        Ok(PartResult::done(told, None))
     }
 
     /// Removes the nodes at these paths in turn.
@@ -81,12 +81,12 @@ impl Nodes {
     {
         let told = path.copy()?;
         if let Some(code) = self.missing_fault(path) {
-            return Ok(refused(told, code));
+            return Ok(PartResult::refused(told, code));
         }
         let content = node::copy_of(content)?;
         self.write(path.text(), txn, content, version);
         let stat = self.stat_at(path.text());
-        Ok(done(told, stat))
+        Ok(PartResult::done(told, stat))
     }
 
     /// Sets a node's access control list and the list's version. After [`NoMemory`] nothing is changed.
@@ -101,12 +101,12 @@ impl Nodes {
     {
         let told = path.copy()?;
         if let Some(code) = self.missing_fault(path) {
-            return Ok(refused(told, code));
+            return Ok(PartResult::refused(told, code));
         }
         let acl = acl.copy()?;
         self.guard(path.text(), acl, version);
         let stat = self.stat_at(path.text());
-        Ok(done(told, stat))
+        Ok(PartResult::done(told, stat))
     }
 
     /// Why a node can't be made at a path.
@@ -187,27 +187,5 @@ impl Nodes {
         ensures { result ≡ stat_of self.now path.now node.now }
     {
         node.stat(self.child_count(path))
-    }
-}
-
-/// The answer of an operation that was refused.
-fn refused(path: Path, err: i32) -> PartResult
-    ensures { result ≡ record { err = err; path = Some path; stat = None } }
-{
-    PartResult {
-        err,
-        path: Some(path),
-        stat: None,
-    }
-}
-
-/// The answer of an operation that was applied.
-pub(crate) fn done(path: Path, stat: Option<Stat>) -> PartResult
-    ensures { result ≡ record { err = pos 0; path = Some path; stat = stat } }
-{
-    PartResult {
-        err: 0,
-        path: Some(path),
-        stat,
     }
 }

@@ -80,7 +80,7 @@ impl Plain {
             Op::OpenSession { timeout } => return self.open_session(txn, *timeout),
             Op::CloseSession => return self.close_session(txn),
             Op::Multi { parts } => return self.multi(txn, parts.as_slice()),
-            Op::Error { code } => plain_answer(*code),
+            Op::Error { code } => PartResult::plain(*code),
         };
         Ok(self.told(txn, answer))
     }
@@ -91,7 +91,7 @@ impl Plain {
         ensures unchanged { OnErr result (self.new ≡ self.old) }
     {
         self.sessions.open(txn.session, timeout)?;
-        Ok(self.told(txn, plain_answer(0)))
+        Ok(self.told(txn, PartResult::plain(0)))
     }
 
     /// Closes the session of a transaction; the nodes that it owns go. After [`NoMemory`] nothing is changed.
@@ -102,7 +102,7 @@ impl Plain {
         let owned = self.nodes.owned_by(txn.session)?;
         self.nodes.take_all_away(txn, &owned);
         self.sessions.close(txn.session);
-        Ok(self.told(txn, plain_answer(0)))
+        Ok(self.told(txn, PartResult::plain(0)))
     }
 
     /// Applies the parts of a transaction in turn, or none. After [`NoMemory`] nothing is changed.
@@ -113,14 +113,14 @@ impl Plain {
         if hold_error(parts) {
             let answers = answers_unapplied(self.nodes.allocator(), parts)?;
             let err = first_refusal(&answers);
-            return Ok(self.told_parts(txn, plain_answer(err), answers));
+            return Ok(self.told_parts(txn, PartResult::plain(err), answers));
         }
         // a copy, since memory may be refused when some parts are applied
         let mut nodes = self.nodes.copy()?;
         let answers = nodes.apply_parts(txn, parts)?;
         let err = first_refusal(&answers);
         self.nodes = nodes;
-        Ok(self.told_parts(txn, plain_answer(err), answers))
+        Ok(self.told_parts(txn, PartResult::plain(err), answers))
     }
 
     /// Notes a transaction that changed the nodes and sessions, and tells its answer.
@@ -172,16 +172,5 @@ impl Plain {
         ensures { result.now ≡ finite.entries self.now.sessions }
     {
         self.sessions.as_slice()
-    }
-}
-
-/// The answer of an operation that names no path.
-pub(crate) fn plain_answer(err: i32) -> PartResult
-    ensures { result ≡ plain_answer err }
-{
-    PartResult {
-        err,
-        path: None,
-        stat: None,
     }
 }

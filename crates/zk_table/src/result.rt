@@ -1,4 +1,5 @@
-ghost use Rattle.std.specs.Prelude.{◌≡◌, IfOk};
+ghost use Rattle.std.specs.Prelude.{◌≡◌, pos, Some, None, IfOk};
+ghost use Rattle.zk_table.specs.Operations.{plain_answer};
 
 use std::marker::Model;
 use zk_acl::Stat;
@@ -43,6 +44,39 @@ pub struct PartResult {
 }
 
 impl PartResult {
+    /// The answer of an operation that names no path, applied or refused.
+    pub fn plain(err: i32) -> PartResult
+        ensures { result ≡ plain_answer err }
+    {
+        PartResult {
+            err,
+            path: None,
+            stat: None,
+        }
+    }
+
+    /// The answer of an operation that was refused.
+    pub fn refused(path: Path, err: i32) -> PartResult
+        ensures { result ≡ record { err = err; path = Some path; stat = None } }
+    {
+        PartResult {
+            err,
+            path: Some(path),
+            stat: None,
+        }
+    }
+
+    /// The answer of an operation that was applied.
+    pub fn done(path: Path, stat: Option<Stat>) -> PartResult
+        ensures { result ≡ record { err = pos 0; path = Some path; stat = stat } }
+    {
+        PartResult {
+            err: 0,
+            path: Some(path),
+            stat,
+        }
+    }
+
     /// The same answer once more.
     pub fn copy(&self) -> Result<PartResult, NoMemory>
         ensures { IfOk result (λ copy. copy ≡ self.now) }

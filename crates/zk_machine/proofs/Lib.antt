@@ -1,0 +1,14 @@
+pub mod Texts
+pub mod Covers
+pub mod Notes
+pub mod Merged
+pub mod Parts
+pub mod Orders
+pub mod Search
+pub mod Kept
+pub mod Timeouts
+pub mod Families
+pub mod Owned
+pub mod Restores
+pub mod Slashes
+pub mod Roots

@@ -1,0 +1,7 @@
+pub mod Changes
+pub mod Undoing
+pub mod Notes
+pub mod Machines
+pub mod Tables
+pub mod Restoring
+pub mod Refusals

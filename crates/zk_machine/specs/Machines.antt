@@ -1,0 +1,15 @@
+-- A machine: a state, and how many transactions it was brought there by.
+use Rattle.std.specs.Prelude.{ℕ, ℤ, Bool, refl}
+use Rattle.std.specs.Coded.{Coded, code_by, coded×, coded_ℕ, coded_ℤ, coded_bool}
+use Rattle.zk_table.specs.declared.node.Node.{Node}
+use Rattle.zk_table.specs.States.{State, state_code}
+
+pub record MachineView : Type 0 where
+  pub state : State
+  -- transactions that were applied and not undone
+  pub steps : ℕ
+  -- of a machine that has failed nothing else is said
+  pub failed : Bool
+
+abbrev pub machine_code : Coded Node → Coded MachineView
+machine_code node = code_by (State × (ℕ × Bool)) (coded× (state_code node) (coded× coded_ℕ coded_bool)) (λ m. (m.state, (m.steps, m.failed))) (λ p. record { state = p.0; steps = p.1.0; failed = p.1.1 }) (λ _. refl)

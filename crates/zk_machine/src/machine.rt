@@ -1,0 +1,188 @@
+ghost use Rattle.std.specs.Prelude.{◌≡◌, ◌<◌, ◌+◌, ◌-◌, ◌^◌, ℕ, Bool, true, false, pos, Some, None, IfOk, IfErr, OnOk, OnErr, IsTrue, if◌then◌else◌};
+ghost use Rattle.std.specs.FinMap as finite;
+ghost use Rattle.zk_machine.specs.declared.fault.MachineFault.TheVariants as faults;
+ghost use Rattle.zk_table.specs.States.{start_state};
+ghost use Rattle.zk_table.specs.Steps.{step};
+ghost use Rattle.zk_machine.specs.Changes.{changes_of};
+ghost use Rattle.zk_machine.specs.Refusals.{IsUndoRefusal};
+ghost use Rattle.zk_machine.specs.Undoing.{IsState, restored};
+
+use crate::applied::Applied;
+use crate::fault::{MachineFault, UndoFault};
+use crate::noted_tree::NotedTree;
+use crate::sessions::Sessions;
+use crate::table::Table;
+use crate::touched::Touched;
+use crate::undo::Undo;
+use std::alloc::Global;
+use std::marker::Model;
+use zk_path::NoMemory;
+use zk_table::Txn;
+use zk_tree::Tree;
+
+/// The table over an indexed tree. A machine that is refused memory in the middle of a change has failed for good:
+/// every later call but [`Machine::has_failed`] answers [`MachineFault::Failed`].
+#[derive(Drop)]
+pub struct Machine {
+    table: Table,
+    steps: u64,
+    failed: bool,
+}
+
+impl Model for Machine {
+    ghost use Rattle.zk_table.specs.contracts.node.Node as node;
+    ghost use Rattle.zk_machine.specs.Machines.{MachineView, machine_code};
+    ghost use Rattle.zk_machine.specs.Tables.{state_of};
+
+    ghost Value = { MachineView };
+
+    ghost coded = { machine_code node.the_row.coded };
+
+    ghost view = { λ machine. record { state = state_of machine.table; steps = machine.steps; failed = machine.failed } };
+}
+
+impl Machine {
+    /// The start state.
+    pub fn new(alloc: Global) -> Result<Machine, NoMemory>
+        ensures { IfOk result (λ machine. machine ≡ record { state = start_state; steps = 0; failed = false }) }
+    {
+        let tree = Tree::new(alloc)?;
+        Ok(Machine {
+            table: Table {
+                nodes: NotedTree {
+                    alloc,
+                    tree,
+                    touched: Touched::new(alloc),
+                },
+                sessions: Sessions::new(alloc),
+                last: 0,
+            },
+            steps: 0,
+            failed: false,
+        })
+    }
+
+    /// Applies a transaction.
+    pub fn apply(&mut self, txn: &Txn) -> Result<Applied, MachineFault>
+        requires { self.old.steps < 2 ^ 64 - 1 }
+        ensures stepped { IfOk result (λ applied. (self.new.state, applied.result) ≡ step self.old.state txn.now) }
+        ensures changes { IfOk result (λ applied. applied.changes.items ≡ changes_of self.old.state txn.now) }
+        ensures undone { IfOk result (λ applied. restored applied.undo self.new.state ≡ self.old.state) }
+        ensures last_step { IfOk result (λ applied. applied.undo.step ≡ self.new.steps) }
+        // What the undo record restores is a state.
+        ensures stands { OnOk result (IsState self.old.state.nodes) }
+        ensures counted { OnOk result (self.new.steps ≡ self.old.steps + 1) }
+        ensures ran { OnOk result ((self.old.failed ≡ false) × (self.new.failed ≡ false)) }
+
+        ensures fault { IfErr result (λ fault. fault ≡ (if self.old.failed then faults.Failed else faults.NoMemory)) }
+        ensures failed { OnErr result ((self.new.failed ≡ true) × (self.new.steps ≡ self.old.steps)) }
+    {
+        if self.failed {
+            return Err(MachineFault::Failed);
+        }
+        let Ok(applied) = self.table.apply(txn, self.steps + 1) else {
+            self.failed = true;
+            return Err(MachineFault::NoMemory);
+        };
+        self.steps += 1;
+        Ok(applied)
+    }
+
+    /// Takes the last transaction back that was applied and not undone.
+    pub fn undo(&mut self, undo: Undo) -> Result<(), UndoFault>
+        // What the record restores is a state.
+        requires { self.old.failed ≡ false → undo.step ≡ self.old.steps → IsState (restored undo self.old.state).nodes }
+        ensures restored { OnOk result (self.new.state ≡ restored undo self.old.state) }
+        ensures last_step { OnOk result (undo.step ≡ self.old.steps) }
+        ensures counted { OnOk result (self.new.steps + 1 ≡ self.old.steps) }
+        ensures ran { OnOk result ((self.old.failed ≡ false) × (self.new.failed ≡ false)) }
+
+        ensures refused { IfErr result (λ refused. IsUndoRefusal self.old self.new undo refused) }
+    {
+        if self.failed {
+            return Err(UndoFault {
+                fault: MachineFault::Failed,
+                undo: Some(undo),
+            });
+        }
+        if undo.step() != self.steps {
+            return Err(UndoFault {
+                fault: MachineFault::NotLast,
+                undo: Some(undo),
+            });
+        }
+        let Ok(()) = self.table.take_back(undo) else {
+            self.failed = true;
+            return Err(UndoFault {
+                fault: MachineFault::NoMemory,
+                undo: None,
+            });
+        };
+        self.steps -= 1;
+        Ok(())
+    }
+
+    /// The nodes.
+    pub fn tree(&self) -> Result<&Tree, MachineFault>
+        ensures tree { IfOk result (λ tree. (self.now.failed ≡ false) × (tree.now ≡ self.now.state.nodes)) }
+        ensures failed { IfErr result (λ fault. (self.now.failed ≡ true) × (fault ≡ faults.Failed)) }
+    {
+        self.running()?;
+        Ok(&self.table.nodes.tree)
+    }
+
+    /// The open sessions, by the unsigned number that their sixteen digits spell, and their timeouts in milliseconds,
+    /// in order.
+    pub fn sessions(&self) -> Result<&[(u64, i32)], MachineFault>
+        ensures sessions { IfOk result (λ sessions. (self.now.failed ≡ false) × (sessions.now ≡ finite.entries self.now.state.sessions)) }
+        ensures failed { IfErr result (λ fault. (self.now.failed ≡ true) × (fault ≡ faults.Failed)) }
+    {
+        self.running()?;
+        Ok(self.table.sessions.as_slice())
+    }
+
+    /// The timeout of a session in milliseconds, if it is open.
+    pub fn session(&self, session: u64) -> Result<Option<i32>, MachineFault>
+        ensures timeout { IfOk result (λ timeout. (self.now.failed ≡ false) × (timeout ≡ finite.get self.now.state.sessions session)) }
+        ensures failed { IfErr result (λ fault. (self.now.failed ≡ true) × (fault ≡ faults.Failed)) }
+    {
+        self.running()?;
+        Ok(self.table.sessions.get(session))
+    }
+
+    /// The last transaction, and 0 before the first.
+    pub fn last(&self) -> Result<i64, MachineFault>
+        ensures last { IfOk result (λ last. (self.now.failed ≡ false) × (last ≡ self.now.state.last)) }
+        ensures failed { IfErr result (λ fault. (self.now.failed ≡ true) × (fault ≡ faults.Failed)) }
+    {
+        self.running()?;
+        Ok(self.table.last)
+    }
+
+    /// How many transactions were applied and not undone.
+    pub fn steps(&self) -> Result<u64, MachineFault>
+        ensures steps { IfOk result (λ steps. (self.now.failed ≡ false) × (steps ≡ self.now.steps)) }
+        ensures failed { IfErr result (λ fault. (self.now.failed ≡ true) × (fault ≡ faults.Failed)) }
+    {
+        self.running()?;
+        Ok(self.steps)
+    }
+
+    /// Whether memory was refused in the middle of a change.
+    pub fn has_failed(&self) -> bool
+        ensures { result ≡ self.now.failed }
+    {
+        self.failed
+    }
+
+    /// Refuses where the machine has failed.
+    fn running(&self) -> Result<(), MachineFault>
+        ensures running { OnOk result (self.now.failed ≡ false) }
+        ensures failed { IfErr result (λ fault. (self.now.failed ≡ true) × (fault ≡ faults.Failed)) }
+    {
+        if self.failed {
+            return Err(MachineFault::Failed);
+        }
+        Ok(())
+    }
+}

@@ -1,0 +1,147 @@
+ghost use Rattle.std.specs.Prelude.{◌≡◌, pos, IfOk, OnOk, Some, true, false, length, IsSome, None};
+ghost use Rattle.std.specs.FinMap as finite;
+ghost use Rattle.std.specs.Option.{ForSome};
+ghost use Rattle.zk_path.specs.Paths.{parent_of};
+ghost use Rattle.zk_table.specs.Nodes.{with_child, without_child};
+ghost use Rattle.zk_table.specs.States.{children_of, parent_changed};
+ghost use Rattle.zk_tree.specs.Trees.{owner_at};
+ghost use Rattle.zk_machine.specs.Changes.{changes_between};
+ghost use Rattle.zk_machine.specs.Notes.{noted};
+ghost use Rattle.zk_machine.specs.Undoing.{nodes_before};
+
+use crate::change::{Change, compare};
+use crate::touched::Touched;
+use std::alloc::Global;
+use zk_path::{NoMemory, Path};
+use zk_table::Node;
+use zk_tree::Tree;
+
+/// A tree, and what was touched in it since a transaction began. After want of memory the tree may be changed where
+/// nothing is noted, so that nothing can be put back.
+#[derive(Drop)]
+pub(crate) struct NotedTree {
+    pub(crate) alloc: Global,
+    pub(crate) tree: Tree,
+    pub(crate) touched: Touched,
+}
+
+impl NotedTree {
+    /// Forgets what was touched.
+    pub(crate) fn begin(&mut self)
+        ensures tree { self.new.tree ≡ self.old.tree }
+        ensures idle { self.new.touched ≡ finite.empty }
+    {
+        self.touched = Touched::new(self.alloc);
+    }
+
+    /// Puts a node at a path that is free, below a parent that is there and has no owner.
+    pub(crate) fn put(&mut self, path: &Path, node: Node) -> Result<(), NoMemory>
+        requires free { finite.get self.old.tree path.now ≡ None }
+        requires below { ForSome (parent_of path.now) (λ parent. owner_at self.old.tree parent ≡ Some (pos 0)) }
+        ensures tree { OnOk result (self.new.tree ≡ finite.insert self.old.tree path.now node) }
+        ensures before { OnOk result (nodes_before self.new.touched self.new.tree ≡ nodes_before self.old.touched self.old.tree) }
+    {
+        let noted = path.copy()?;
+        self.touched.note(noted, None)?;
+        let place = path.copy()?;
+        let Ok(()) = self.tree.put(place, node) else {
+            return Err(NoMemory);
+        };
+        Ok(())
+    }
+
+    /// Takes the node at a path out. It is there, has no children and is not the root.
+    pub(crate) fn take(&mut self, path: &Path) -> Result<(), NoMemory>
+        requires there { finite.contains_key self.old.tree path.now ≡ true }
+        requires childless { length (children_of self.old.tree path.now) ≡ 0 }
+        requires below { IsSome (parent_of path.now) }
+        ensures tree { OnOk result (self.new.tree ≡ finite.remove self.old.tree path.now) }
+        ensures before { OnOk result (nodes_before self.new.touched self.new.tree ≡ nodes_before self.old.touched self.old.tree) }
+    {
+        let node = self.tree.take(path);
+        let noted = path.copy()?;
+        self.touched.note(noted, Some(node))?;
+        Ok(())
+    }
+
+    /// Puts another node of the same owner in the place of the one at a path.
+    pub(crate) fn change(&mut self, path: &str, node: Node) -> Result<(), NoMemory>
+        requires { owner_at self.old.tree path.now ≡ Some node.owner }
+        ensures tree { OnOk result (self.new.tree ≡ finite.insert self.old.tree path.now node) }
+        ensures before { OnOk result (nodes_before self.new.touched self.new.tree ≡ nodes_before self.old.touched self.old.tree) }
+    {
+        let old = self.tree.change_by_text(path, node);
+        self.note(path, old)?;
+        Ok(())
+    }
+
+    /// Notes the node that stood at a path, if nothing is noted of it.
+    fn note(&mut self, path: &str, before: Node) -> Result<(), NoMemory>
+        ensures noted { OnOk result (self.new.touched ≡ noted self.old.touched path.now (Some before)) }
+        ensures tree { self.new.tree ≡ self.old.tree }
+    {
+        if self.touched.has(path) {
+            return Ok(());
+        }
+        let path = known_path(self.alloc, path)?;
+        self.touched.note(path, Some(before))?;
+        Ok(())
+    }
+
+    /// Counts a new child of the parent of a path.
+    pub(crate) fn parent_gains(
+        &mut self,
+        path: &Path,
+        zxid: i64,
+        count: i32,
+    ) -> Result<(), NoMemory>
+        ensures tree { OnOk result (self.new.tree ≡ parent_changed self.old.tree path.now (with_child zxid count)) }
+        ensures before { OnOk result (nodes_before self.new.touched self.new.tree ≡ nodes_before self.old.touched self.old.tree) }
+    {
+        let Some(parent) = path.parent() else {
+            return Ok(());
+        };
+        let Some(node) = self.tree.get_by_text(parent) else {
+            return Ok(());
+        };
+        let mut node = node.copy()?;
+        node.add_child(zxid, count);
+        self.change(parent, node)?;
+        Ok(())
+    }
+
+    /// Notes that the parent of a path lost a child.
+    pub(crate) fn parent_loses(&mut self, path: &Path, zxid: i64) -> Result<(), NoMemory>
+        ensures tree { OnOk result (self.new.tree ≡ parent_changed self.old.tree path.now (without_child zxid)) }
+        ensures before { OnOk result (nodes_before self.new.touched self.new.tree ≡ nodes_before self.old.touched self.old.tree) }
+    {
+        let Some(parent) = path.parent() else {
+            return Ok(());
+        };
+        let Some(node) = self.tree.get_by_text(parent) else {
+            return Ok(());
+        };
+        let mut node = node.copy()?;
+        node.lose_child(zxid);
+        self.change(parent, node)?;
+        Ok(())
+    }
+
+    /// What changed since the notes began.
+    pub(crate) fn changes(&self) -> Result<Vec<Change>, NoMemory>
+        ensures { IfOk result (λ changes. changes.items ≡ changes_between (nodes_before self.now.touched self.now.tree) self.now.tree) }
+    {
+        let mut changes = Vec::new(self.alloc);
+        for (path, before) in self.touched.as_slice() {
+            compare(&mut changes, path, before, &self.tree)?;
+        }
+        Ok(changes)
+    }
+}
+
+/// The path of a text that is one, so that it is refused for want of memory alone.
+fn known_path(alloc: Global, text: &str) -> Result<Path, NoMemory>
+    ensures { IfOk result (λ path. path ≡ text.now) }
+{
+    Path::read(alloc, text).map_err(|_| NoMemory)
+}

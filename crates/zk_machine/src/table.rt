@@ -1,0 +1,169 @@
+ghost use Rattle.std.specs.Prelude.{◌≡◌, ◌<◌, IfOk, OnOk};
+ghost use Rattle.std.specs.FinMap as finite;
+ghost use Rattle.zk_table.specs.Operations.{told};
+ghost use Rattle.zk_table.specs.Multis.{multi};
+ghost use Rattle.zk_table.specs.Steps.{open_session, close_session, step};
+ghost use Rattle.zk_machine.specs.Changes.{changes_of, multi_changes, changes_between};
+ghost use Rattle.zk_machine.specs.Tables.{state_of};
+ghost use Rattle.zk_tree.specs.Trees.{IsTree};
+ghost use Rattle.zk_machine.specs.Undoing.{IsState, nodes_before, sessions_before, restored};
+
+use crate::applied::Applied;
+use crate::deed::Deed;
+use crate::noted_tree::NotedTree;
+use crate::restore::restore;
+use crate::sessions::Sessions;
+use crate::touched::Touched;
+use crate::undo::Undo;
+use zk_path::NoMemory;
+use zk_table::{
+    Op, PartResult, PartResults, Sub, Txn, TxnResult, answers_unapplied, first_refusal, hold_error,
+};
+
+/// The table: nodes, sessions and the last transaction. After want of memory in a change nothing is said of it.
+#[derive(Drop)]
+pub(crate) struct Table {
+    pub(crate) nodes: NotedTree,
+    pub(crate) sessions: Sessions,
+    pub(crate) last: i64,
+}
+
+impl Table {
+    /// Applies a transaction, which is the so many-th.
+    pub(crate) fn apply(&mut self, txn: &Txn, number: u64) -> Result<Applied, NoMemory>
+        requires { 0 < number }
+        ensures stepped { IfOk result (λ applied. (state_of self.new, applied.result) ≡ step (state_of self.old) txn.now) }
+        ensures changes { IfOk result (λ applied. applied.changes.items ≡ changes_of (state_of self.old) txn.now) }
+        ensures undone { IfOk result (λ applied. restored applied.undo (state_of self.new) ≡ state_of self.old) }
+        ensures counted { IfOk result (λ applied. applied.undo.step ≡ number) }
+        ensures stands { IsTree self.old.nodes.tree }
+    {
+        self.nodes.tree.stands();
+        let last = self.last;
+        let deed = self.run(txn)?;
+        self.last = txn.zxid;
+        let Deed {
+            answer,
+            parts,
+            changes,
+            touched,
+            session,
+        } = deed;
+        let PartResult { err, path, stat } = answer;
+        let parts = PartResults::new(parts);
+        Ok(Applied {
+            result: TxnResult {
+                zxid: txn.zxid,
+                err,
+                path,
+                stat,
+                parts,
+            },
+            changes,
+            undo: Undo::new(number, last, session, touched),
+        })
+    }
+
+    /// Applies a transaction, but for the number of the last one.
+    fn run(&mut self, txn: &Txn) -> Result<Deed, NoMemory>
+        ensures stepped { IfOk result (λ deed. step (state_of self.old) txn.now ≡ told txn.now self.new.nodes.tree self.new.sessions deed.answer deed.parts.items) }
+        ensures changes { IfOk result (λ deed. deed.changes.items ≡ changes_of (state_of self.old) txn.now) }
+        ensures nodes { IfOk result (λ deed. nodes_before deed.touched self.new.nodes.tree ≡ self.old.nodes.tree) }
+        ensures sessions { IfOk result (λ deed. sessions_before deed.session self.new.sessions ≡ self.old.sessions) }
+        ensures last { self.new.last ≡ self.old.last }
+    {
+        self.nodes.begin();
+        let answer = match &txn.op {
+            Op::Create {
+                path,
+                content,
+                acl,
+                ephemeral,
+                count,
+            } => self
+                .nodes
+                .create(txn, path, content, acl, *ephemeral, *count)?,
+            Op::Delete { path } => self.nodes.delete(txn, path)?,
+            Op::SetData {
+                path,
+                content,
+                version,
+            } => self.nodes.set_data(txn, path, content, *version)?,
+            Op::SetAcl { path, acl, version } => self.nodes.set_acl(path, acl, *version)?,
+            Op::OpenSession { timeout } => return self.open_session(txn, *timeout),
+            Op::CloseSession => return self.close_session(txn),
+            Op::Multi { parts } => return self.multi(txn, parts.as_slice()),
+            Op::Error { code } => PartResult::plain(*code),
+        };
+        let deed = self.nodes.deed(answer, None)?;
+        Ok(deed)
+    }
+
+    /// Opens the session of a transaction.
+    fn open_session(&mut self, txn: &Txn, timeout: i32) -> Result<Deed, NoMemory>
+        requires { self.old.nodes.touched ≡ finite.empty }
+        ensures stepped { IfOk result (λ deed. open_session (state_of self.old) txn.now timeout ≡ told txn.now self.new.nodes.tree self.new.sessions deed.answer deed.parts.items) }
+        ensures changes { IfOk result (λ deed. deed.changes.items ≡ changes_between self.old.nodes.tree self.old.nodes.tree) }
+        ensures nodes { IfOk result (λ deed. nodes_before deed.touched self.new.nodes.tree ≡ self.old.nodes.tree) }
+        ensures sessions { IfOk result (λ deed. sessions_before deed.session self.new.sessions ≡ self.old.sessions) }
+        ensures last { self.new.last ≡ self.old.last }
+    {
+        let session = txn.session.cast_unsigned();
+        let before = self.sessions.open(session, timeout)?;
+        let deed = self
+            .nodes
+            .deed(PartResult::plain(0), Some((session, before)))?;
+        Ok(deed)
+    }
+
+    /// Closes the session of a transaction; the nodes that it owns go.
+    fn close_session(&mut self, txn: &Txn) -> Result<Deed, NoMemory>
+        requires { self.old.nodes.touched ≡ finite.empty }
+        ensures stepped { IfOk result (λ deed. close_session (state_of self.old) txn.now ≡ told txn.now self.new.nodes.tree self.new.sessions deed.answer deed.parts.items) }
+        ensures changes { IfOk result (λ deed. deed.changes.items ≡ changes_between self.old.nodes.tree self.new.nodes.tree) }
+        ensures nodes { IfOk result (λ deed. nodes_before deed.touched self.new.nodes.tree ≡ self.old.nodes.tree) }
+        ensures sessions { IfOk result (λ deed. sessions_before deed.session self.new.sessions ≡ self.old.sessions) }
+        ensures last { self.new.last ≡ self.old.last }
+    {
+        self.nodes.take_owned(txn)?;
+        let session = txn.session.cast_unsigned();
+        let before = self.sessions.close(session);
+        let deed = self
+            .nodes
+            .deed(PartResult::plain(0), Some((session, before)))?;
+        Ok(deed)
+    }
+
+    /// Applies the parts of a transaction in turn, or none.
+    fn multi(&mut self, txn: &Txn, parts: &[Sub]) -> Result<Deed, NoMemory>
+        ensures stepped { IfOk result (λ deed. multi (state_of self.old) txn.now parts.now ≡ told txn.now self.new.nodes.tree self.new.sessions deed.answer deed.parts.items) }
+        ensures changes { IfOk result (λ deed. deed.changes.items ≡ multi_changes (state_of self.old) txn.now parts.now) }
+        ensures nodes { IfOk result (λ deed. nodes_before deed.touched self.new.nodes.tree ≡ self.old.nodes.tree) }
+        ensures sessions { IfOk result (λ deed. sessions_before deed.session self.new.sessions ≡ self.old.sessions) }
+        ensures last { self.new.last ≡ self.old.last }
+    {
+        if hold_error(parts) {
+            let alloc = self.nodes.alloc;
+            let answers = answers_unapplied(alloc, parts)?;
+            return Ok(Deed {
+                answer: PartResult::plain(first_refusal(&answers)),
+                parts: answers,
+                changes: Vec::new(alloc),
+                touched: Touched::new(alloc),
+                session: None,
+            });
+        }
+        self.nodes.apply_parts(txn, parts)
+    }
+
+    /// Puts back what a transaction had touched.
+    pub(crate) fn take_back(&mut self, undo: Undo) -> Result<(), NoMemory>
+        requires { IsState (restored undo (state_of self.old)).nodes }
+        ensures { OnOk result (state_of self.new ≡ restored undo (state_of self.old)) }
+    {
+        restore(&mut self.nodes.tree, &undo.touched)?;
+        self.sessions.put_back(undo.session)?;
+        self.last = undo.last;
+        Ok(())
+    }
+}
