@@ -200,7 +200,8 @@ fn histories_and_messages_are_kept_in_order(rt: HostRuntime) -> Result<(), Fail>
     let mut history = History::new(rt.alloc());
     assert_eq!(rt; history.last_zxid(), 0);
     history.push(entry(1, 7))?;
-    history.push(entry(2, 8).copy()?)?;
+    let second = entry(2, 8).copy()?;
+    history.push(second)?;
     let mut copy = history.copy()?;
     assert_eq!(rt; (copy.len(), copy.last_zxid()), (2, 8));
     copy.truncate(1);
