@@ -30,17 +30,18 @@ type Row = (i64, Ask, &'static str, Option<&'static str>, i32, i32);
 /// A path, and its node's content, permissions and stat.
 type Shown = (&'static str, Option<&'static str>, i32, Stat);
 
-fn path_of(alloc: Global, text: &str) -> Result<Path, Fail> {
-    Ok(Path::read(alloc, text)?)
+/// The path of a text that is one.
+fn path_of(alloc: Global, text: &str) -> Result<Path, NoMemory> {
+    Path::read(alloc, text).map_err(|_| NoMemory)
 }
 
-fn read_content(alloc: Global, text: &str) -> Result<Content, Fail> {
+fn read_content(alloc: Global, text: &str) -> Result<Content, NoMemory> {
     let read = Content::read(alloc, text.as_bytes())?;
     let bytes = Vec::from_slice(alloc, read.as_slice())?;
-    Ok(Content::new(alloc, bytes)?.copy()?)
+    Content::new(alloc, bytes)?.copy()
 }
 
-fn content_of(alloc: Global, text: Option<&str>) -> Result<Option<Content>, Fail> {
+fn content_of(alloc: Global, text: Option<&str>) -> Result<Option<Content>, NoMemory> {
     match text {
         Some(text) => Ok(Some(read_content(alloc, text)?)),
         None => Ok(None),
@@ -48,15 +49,15 @@ fn content_of(alloc: Global, text: Option<&str>) -> Result<Option<Content>, Fail
 }
 
 /// Everyone may do this.
-fn acl_of(alloc: Global, perms: i32) -> Result<Acls, Fail> {
+fn acl_of(alloc: Global, perms: i32) -> Result<Acls, NoMemory> {
     let id = Id {
         scheme: Text::read(alloc, "world")?,
         id: Text::read(alloc, "anyone")?,
     };
-    Ok(Acls::new(alloc, vec![in alloc; Acl { perms, id }]?)?)
+    Acls::new(alloc, vec![in alloc; Acl { perms, id }]?)
 }
 
-fn create(alloc: Global, row: Row, ephemeral: bool) -> Result<Sub, Fail> {
+fn create(alloc: Global, row: Row, ephemeral: bool) -> Result<Sub, NoMemory> {
     let acl = acl_of(alloc, 31)?;
     let content = content_of(alloc, row.3)?;
     let path = path_of(alloc, row.2)?;
@@ -69,13 +70,13 @@ fn create(alloc: Global, row: Row, ephemeral: bool) -> Result<Sub, Fail> {
     })
 }
 
-fn delete(alloc: Global, row: Row) -> Result<Sub, Fail> {
+fn delete(alloc: Global, row: Row) -> Result<Sub, NoMemory> {
     Ok(Sub::Delete {
         path: path_of(alloc, row.2)?,
     })
 }
 
-fn set_data(alloc: Global, row: Row) -> Result<Sub, Fail> {
+fn set_data(alloc: Global, row: Row) -> Result<Sub, NoMemory> {
     let content = content_of(alloc, row.3)?;
     Ok(Sub::SetData {
         path: path_of(alloc, row.2)?,
@@ -84,14 +85,14 @@ fn set_data(alloc: Global, row: Row) -> Result<Sub, Fail> {
     })
 }
 
-fn check(alloc: Global, row: Row) -> Result<Sub, Fail> {
+fn check(alloc: Global, row: Row) -> Result<Sub, NoMemory> {
     Ok(Sub::Check {
         path: path_of(alloc, row.2)?,
         version: row.4,
     })
 }
 
-fn set_acl(alloc: Global, row: Row) -> Result<Op, Fail> {
+fn set_acl(alloc: Global, row: Row) -> Result<Op, NoMemory> {
     let acl = acl_of(alloc, 1)?;
     Ok(Op::SetAcl {
         path: path_of(alloc, row.2)?,
@@ -101,7 +102,7 @@ fn set_acl(alloc: Global, row: Row) -> Result<Op, Fail> {
 }
 
 /// The part that a row asks for, and an error where none does.
-fn part_of(alloc: Global, row: Row) -> Result<Sub, Fail> {
+fn part_of(alloc: Global, row: Row) -> Result<Sub, NoMemory> {
     match row.1 {
         Ask::Create => create(alloc, row, false),
         Ask::CreateEphemeral => create(alloc, row, true),
@@ -112,8 +113,8 @@ fn part_of(alloc: Global, row: Row) -> Result<Sub, Fail> {
     }
 }
 
-/// What a part does, done alone; a check is none of these.
-fn alone(part: Sub) -> Result<Op, Fail> {
+/// What a part does, done alone; a check is none of these, and no row asks for one.
+fn alone(part: Sub) -> Op {
     match part {
         Sub::Create {
             path,
@@ -121,38 +122,38 @@ fn alone(part: Sub) -> Result<Op, Fail> {
             acl,
             ephemeral,
             count,
-        } => Ok(Op::Create {
+        } => Op::Create {
             path,
             content,
             acl,
             ephemeral,
             count,
-        }),
-        Sub::Delete { path } => Ok(Op::Delete { path }),
+        },
+        Sub::Delete { path } => Op::Delete { path },
         Sub::SetData {
             path,
             content,
             version,
-        } => Ok(Op::SetData {
+        } => Op::SetData {
             path,
             content,
             version,
-        }),
-        Sub::Error { code } => Ok(Op::Error { code }),
-        Sub::Check { .. } => Err("a check stands in a multi".into()),
+        },
+        Sub::Error { code } => Op::Error { code },
+        Sub::Check { version, .. } => Op::Error { code: version },
     }
 }
 
-fn op_of(alloc: Global, row: Row) -> Result<Op, Fail> {
+fn op_of(alloc: Global, row: Row) -> Result<Op, NoMemory> {
     match row.1 {
         Ask::SetAcl => set_acl(alloc, row),
         Ask::OpenSession => Ok(Op::OpenSession { timeout: row.4 }),
         Ask::CloseSession => Ok(Op::CloseSession),
-        _ => alone(part_of(alloc, row)?),
+        _ => Ok(alone(part_of(alloc, row)?)),
     }
 }
 
-fn parts_of(alloc: Global, rows: &[Row]) -> Result<Subs, Fail> {
+fn parts_of(alloc: Global, rows: &[Row]) -> Result<Subs, NoMemory> {
     let mut parts = Vec::new(alloc);
     for row in rows {
         parts.push(part_of(alloc, *row)?)?;
@@ -161,7 +162,7 @@ fn parts_of(alloc: Global, rows: &[Row]) -> Result<Subs, Fail> {
 }
 
 /// A multi of these parts, by their copies.
-fn multi_of(alloc: Global, rows: &[Row]) -> Result<Op, Fail> {
+fn multi_of(alloc: Global, rows: &[Row]) -> Result<Op, NoMemory> {
     let parts = parts_of(alloc, rows)?.copy()?.into_vec();
     Ok(Op::Multi {
         parts: Subs::new(parts),
@@ -201,7 +202,7 @@ fn tells_stat(row: Row) -> bool {
 }
 
 /// Whether a row's operation answers as the row says.
-fn is_answered(alloc: Global, table: &mut Plain, row: Row) -> Result<bool, Fail> {
+fn is_answered(alloc: Global, table: &mut Plain, row: Row) -> Result<bool, NoMemory> {
     let told = apply(table, row.0, op_of(alloc, row)?)?;
     let is_last = told.zxid == table.last();
     Ok(
@@ -213,7 +214,7 @@ fn is_answered(alloc: Global, table: &mut Plain, row: Row) -> Result<bool, Fail>
 }
 
 /// Whether each of these answers as its row says.
-fn are_answered(alloc: Global, table: &mut Plain, rows: &[Row]) -> Result<bool, Fail> {
+fn are_answered(alloc: Global, table: &mut Plain, rows: &[Row]) -> Result<bool, NoMemory> {
     let mut all = true;
     for row in rows {
         all = is_answered(alloc, table, *row)? && all;
@@ -223,9 +224,7 @@ fn are_answered(alloc: Global, table: &mut Plain, rows: &[Row]) -> Result<bool, 
 
 /// Whether a part answers as its row says.
 fn is_told(answer: &PartResult, row: Row) -> bool {
-    answer.err == row.5
-        && is_path(&answer.path, row.2)
-        && answer.stat.is_some() == tells_stat(row)
+    answer.err == row.5 && is_path(&answer.path, row.2) && answer.stat.is_some() == tells_stat(row)
 }
 
 /// Whether the parts of a multi answer as their rows say.
@@ -295,7 +294,7 @@ fn leaves(
     rows: &[Row],
     sessions: &[(u64, i32)],
     nodes: &[Shown],
-) -> Result<bool, Fail> {
+) -> Result<bool, NoMemory> {
     let mut table = Plain::new(alloc)?;
     let answered = are_answered(alloc, &mut table, rows)?;
     Ok(answered && table.sessions() == sessions && are_shown(&table, nodes)?)
@@ -308,7 +307,7 @@ fn is_multi_answered(
     parts: &[Row],
     err: i32,
     stat: Option<Stat>,
-) -> Result<bool, Fail> {
+) -> Result<bool, NoMemory> {
     let told = apply(table, 7, multi_of(alloc, parts)?)?;
     Ok(told.err == err && tells(&told.parts, parts, stat)?)
 }
@@ -320,7 +319,7 @@ fn multi_leaves(
     err: i32,
     stat: Option<Stat>,
     nodes: &[Shown],
-) -> Result<bool, Fail> {
+) -> Result<bool, NoMemory> {
     let mut table = Plain::new(alloc)?;
     let grown = are_answered(alloc, &mut table, &SMALL_TREE)?;
     let answered = is_multi_answered(alloc, &mut table, parts, err, stat)?;

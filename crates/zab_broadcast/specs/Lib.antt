@@ -1,0 +1,6 @@
+-- What the contracts of this crate cite.
+pub mod Calls
+pub mod Counts
+pub mod Echoes
+pub mod News
+pub mod Rules

@@ -1,0 +1,545 @@
+use crate::counting::{commit_count, next_zxid};
+use crate::primary::Primary;
+use crate::state::{State, Tags};
+use std::alloc::Global;
+use std::marker::Model;
+use zab_epoch::{
+    Body, Entry, History, Messages, Peer, Quorums, Role, RuleFault, Stable, Table, Vote,
+};
+use zk_path::NoMemory;
+
+/// A server, with what makes entries while it leads.
+///
+/// Each rule answers the messages to send. Where memory is refused, the stable part is as it was, and the rest may
+/// not be.
+#[derive(Drop)]
+pub struct Server<P: Primary> {
+    state: State,
+    primary: Option<P>,
+}
+
+/// A server is seen as its state. Its primary, if it has one, stands for its history.
+impl<P: Primary> Model for Server<P> {
+    ghost use Rattle.std.specs.Prelude.{IfSome, ◌≤◌, length};
+    ghost use Rattle.zab_broadcast.specs.declared.state.State.{State};
+
+    ghost Value = { State };
+
+    ghost view = { λ server. server.state };
+
+    ghost invariant = { λ server. (server.state.delivered ≤ length server.state.peer.stable.history)
+        × IfSome server.primary
+        (λ primary. P.stands_for primary server.state.peer.stable.history server.state.delivered) };
+}
+
+impl<P: Primary> Server<P> {
+    ghost use Rattle.std.specs.Prelude.{◌≡◌, ◌≢◌, ◌≤◌, ◌<◌, max, length, take, None, IfOk, OnOk, OnErr};
+    ghost use Rattle.zab_epoch.specs.declared.fault.RuleFault.TheVariants as faults;
+    ghost use Rattle.zab_broadcast.specs.Calls.{setting_of};
+    ghost use Rattle.zab_broadcast.specs.Rules.{restored, is_serving, lead, follow, c_epoch, new_epoch, ack_epoch};
+    ghost use Rattle.zab_broadcast.specs.Rules.{new_leader, ack_leader, submit, request, propose, ack, commit};
+    ghost use Rattle.zab_broadcast.specs.Rules.{begun, counted, settles, raised, enters, catches_up, tells_news};
+    ghost use Rattle.zab_broadcast.specs.Rules.{took, appends};
+    ghost use Rattle.zab_epoch.specs.Rules.{ack_epoch as peer_ack_epoch};
+
+    /// A server that has started again with its stable part: it has delivered nothing, and is Looking.
+    pub fn restored(alloc: Global, servers: usize, me: usize, stable: Stable) -> Server<P>
+        ensures { result ≡ restored servers me stable }
+    {
+        Server {
+            state: State {
+                peer: Peer::restored(servers, me, stable),
+                delivered: 0,
+                has: Table::empty(alloc),
+                top: 0,
+                made: 0,
+                taken: Tags::new(alloc),
+            },
+            primary: None,
+        }
+    }
+
+    /// What it knows, lent.
+    pub fn state(&self) -> &State
+        ensures same { result.now ≡ self.now }
+        ensures delivered { self.now.delivered ≤ length self.now.peer.stable.history }
+    {
+        &self.state
+    }
+
+    /// The entries that it has delivered, lent.
+    pub fn delivered(&self) -> &[Entry]
+        ensures { result.now ≡ take self.now.delivered self.now.peer.stable.history }
+    {
+        &self.state.peer.stable.history.as_slice()[..self.state.delivered]
+    }
+
+    /// Crashes: what is left is its stable part.
+    pub fn into_stable(self) -> Stable
+        ensures { result ≡ self.peer.stable }
+    {
+        let Server { state, primary } = self;
+        drop(primary);
+        let State { peer, .. } = state;
+        let Peer { stable, .. } = peer;
+        stable
+    }
+
+    /// Whether it takes calls of clients: it leads in Broadcast, or is a synced follower.
+    pub fn is_serving(&self) -> bool
+        ensures { result ≡ is_serving self.now.peer.role }
+    {
+        match &self.state.peer.role {
+            Role::Broadcast => true,
+            Role::Following { synced, .. } => *synced,
+            Role::Looking | Role::Discover { .. } | Role::Choose { .. } | Role::Sync => false,
+        }
+    }
+
+    /// It begins to lead, whatever it did before.
+    pub fn lead(&mut self, alloc: Global) -> Result<Messages<P::Call>, NoMemory>
+        ensures acts { IfOk result (λ messages. (self.new, Ok messages) ≡ lead self.old) }
+        ensures err { OnErr result (self.new ≡ self.old) }
+    {
+        self.primary = None;
+        self.state.peer.lead(alloc)
+    }
+
+    /// It begins to follow a leader, whatever it did before.
+    pub fn follow(&mut self, alloc: Global, leader: usize) -> Result<Messages<P::Call>, NoMemory>
+        ensures acts { IfOk result (λ messages. (self.new, Ok messages) ≡ follow self.old leader) }
+        ensures err { OnErr result (self.new ≡ self.old) }
+    {
+        self.primary = None;
+        self.state.peer.follow(alloc, leader)
+    }
+
+    /// A CEpoch comes.
+    pub fn c_epoch<Q: Quorums>(
+        &mut self,
+        alloc: Global,
+        quorums: &Q,
+        from: usize,
+        promised: u32,
+    ) -> Result<Messages<P::Call>, RuleFault>
+        ensures acts { result ≢ Err faults.NoMemory
+            → (self.new, result) ≡ c_epoch (Q.passes quorums.now) self.old from promised }
+        ensures err { OnErr result (self.new.peer.stable ≡ self.old.peer.stable) }
+    {
+        self.state.peer.c_epoch(alloc, quorums, from, promised)
+    }
+
+    /// A NewEpoch comes.
+    pub fn new_epoch(
+        &mut self,
+        alloc: Global,
+        from: usize,
+        epoch: u32,
+    ) -> Result<Messages<P::Call>, NoMemory>
+        ensures acts { IfOk result (λ messages. (self.new, Ok messages)
+            ≡ new_epoch self.old from epoch) }
+        ensures err { OnErr result (self.new ≡ self.old) }
+    {
+        self.state.peer.new_epoch(alloc, from, epoch)
+    }
+
+    /// An AckEpoch comes.
+    pub fn ack_epoch<Q: Quorums>(
+        &mut self,
+        alloc: Global,
+        quorums: &Q,
+        from: usize,
+        epoch: u32,
+        vote: bool,
+        said: Vote,
+    ) -> Result<Messages<P::Call>, NoMemory>
+        ensures acts { IfOk result (λ messages. (self.new, Ok messages)
+            ≡ ack_epoch (Q.passes quorums.now) self.old from epoch vote said) }
+        ensures err { OnErr result (self.new.peer.stable ≡ self.old.peer.stable) }
+    {
+        if self.state.peer.role.is_choosing() {
+            self.gather(alloc, quorums, from, epoch, vote, said)
+        } else {
+            self.state
+                .peer
+                .ack_epoch(alloc, quorums, from, epoch, vote, said)
+        }
+    }
+
+    /// An AckEpoch comes to a leader that gathers votes. If it begins its epoch, it has its own length alone.
+    fn gather<Q: Quorums>(
+        &mut self,
+        alloc: Global,
+        quorums: &Q,
+        from: usize,
+        epoch: u32,
+        vote: bool,
+        said: Vote,
+    ) -> Result<Messages<P::Call>, NoMemory>
+        ensures acts { IfOk result (λ messages. (self.new, Ok messages)
+            ≡ begun self.old (peer_ack_epoch (Q.passes quorums.now) self.old.peer from epoch vote said)) }
+        ensures err { OnErr result (self.new.peer.stable ≡ self.old.peer.stable) }
+    {
+        let mut has = Table::new(alloc, self.state.peer.servers)?;
+        self.primary = None;
+        let messages = self
+            .state
+            .peer
+            .ack_epoch(alloc, quorums, from, epoch, vote, said)?;
+        let length = self.state.peer.stable.history.len();
+        has.put(self.state.peer.me, length as u64);
+        self.state.has = has;
+        self.state.delivered = self.state.delivered.min(length);
+        Ok(messages)
+    }
+
+    /// A NewLeader comes.
+    pub fn new_leader(
+        &mut self,
+        alloc: Global,
+        from: usize,
+        epoch: u32,
+        history: &History,
+    ) -> Result<Messages<P::Call>, NoMemory>
+        ensures acts { IfOk result (λ messages. (self.new, Ok messages)
+            ≡ new_leader self.old from epoch history.now) }
+        ensures err { OnErr result (self.new ≡ self.old) }
+    {
+        if !self.state.peer.role.follows(from) {
+            return Ok(Messages::new(alloc));
+        }
+        self.primary = None;
+        let messages = self.state.peer.new_leader(alloc, from, epoch, history)?;
+        let length = self.state.peer.stable.history.len();
+        self.state.delivered = self.state.delivered.min(length);
+        Ok(messages)
+    }
+
+    /// Delivers at least so many.
+    fn deliver(&mut self, count: usize)
+        requires { count ≤ length self.old.peer.stable.history }
+        ensures { self.new ≡ record self.old { delivered = max self.old.delivered count } }
+    {
+        let _length = self.state.peer.stable.history.len();
+        let delivered = self.state.delivered;
+        if delivered < count {
+            let more = count - delivered;
+            if let Some(primary) = &mut self.primary {
+                primary.delivered(more);
+            }
+            self.state.delivered = delivered + more;
+        }
+    }
+
+    /// The commit count.
+    fn counted<Q: Quorums>(&self, alloc: Global, quorums: &Q) -> Result<u64, NoMemory>
+        ensures value { IfOk result (λ count. count ≡ counted (Q.passes quorums.now) self.now) }
+        ensures within { IfOk result (λ count. count ≤ length self.now.peer.stable.history) }
+    {
+        let length = self.state.peer.stable.history.len() as u64;
+        commit_count(alloc, quorums, self.state.has.as_slice(), length)
+    }
+
+    /// Delivers what a quorum has, if that is more than ever before in this Broadcast; the count then.
+    fn settle<Q: Quorums>(&mut self, alloc: Global, quorums: &Q) -> Result<Option<u64>, NoMemory>
+        ensures acts { IfOk result (λ commit. (self.new, commit) ≡ settles (Q.passes quorums.now) self.old) }
+        ensures err { OnErr result (self.new ≡ self.old) }
+    {
+        let count = self.counted(alloc, quorums)?;
+        if count <= self.state.top {
+            return Ok(None);
+        }
+        self.deliver(count as usize);
+        self.state.top = count;
+        Ok(Some(count))
+    }
+
+    /// A server has at least so many.
+    fn raise(&mut self, from: usize, count: u64)
+        ensures { self.new ≡ raised self.old from count }
+    {
+        let most = match self.state.has.said_by(from) {
+            Some(before) => (*before).max(count),
+            None => count,
+        };
+        self.state.has.put(from, most);
+    }
+
+    /// An AckLeader comes.
+    pub fn ack_leader<Q: Quorums>(
+        &mut self,
+        alloc: Global,
+        quorums: &Q,
+        from: usize,
+        epoch: u32,
+        length: u64,
+    ) -> Result<Messages<P::Call>, NoMemory>
+        ensures acts { IfOk result (λ messages. (self.new, Ok messages)
+            ≡ ack_leader (Q.passes quorums.now) self.old from epoch length) }
+        ensures err { OnErr result (self.new.peer.stable ≡ self.old.peer.stable) }
+    {
+        if epoch != self.state.peer.stable.promised {
+            return Ok(Messages::new(alloc));
+        }
+        match &self.state.peer.role {
+            Role::Sync => {
+                self.raise(from, length);
+                let marks = self.state.has.marks()?;
+                if !quorums.is_quorum(&marks) {
+                    return Ok(Messages::new(alloc));
+                }
+                self.enter(alloc, quorums)
+            }
+            Role::Broadcast => {
+                self.raise(from, length);
+                let commit = self.settle(alloc, quorums)?;
+                self.catch_up(alloc, quorums, from, length as usize, commit)
+            }
+            _ => Ok(Messages::new(alloc)),
+        }
+    }
+
+    /// Enters Broadcast.
+    fn enter<Q: Quorums>(
+        &mut self,
+        alloc: Global,
+        quorums: &Q,
+    ) -> Result<Messages<P::Call>, NoMemory>
+        ensures acts { IfOk result (λ messages. (self.new, Ok messages)
+            ≡ enters (Q.passes quorums.now) self.old) }
+        ensures err { OnErr result (self.new.peer.stable ≡ self.old.peer.stable) }
+    {
+        let count = self.counted(alloc, quorums)?;
+        let mut primary = P::start(alloc, self.state.peer.stable.history.as_slice())?;
+        primary.delivered(self.state.delivered);
+        self.primary = Some(primary);
+        self.deliver(count as usize);
+        self.state.peer.role = Role::Broadcast;
+        self.state.made = 0;
+        self.state.taken = Tags::new(alloc);
+        self.state.top = count;
+        let above = self.state.peer.stable.history.len();
+        self.state.news(alloc, None, above, Some(count))
+    }
+
+    /// What is sent when a server has said that it has so many.
+    fn catch_up<Q: Quorums>(
+        &self,
+        alloc: Global,
+        quorums: &Q,
+        to: usize,
+        above: usize,
+        commit: Option<u64>,
+    ) -> Result<Messages<P::Call>, NoMemory>
+        ensures { IfOk result (λ messages. messages
+            ≡ catches_up (Q.passes quorums.now) self.now to above commit) }
+    {
+        if commit.is_some() {
+            return self.state.news(alloc, Some(to), above, commit);
+        }
+        let count = self.counted(alloc, quorums)?;
+        self.state.tell(alloc, to, None, above, Some(count))
+    }
+
+    /// A client submits a call.
+    pub fn submit<Q: Quorums>(
+        &mut self,
+        alloc: Global,
+        quorums: &Q,
+        call: P::Call,
+    ) -> Result<Messages<P::Call>, RuleFault>
+        ensures acts { result ≢ Err faults.NoMemory
+            → (self.new, result) ≡ submit (setting_of (Q.passes quorums.now) P.made_of P.tag_of) self.old call }
+        ensures err { OnErr result (self.new.peer.stable ≡ self.old.peer.stable) }
+    {
+        match &self.state.peer.role {
+            Role::Broadcast => self.append(alloc, quorums, &call),
+            Role::Following {
+                leader,
+                synced: true,
+            } => {
+                let mut messages = Messages::new(alloc);
+                let epoch = self.state.peer.stable.current;
+                messages.send(self.state.peer.me, *leader, Body::Request { epoch, call })?;
+                Ok(messages)
+            }
+            _ => Err(RuleFault::NotServing),
+        }
+    }
+
+    /// A Request comes.
+    pub fn request<Q: Quorums>(
+        &mut self,
+        alloc: Global,
+        quorums: &Q,
+        epoch: u32,
+        call: &P::Call,
+    ) -> Result<Messages<P::Call>, RuleFault>
+        ensures acts { result ≢ Err faults.NoMemory
+            → (self.new, result) ≡ request (setting_of (Q.passes quorums.now) P.made_of P.tag_of) self.old epoch call.now }
+        ensures err { OnErr result (self.new.peer.stable ≡ self.old.peer.stable) }
+    {
+        match &self.state.peer.role {
+            Role::Broadcast => {
+                let tag = P::tag(call);
+                if epoch == self.state.peer.stable.promised && !self.state.taken.has(tag) {
+                    return self.append(alloc, quorums, call);
+                }
+            }
+            _ => {}
+        }
+        Ok(Messages::new(alloc))
+    }
+
+    /// A leader takes a call.
+    #[tactic(auto, using(crate::proofs::Appending::dropped_again))]
+    fn append<Q: Quorums>(
+        &mut self,
+        alloc: Global,
+        quorums: &Q,
+        call: &P::Call,
+    ) -> Result<Messages<P::Call>, RuleFault>
+        ensures acts { result ≢ Err faults.NoMemory
+            → (self.new, result) ≡ appends (setting_of (Q.passes quorums.now) P.made_of P.tag_of) self.old call.now }
+        ensures err { OnErr result (self.new.peer.stable ≡ self.old.peer.stable) }
+    {
+        let Some(zxid) = next_zxid(self.state.peer.stable.promised, self.state.made) else {
+            self.primary = None;
+            self.state.peer.role = Role::Looking;
+            return Err(RuleFault::EpochFull);
+        };
+        let above = self.state.peer.stable.history.len();
+        self.take_call(call, zxid)?;
+        match self.announce(alloc, quorums, above) {
+            Ok(messages) => Ok(messages),
+            Err(NoMemory) => {
+                self.forget(above);
+                Err(RuleFault::NoMemory)
+            }
+        }
+    }
+
+    /// Makes an entry of a call and takes it.
+    fn take_call(&mut self, call: &P::Call, zxid: i64) -> Result<(), NoMemory>
+        requires { self.old.made < 4294967295 }
+        ensures took { OnOk result
+            (self.new ≡ took self.old (P.made_of self.old.peer.stable.history call.now zxid)) }
+        ensures err { OnErr result (self.new.peer.stable ≡ self.old.peer.stable) }
+    {
+        let Some(mut primary) = self.primary.take() else {
+            return Err(NoMemory);
+        };
+        let entry = primary.make(call, zxid)?;
+        primary.taken(&entry)?;
+        self.state.taken.push(entry.tag)?;
+        self.state.peer.stable.history.push(entry)?;
+        let length = self.state.peer.stable.history.len() as u64;
+        self.state.has.put(self.state.peer.me, length);
+        self.state.made += 1;
+        self.primary = Some(primary);
+        Ok(())
+    }
+
+    /// Delivers what may be delivered, and tells the entries above a length.
+    fn announce<Q: Quorums>(
+        &mut self,
+        alloc: Global,
+        quorums: &Q,
+        above: usize,
+    ) -> Result<Messages<P::Call>, NoMemory>
+        ensures acts { IfOk result (λ messages. (self.new, Ok messages)
+            ≡ tells_news None above (settles (Q.passes quorums.now) self.old)) }
+        ensures err { self.new.peer.stable ≡ self.old.peer.stable }
+    {
+        let commit = self.settle(alloc, quorums)?;
+        self.state.news(alloc, None, above, commit)
+    }
+
+    /// Drops the entries above a length, which were not told to anyone.
+    fn forget(&mut self, length: usize)
+        ensures { self.new.peer.stable
+            ≡ record self.old.peer.stable { history = take length self.old.peer.stable.history } }
+    {
+        self.primary = None;
+        self.state.peer.stable.history.truncate(length);
+        let length = self.state.peer.stable.history.len();
+        self.state.delivered = self.state.delivered.min(length);
+    }
+
+    /// A Propose comes.
+    pub fn propose(
+        &mut self,
+        alloc: Global,
+        from: usize,
+        epoch: u32,
+        index: u64,
+        entry: &Entry,
+    ) -> Result<Messages<P::Call>, NoMemory>
+        ensures acts { IfOk result (λ messages. (self.new, Ok messages)
+            ≡ propose self.old from epoch index entry.now) }
+        ensures err { OnErr result (self.new ≡ self.old) }
+    {
+        let mut messages = Messages::new(alloc);
+        if self.state.peer.role.follows(from) && is_next(&self.state.peer.stable, epoch, index) {
+            let length = index;
+            messages.send(self.state.peer.me, from, Body::Ack { epoch, length })?;
+            self.primary = None;
+            self.state.peer.stable.history.push(entry.copy()?)?;
+        }
+        Ok(messages)
+    }
+
+    /// An Ack comes.
+    pub fn ack<Q: Quorums>(
+        &mut self,
+        alloc: Global,
+        quorums: &Q,
+        from: usize,
+        epoch: u32,
+        length: u64,
+    ) -> Result<Messages<P::Call>, NoMemory>
+        ensures acts { IfOk result (λ messages. (self.new, Ok messages)
+            ≡ ack (Q.passes quorums.now) self.old from epoch length) }
+        ensures err { OnErr result (self.new.peer.stable ≡ self.old.peer.stable) }
+    {
+        match &self.state.peer.role {
+            Role::Broadcast => {
+                if epoch == self.state.peer.stable.promised {
+                    self.raise(from, length);
+                    let above = self.state.peer.stable.history.len();
+                    return self.announce(alloc, quorums, above);
+                }
+            }
+            _ => {}
+        }
+        Ok(Messages::new(alloc))
+    }
+
+    /// A Commit comes.
+    pub fn commit(
+        &mut self,
+        alloc: Global,
+        from: usize,
+        epoch: u32,
+        length: u64,
+    ) -> Messages<P::Call>
+        ensures { (self.new, Ok result) ≡ commit self.old from epoch length }
+    {
+        let peer = &self.state.peer;
+        if peer.role.follows(from) && epoch == peer.stable.current {
+            let most = peer.stable.history.len();
+            self.deliver(most.min(length as usize));
+        }
+        Messages::new(alloc)
+    }
+}
+
+ghost use Rattle.std.specs.Prelude.{◌≡◌};
+ghost use Rattle.zab_broadcast.specs.Rules.{is_next};
+
+/// Whether an epoch is promised and current, and an index that of the next entry.
+fn is_next(stable: &Stable, epoch: u32, index: u64) -> bool
+    ensures { result ≡ is_next stable.now epoch index }
+{
+    epoch == stable.promised && epoch == stable.current && index == stable.history.len() as u64 + 1
+}
