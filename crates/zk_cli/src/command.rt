@@ -1,6 +1,5 @@
 ghost use Rattle.std.specs.Prelude.{◌≡◌, IfOk, map, option_map};
 ghost use Rattle.zk_cli.specs.Commands.{AreOnly, IsOnly, ReadsCommandLine, ReadsDigits, ReadsJob, ReadsJobBy, ReadsUpto, is_option, values_of};
-ghost use Rattle.zk_cli.specs.declared.command.CommandFault.TheVariants as faults;
 
 use crate::act::Order;
 use crate::usage::refusal_of;

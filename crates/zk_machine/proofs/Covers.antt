@@ -38,7 +38,7 @@ same_rising ks ls g h alike =
     let m = finite.from_sorted {R = path_cmp} (tagged ks) in
     let n = finite.from_sorted {R = path_cmp} (tagged ls) in
     let same : m ≡ n = finite.same_map nat_list_cmp_total path_cmp-IsAntisymmetric m n (λ q. finite.get-from_sorted path_cmp (tagged ks) q (from_true _ g)
-        ∙ find_tagged q ks ∙ ap (λ b. cond b (Some tt) None) (alike q) ∙ sym (find_tagged q ls) ∙ sym (finite.get-from_sorted path_cmp (tagged ls) q (from_true _ h))) in
+    ∙ find_tagged q ks ∙ ap (λ b. cond b (Some tt) None) (alike q) ∙ sym (find_tagged q ls) ∙ sym (finite.get-from_sorted path_cmp (tagged ls) q (from_true _ h))) in
     sym (untagged ks) ∙ ap (map (λ e. e.0)) (sym (finite.entries-from_sorted path_cmp (tagged ks) (from_true _ g)) ∙ ap finite.entries same ∙ finite.entries-from_sorted path_cmp (tagged ls) (from_true _ h)) ∙ untagged ls
 
 -- a map's keys
@@ -82,9 +82,9 @@ any-filter f q (k ∷ ks) =
             | false ↦ λ t. any-filter f q ks ∙ ap (λ b. b && list_any (eq_by_cmp path_cmp q) ks) t
           ] refl
       | false ↦ λ s. elim (f k) as (λ b. list_any (eq_by_cmp path_cmp q) (cond b (k ∷ filter f ks) (filter f ks)) ≡ list_any (eq_by_cmp path_cmp q) (filter f ks)) [
-          | true ↦ ap (λ b. b || list_any (eq_by_cmp path_cmp q) (filter f ks)) s
-          | false ↦ refl
-        ] ∙ any-filter f q ks
+        | true ↦ ap (λ b. b || list_any (eq_by_cmp path_cmp q) (filter f ks)) s
+        | false ↦ refl
+      ] ∙ any-filter f q ks
     ] refl
 
 -- ---- what a function gives along paths

@@ -52,6 +52,6 @@ root_is path e =
 -- a path that isn't the root has a parent
 pub has_parent : (path : List ℕ) → (path ≡ codes "/" → ⊥) → IsSome (parent_of path)
 has_parent path not_root = elim (parent_of path) as (λ p. parent_of path ≡ p → IsSome p) [
-    | None ↦ λ e. absurd (not_root (root_is path e))
-    | (Some above) ↦ λ e. refl
-  ] refl
+  | None ↦ λ e. absurd (not_root (root_is path e))
+  | (Some above) ↦ λ e. refl
+] refl

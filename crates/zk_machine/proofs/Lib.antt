@@ -11,3 +11,4 @@ pub mod Families
 pub mod Owned
 pub mod Restores
 pub mod Slashes
+pub mod Roots

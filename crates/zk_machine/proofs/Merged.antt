@@ -27,9 +27,11 @@ get-noted t path before q x = by_note _ refl
     at_path : (b : Bool) → eq_by_cmp path_cmp q path ≡ b → finite.contains_key t path ≡ true → was (finite.get t q) x ≡ was (finite.get t q) (cond b before x)
     at_path true s h = was_there (finite.get t q) _ _ (ap (λ k. is_some (finite.get t k)) (same_is q path s) ∙ h)
     at_path false s h = refl
+
     new_path : (b : Bool) → eq_by_cmp path_cmp q path ≡ b → finite.contains_key t path ≡ false → was (cond b (Some before) (finite.get t q)) x ≡ was (finite.get t q) (cond b before x)
     new_path true s h = was_missing (finite.get t q) before (ap (λ k. is_some (finite.get t k)) (same_is q path s) ∙ h)
     new_path false s h = refl
+
     by_note : (b : Bool) → finite.contains_key t path ≡ b → was (finite.get (cond b t (finite.insert t path before)) q) x ≡ was (finite.get t q) (cond (eq_by_cmp path_cmp q path) before x)
     by_note true h = at_path _ refl h
     by_note false h = ap (λ y. was y x) (finite.get-insert nat_list_cmp_total t path before q) ∙ new_path _ refl h

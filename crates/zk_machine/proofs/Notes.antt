@@ -54,9 +54,11 @@ back_noted t m n path others = finite.same_map nat_list_cmp_total path_cmp-IsAnt
     at_path : (q : List ℕ) (b : Bool) → eq_by_cmp path_cmp q path ≡ b → finite.contains_key t path ≡ true → was (finite.get t q) (finite.get n q) ≡ was (finite.get t q) (finite.get m q)
     at_path q true s h = was_some (finite.get t q) _ _ (ap (λ k. is_some (finite.get t k)) (same_is q path s) ∙ h)
     at_path q false s h = ap (was (finite.get t q)) (others q s)
+
     new_path : (q : List ℕ) (b : Bool) → eq_by_cmp path_cmp q path ≡ b → finite.contains_key t path ≡ false → was (cond b (Some (finite.get m path)) (finite.get t q)) (finite.get n q) ≡ was (finite.get t q) (finite.get m q)
     new_path q true s h = ap (finite.get m) (sym (same_is q path s)) ∙ ap (λ x. was x (finite.get m q)) (sym (ap (finite.get t) (same_is q path s) ∙ no_some _ h))
     new_path q false s h = ap (was (finite.get t q)) (others q s)
+
     by_note : (q : List ℕ) (b : Bool) → finite.contains_key t path ≡ b → was (finite.get (cond b t (finite.insert t path (finite.get m path))) q) (finite.get n q) ≡ was (finite.get t q) (finite.get m q)
     by_note q true h = at_path q _ refl h
     by_note q false h = ap (λ x. was x (finite.get n q)) (finite.get-insert nat_list_cmp_total t path (finite.get m path) q) ∙ new_path q _ refl h

@@ -67,9 +67,9 @@ apart x q h = (eq_by_cmp_equiv nat_list_cmp_total).symm q x ∙ ap is_eq h
 below_keys : (x : List ℕ) (es : List (List ℕ × Node)) → below_all x es ≡ true → (q : List ℕ) → list_any (eq_by_cmp path_cmp q) (map (λ e. e.0) es) ≡ true → path_cmp x q ≡ Less
 below_keys x [] h q has = absurd (false≢true has)
 below_keys x (e ∷ es) h q has = elim (eq_by_cmp path_cmp q e.0) as (λ b. eq_by_cmp path_cmp q e.0 ≡ b → path_cmp x q ≡ Less) [
-    | true ↦ λ s. ap (path_cmp x) (same_is q e.0 s) ∙ ordered _ (and_parts _ _ h).0
-    | false ↦ λ s. below_keys x es (and_parts _ _ h).1 q (or_cases _ _ has s)
-  ] refl
+  | true ↦ λ s. ap (path_cmp x) (same_is q e.0 s) ∙ ordered _ (and_parts _ _ h).0
+  | false ↦ λ s. below_keys x es (and_parts _ _ h).1 q (or_cases _ _ has s)
+] refl
 
 or_true : (a : Bool) {b : Bool} → b ≡ true → (a || b) ≡ true
 or_true true e = refl
@@ -77,9 +77,10 @@ or_true false e = e
 
 all_got : (find_in : List ℕ → Option Node) (es : List (List ℕ × Node)) → is_sorted path_cmp es ≡ true → ((q : List ℕ) → list_any (eq_by_cmp path_cmp q) (map (λ e. e.0) es) ≡ true → find_in q ≡ find path_cmp q es) → AllGot find_in es
 all_got find_in [] h same = tt
-all_got find_in (e ∷ es) h same =
-    (same e.0 (ap (λ b. b || list_any (eq_by_cmp path_cmp e.0) (map (λ e. e.0) es)) (same_itself e.0)) ∙ ap (λ b. cond b (Some e.1) (find path_cmp e.0 es)) (same_itself e.0),
-    all_got find_in es (and_parts _ _ h).1 (λ q has. same q (or_true (eq_by_cmp path_cmp q e.0) has) ∙ ap (λ b. cond b (Some e.1) (find path_cmp q es)) (apart e.0 q (below_keys e.0 es (and_parts _ _ h).0 q has))))
+all_got find_in (e ∷ es) h same = (
+  same e.0 (ap (λ b. b || list_any (eq_by_cmp path_cmp e.0) (map (λ e. e.0) es)) (same_itself e.0)) ∙ ap (λ b. cond b (Some e.1) (find path_cmp e.0 es)) (same_itself e.0),
+  all_got find_in es (and_parts _ _ h).1 (λ q has. same q (or_true (eq_by_cmp path_cmp q e.0) has) ∙ ap (λ b. cond b (Some e.1) (find path_cmp q es)) (apart e.0 q (below_keys e.0 es (and_parts _ _ h).0 q has))),
+)
 
 owned_left : (nodes : NodeMap) (session : ℤ) → int_eq session (pos 0) ≡ false → (es : List (List ℕ × Node)) → is_sorted path_cmp es ≡ true → AllGot (finite.get nodes) es → AreOwned nodes session (left (λ node. int_eq node.owner session) es)
 owned_left nodes session some [] h got = tt
@@ -96,9 +97,9 @@ owned_left nodes session some (e ∷ es) h got =
 -- those that a state has
 pub all_owned : (nodes : NodeMap) (session : ℤ) → AreOwned nodes session (owned_by nodes session)
 all_owned nodes session = elim (int_eq session (pos 0)) as (λ b. int_eq session (pos 0) ≡ b → AreOwned nodes session (cond b [] (left (λ node. int_eq node.owner session) (finite.entries nodes)))) [
-    | true ↦ λ e. tt
-    | false ↦ λ e. owned_left nodes session e (finite.entries nodes) (to_true _ (finite.entries_sorted nodes)) (all_got (finite.get nodes) (finite.entries nodes) (to_true _ (finite.entries_sorted nodes)) (λ q has. finite.get-entries nodes q))
-  ] refl
+  | true ↦ λ e. tt
+  | false ↦ λ e. owned_left nodes session e (finite.entries nodes) (to_true _ (finite.entries_sorted nodes)) (all_got (finite.get nodes) (finite.entries nodes) (to_true _ (finite.entries_sorted nodes)) (λ q has. finite.get-entries nodes q))
+] refl
 
 -- ---- one of them goes
 

@@ -127,15 +127,16 @@ get-cleared_at path before m q = by_going (must_go before (finite.get m path)) r
   where
     at_path : eq_by_cmp path_cmp q path ≡ true → finite.get m path ≡ finite.get m q
     at_path s = ap (finite.get m) (sym (same_is q path s))
+
     by_going : (b : Bool) → must_go before (finite.get m path) ≡ b → finite.get (cond b (finite.remove m path) m) q ≡ cond (eq_by_cmp path_cmp q path) (gone_by (Some before) (finite.get m q)) (finite.get m q)
     by_going true g = finite.get-remove nat_list_cmp_total m path q ∙ elim (eq_by_cmp path_cmp q path) as (λ b. eq_by_cmp path_cmp q path ≡ b → cond b None (finite.get m q) ≡ cond b (gone_by (Some before) (finite.get m q)) (finite.get m q)) [
-        | true ↦ λ s. sym (ap (λ b. cond b None (finite.get m q)) (ap (must_go before) (sym (at_path s)) ∙ g))
-        | false ↦ λ s. refl
-      ] refl
+      | true ↦ λ s. sym (ap (λ b. cond b None (finite.get m q)) (ap (must_go before) (sym (at_path s)) ∙ g))
+      | false ↦ λ s. refl
+    ] refl
     by_going false g = elim (eq_by_cmp path_cmp q path) as (λ b. eq_by_cmp path_cmp q path ≡ b → finite.get m q ≡ cond b (gone_by (Some before) (finite.get m q)) (finite.get m q)) [
-        | true ↦ λ s. sym (ap (λ b. cond b None (finite.get m q)) (ap (must_go before) (sym (at_path s)) ∙ g))
-        | false ↦ λ s. refl
-      ] refl
+      | true ↦ λ s. sym (ap (λ b. cond b None (finite.get m q)) (ap (must_go before) (sym (at_path s)) ∙ g))
+      | false ↦ λ s. refl
+    ] refl
 
 get-cleared : (es : List Note) (m : NodeMap) (q : List ℕ) → is_sorted path_cmp es ≡ true → finite.get (cleared es m) q ≡ gone_by (find path_cmp q es) (finite.get m q)
 get-cleared [] m q h = refl
@@ -235,6 +236,7 @@ module _ (es front rest : List Note) (e : Note) (split : es ≡ front ++ e ∷ r
         gone_before : (child : List ℕ) → finite.contains_key cur child ≡ true → parent_of child ≡ Some e.0 → finite.contains_key (all_put_back es now) child ≡ false
         gone_before child has below = children_go now (all_put_back es now) tree.parents state.parents e.0 child below (gone_there (find path_cmp child rest) (finite.get now child) (ap is_some (sym (at_cur child)) ∙ has))
             (λ same. go_apart e.1 (finite.get cur e.0) go (ap owner_of same_here ∙ same ∙ ap owner_of (get-all_put_back es now e.0 ∙ ap (λ x. was x (finite.get now e.0)) found)))
+
         by_note : (child : List ℕ) → finite.contains_key cur child ≡ true → parent_of child ≡ Some e.0 → (x : Option (Option Node)) → find path_cmp child es ≡ x → is_some (was x (finite.get now child)) ≡ false → ⊥
         by_note child has below None none gone = false≢true (sym gone ∙ gone_there (find path_cmp child rest) (finite.get now child) (ap is_some (sym (at_cur child)) ∙ has))
         by_note child has below (Some (Some node)) note gone = false≢true (sym gone)
@@ -242,6 +244,7 @@ module _ (es front rest : List Note) (e : Note) (split : es ≡ front ++ e ∷ r
             let less = parent_below child e.0 (find_begins es child None begin note) below in
             let behind : find path_cmp child rest ≡ Some None = sym (find_behind e rest child less front split_sorted) ∙ ap (find path_cmp child) (sym split) ∙ note in
             false≢true (sym (ap is_some (at_cur child ∙ ap (λ x. gone_by x (finite.get now child)) behind ∙ both_turns (Some None) (finite.get now child))) ∙ has)
+
         no_child : (child : List ℕ) → finite.contains_key cur child ≡ true → parent_of child ≡ Some e.0 → ⊥
         no_child child has below = by_note child has below (find path_cmp child es) refl (ap is_some (sym (get-all_put_back es now child)) ∙ gone_before child has below)
 
@@ -265,9 +268,11 @@ module _ (es front rest : List Note) (e : Note) (split : es ≡ front ++ e ∷ r
         still = at_filled e.0
             ∙ ap (λ x. filled_by x (gone_by (find path_cmp e.0 es) (finite.get now e.0))) (find_not_before e rest front split_sorted)
             ∙ ap (λ x. gone_by x (finite.get now e.0)) (found ∙ ap Some comes)
+
         by_going : (x : Node) (b : Bool) → must_go (Some node) (Some x) ≡ b → cond b None (Some x) ≡ Some old → old.owner ≡ node.owner
         by_going x true g is = absurd (false≢true (ap is_some is))
         by_going x false g is = ap (λ n. n.owner) (sym (ap (λ o. unwrap_or o x) is)) ∙ stays_same node x g
+
         by_now : (x : Option Node) → gone_by (Some (Some node)) x ≡ Some old → old.owner ≡ node.owner
         by_now None is = absurd (false≢true (ap is_some is))
         by_now (Some x) is = by_going x (must_go (Some node) (Some x)) refl is

@@ -24,6 +24,7 @@ module _ {K : Type 0} {R : K → K → Ordering} (o : IsTotalOrder R) where
       at_most Less = omega arith
       at_most Equal = omega arith
       at_most Greater = omega arith
+
       by_later : (r : Ordering) → R b k ≡ r → ordering_index (R a k) ≤ ordering_index r
       by_later Less e = rw (o.trans a b k less e) (omega arith)
       by_later Equal e = rw (sym (alike_right o b k a e) ∙ less) (omega arith)

@@ -9,9 +9,9 @@ use Rattle.zk_machine.specs.Restoring.{begins_with_slash, all_begin}
 pub path_begins : (text : List ℕ) → fault_of text ≡ None → begins_with_slash text ≡ true
 path_begins [] e = absurd (false≢true (sym (ap is_some e)))
 path_begins (b ∷ rest) e = elim (is_slash b) as (λ s. cond s (rest_fault rest) (Some faults.NotAbsolute) ≡ None → s ≡ true) [
-    | true ↦ λ _. refl
-    | false ↦ λ e. absurd (false≢true (sym (ap is_some e)))
-  ] e
+  | true ↦ λ _. refl
+  | false ↦ λ e. absurd (false≢true (sym (ap is_some e)))
+] e
 
 pub all_begin-insert : (es : List Note) (i : ℕ) (e : Note) → all_begin es ≡ true → begins_with_slash e.0 ≡ true → all_begin (insert es i e) ≡ true
 all_begin-insert es zero e h b = and_from _ _ b h

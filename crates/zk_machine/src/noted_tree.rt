@@ -89,7 +89,12 @@ impl NotedTree {
     }
 
     /// Counts a new child of the parent of a path.
-    pub(crate) fn parent_gains(&mut self, path: &Path, zxid: i64, count: i32) -> Result<(), NoMemory>
+    pub(crate) fn parent_gains(
+        &mut self,
+        path: &Path,
+        zxid: i64,
+        count: i32,
+    ) -> Result<(), NoMemory>
         ensures tree { OnOk result (self.new.tree ≡ parent_changed self.old.tree path.now (with_child zxid count)) }
         ensures before { OnOk result (nodes_before self.new.touched self.new.tree ≡ nodes_before self.old.touched self.old.tree) }
     {

@@ -9,9 +9,7 @@ ghost use Rattle.zk_machine.specs.Undoing.{nodes_before};
 use crate::noted_tree::NotedTree;
 use zk_acl::Acls;
 use zk_path::{NoMemory, Path};
-use zk_table::codes::{
-    BAD_ARGUMENTS, NO_CHILDREN_FOR_EPHEMERALS, NO_NODE, NODE_EXISTS, NOT_EMPTY,
-};
+use zk_table::codes::{BAD_ARGUMENTS, NO_CHILDREN_FOR_EPHEMERALS, NO_NODE, NODE_EXISTS, NOT_EMPTY};
 use zk_table::{Content, Node, PartResult, Sub, Txn};
 
 impl NotedTree {

@@ -37,9 +37,11 @@ fn place_of(entries: &[(u64, i32)], session: u64) -> Result<usize, usize>
     ensures place { result ≡ place_of nat_cmp session entries.now }
     ensures within { MatchResult result (λ at. at < length entries.now) (λ at. at ≤ length entries.now) }
 {
-    entries.binary_search_by(|entry: &(u64, i32)| -> Ordering
-        ensures { result ≡ nat_cmp entry.now.0 session }
-    { entry.0.cmp(&session) })
+    entries.binary_search_by(
+        |entry: &(u64, i32)| -> Ordering
+            ensures { result ≡ nat_cmp entry.now.0 session }
+        { entry.0.cmp(&session) },
+    )
 }
 
 impl Sessions {

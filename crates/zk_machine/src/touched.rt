@@ -41,9 +41,11 @@ fn place_of(notes: &[(Path, Option<Node>)], path: &str) -> Result<usize, usize>
     ensures place { result ≡ place_of path_cmp path.now notes.now }
     ensures within { MatchResult result (λ at. at < length notes.now) (λ at. at ≤ length notes.now) }
 {
-    notes.binary_search_by(|note: &(Path, Option<Node>)| -> Ordering
-        ensures { result ≡ path_cmp note.now.0 path.entry.now }
-    { note.0.text().cmp(path) })
+    notes.binary_search_by(
+        |note: &(Path, Option<Node>)| -> Ordering
+            ensures { result ≡ path_cmp note.now.0 path.entry.now }
+        { note.0.text().cmp(path) },
+    )
 }
 
 impl Touched {

@@ -23,7 +23,8 @@ pub loop-path-preserved : goal.loop-path-preserved
 loop-path-preserved c =
     let txn = c.args.txn.now in
     let read : to_z w64 (of_z w64 txn.zxid) ≡ txn.zxid = search rules in
-    let gone = c.in_ok-parent_loses.ensures.tree ∙ ap (λ z. parent_changed c.take.new.self.tree c.path-item.result (without_child z)) read ∙ ap (λ m. parent_changed m c.path-item.result (without_child txn.zxid)) c.in_ok-take.ensures.tree in
-    (without_next txn c.loop-path.self.tree txn.session c.as_slice-path-items.result.now c.loop-path.path-index c.path-item.result c.loop-path-test.true (sym c.path-item.is) c.loop-path.invariant.2 c.parent_loses.new.self.tree gone ∙ c.loop-path.invariant.0,
-    c.in_ok-parent_loses.ensures.before ∙ c.in_ok-take.ensures.before ∙ c.loop-path.invariant.1,
-    owned_next txn c.loop-path.self.tree txn.session c.as_slice-path-items.result.now c.loop-path.path-index c.path-item.result c.loop-path-test.true (sym c.path-item.is) c.loop-path.invariant.2 c.parent_loses.new.self.tree gone)
+    let gone = c.in_ok-parent_loses.ensures.tree ∙ ap (λ z. parent_changed c.take.new.self.tree c.path-item.result (without_child z)) read ∙ ap (λ m. parent_changed m c.path-item.result (without_child txn.zxid)) c.in_ok-take.ensures.tree in (
+      without_next txn c.loop-path.self.tree txn.session c.as_slice-path-items.result.now c.loop-path.path-index c.path-item.result c.loop-path-test.true (sym c.path-item.is) c.loop-path.invariant.2 c.parent_loses.new.self.tree gone ∙ c.loop-path.invariant.0,
+      c.in_ok-parent_loses.ensures.before ∙ c.in_ok-take.ensures.before ∙ c.loop-path.invariant.1,
+      owned_next txn c.loop-path.self.tree txn.session c.as_slice-path-items.result.now c.loop-path.path-index c.path-item.result c.loop-path-test.true (sym c.path-item.is) c.loop-path.invariant.2 c.parent_loses.new.self.tree gone,
+    )

@@ -9,21 +9,21 @@ use Rattle.zk_machine.proofs.table.Table.run.Goals.{In_ok-deed, in-Create+in_ok-
 
 kept : (c : In_ok-deed) → nodes_before c.match-txn.self.nodes.touched c.match-txn.self.nodes.tree ≡ nodes_before c.begin.new.self.touched c.begin.new.self.tree
 kept c = elim c.match-txn.branch [
-    | in-Create+in_ok-answer-in-Create w ↦ search rules
-    | in-Delete+in_ok-answer-in-Delete w ↦ search rules
-    | in-SetData+in_ok-answer-in-SetData w ↦ search rules
-    | in-SetAcl+in_ok-answer-in-SetAcl w ↦ search rules
-    | in-Error w ↦ search rules
-  ]
+  | in-Create+in_ok-answer-in-Create w ↦ search rules
+  | in-Delete+in_ok-answer-in-Delete w ↦ search rules
+  | in-SetData+in_ok-answer-in-SetData w ↦ search rules
+  | in-SetAcl+in_ok-answer-in-SetAcl w ↦ search rules
+  | in-Error w ↦ search rules
+]
 
 single : (c : In_ok-deed) → changes_of (state_of c.args.self.now) c.args.txn.now ≡ changes_between c.args.self.now.nodes.tree c.match-txn.self.nodes.tree
 single c = elim c.match-txn.branch [
-    | in-Create+in_ok-answer-in-Create w ↦ search rules
-    | in-Delete+in_ok-answer-in-Delete w ↦ search rules
-    | in-SetData+in_ok-answer-in-SetData w ↦ search rules
-    | in-SetAcl+in_ok-answer-in-SetAcl w ↦ search rules
-    | in-Error w ↦ search rules
-  ]
+  | in-Create+in_ok-answer-in-Create w ↦ search rules
+  | in-Delete+in_ok-answer-in-Delete w ↦ search rules
+  | in-SetData+in_ok-answer-in-SetData w ↦ search rules
+  | in-SetAcl+in_ok-answer-in-SetAcl w ↦ search rules
+  | in-Error w ↦ search rules
+]
 
 pub returns-clause-nodes : goal.returns-clause-nodes
 returns-clause-nodes c =

@@ -19,9 +19,10 @@ inserted c =
     (ap (λ k. place_of path_cmp k c.self.inside.notes.items) (sym c.text.ensures.text) ∙ placed path_cmp c.text.result.now c.deref.result.now _ _ _ c.deref.ensures.value c.place_of.ensures.place c.in-Err.is)
 
 pub invariant_of-self : goal.invariant_of-self
-invariant_of-self c =
-    (sorted_from_entries path_cmp _ _ (inserted c),
-    ap all_begin c.in_ok-insert-in-Err.ensures.items ∙ all_begin-insert c.self.inside.notes.items c.in-Err.at (c.args.path, c.args.before) c.self.invariant.1 (ap begins_with_slash (sym c.text.ensures.text) ∙ path_begins c.text.result.now (ap fault_of c.text.ensures.text ∙ c.text.ensures.is_path)))
+invariant_of-self c = (
+  sorted_from_entries path_cmp _ _ (inserted c),
+  ap all_begin c.in_ok-insert-in-Err.ensures.items ∙ all_begin-insert c.self.inside.notes.items c.in-Err.at (c.args.path, c.args.before) c.self.invariant.1 (ap begins_with_slash (sym c.text.ensures.text) ∙ path_begins c.text.result.now (ap fault_of c.text.ensures.text ∙ c.text.ensures.is_path)),
+)
 
 pub returns-in-Ok : goal.returns-in-Ok
 returns-in-Ok c =
