@@ -1,5 +1,5 @@
 -- Words name at most one order, with one input and one output.
-use Rattle.std.proofs.Common.{◌≡◌, ℕ, ◌+◌, ◌*◌, ◌<◌, ◌^◌, ℤ, pos, negsuc, List, [], ◌∷◌, length, Option, Some, None, Ok, FitsSigned, refl, sym, ap, ◌∙◌, subst, codes, arith, to_z, of_z, w64}
+use Rattle.std.proofs.Common.{◌≡◌, ℕ, ◌*◌, ◌<◌, ◌^◌, ℤ, pos, negsuc, List, [], ◌∷◌, length, Option, Some, None, Ok, FitsSigned, refl, sym, ap, ◌∙◌, subst, codes, arith, to_z, of_z, w64}
 use Rattle.std.proofs.lemmas.Int.{to_z-of_z}
 use Rattle.std.specs.Int.{to_be_bytes, cast_unsigned}
 use Rattle.hex.proofs.HexLemmas.{length-encode_with}

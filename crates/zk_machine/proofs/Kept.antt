@@ -1,11 +1,11 @@
 -- Maps that are kept as lists in the order of their keys, looked up and changed at a place.
-use Rattle.std.proofs.Common.{◌≡◌, ℕ, List, get_or, set, insert, remove, Option, Some, None, is_some, is_ok, Result, Ok, Err, IsTrue, refl, sym, ap, subst, ◌∙◌}
+use Rattle.std.proofs.Common.{◌≡◌, ℕ, List, get_or, set, insert, remove, Some, None, is_some, is_ok, Result, Ok, Err, IsTrue, refl, sym, ap, subst, ◌∙◌}
 use Rattle.std.specs.declared.cmp.Ordering.{Ordering}
 use Rattle.std.specs.Cmp.{IsTotalOrder}
 use Rattle.std.specs.FinMap.{FinMap, IsAntisymmetric, entries, get, from_sorted, is_sorted}
 use Rattle.std.specs.FinMap as finite
 use Rattle.zk_table.specs.Places.{place_of}
-use Rattle.zk_table.proofs.Sorted.{entries_of_kept, found_at_place, missing_at_place, entries_set, entries_inserted, sorted_from_entries, kept_from_entries, sorted_removed, kept_removed, removed_missing}
+use Rattle.zk_table.proofs.Sorted.{entries_of_kept, found_at_place, missing_at_place, entries_set, entries_inserted, sorted_removed, kept_removed, removed_missing}
 
 module _ {K X : Type 0} {R : K → K → Ordering} (o : IsTotalOrder R) (es : List (K × X)) (m : FinMap R X) (k : K) (sorted : IsTrue (is_sorted R es)) (view : from_sorted {R = R} es ≡ m) (lent : List (K × X)) (is : lent ≡ es) (r place : Result ℕ ℕ) (looked_up : r ≡ place_of R k lent) (there : r ≡ place) where
   abbrev at_place : place_of R k es ≡ place

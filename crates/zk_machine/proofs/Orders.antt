@@ -1,5 +1,5 @@
 -- Parents come before their children; and in which order a state can be put back.
-use Rattle.std.proofs.Common.{◌≡◌, ℕ, pos, Bool, true, false, cond, List, [], ◌∷◌, length, ◌==◌, arith, Option, Some, is_some, unwrap_or, refl, sym, ap, ◌∙◌, Less}
+use Rattle.std.proofs.Common.{◌≡◌, ℕ, pos, true, false, cond, List, [], ◌∷◌, length, ◌==◌, arith, Some, is_some, unwrap_or, refl, sym, ap, ◌∙◌, Less}
 use Rattle.std.proofs.lemmas.Bool.{false≢true, ne_eqb}
 use Rattle.std.proofs.lemmas.Cmp.{nat_cmp_total, tied_itself}
 use Rattle.std.specs.FinMap as finite

@@ -1,5 +1,5 @@
 -- What is noted of the root.
-use Rattle.std.proofs.Common.{◌≡◌, ℕ, pos, List, Option, Some, refl, sym, ap, ◌∙◌, codes}
+use Rattle.std.proofs.Common.{◌≡◌, pos, Some, sym, ap, ◌∙◌, codes}
 use Rattle.std.specs.FinMap as finite
 use Rattle.std.specs.Option.{option_map}
 use Rattle.zk_table.specs.declared.node.Node.{Node}

@@ -1,5 +1,5 @@
 -- Paths begin with a slash.
-use Rattle.std.proofs.Common.{◌≡◌, ℕ, zero, suc, Bool, true, false, cond, ◌&&◌, List, [], ◌∷◌, insert, Option, Some, None, is_some, refl, sym, ap, ◌∙◌}
+use Rattle.std.proofs.Common.{◌≡◌, ℕ, zero, suc, true, false, cond, List, [], ◌∷◌, insert, Some, None, is_some, refl, sym, ap}
 use Rattle.std.proofs.lemmas.Bool.{false≢true, and_parts, and_from}
 use Rattle.zk_path.specs.Paths.{fault_of, is_slash, rest_fault}
 use Rattle.zk_path.specs.declared.fault.PathFault.TheVariants as faults

@@ -1,5 +1,5 @@
 -- Texts that tie are the same.
-use Rattle.std.proofs.Common.{◌≡◌, ℕ, true, false, List, refl, Equal, Less, Greater, is_eq}
+use Rattle.std.proofs.Common.{◌≡◌, ℕ, true, List, refl, Equal, Less, Greater, is_eq}
 use Rattle.std.proofs.lemmas.Bool.{false≢true}
 use Rattle.std.specs.declared.cmp.Ordering.{Ordering}
 use Rattle.std.specs.FinMap.{IsAntisymmetric, slice_cmp-IsAntisymmetric, nat_cmp-IsAntisymmetric}

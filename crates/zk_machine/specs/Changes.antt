@@ -1,13 +1,13 @@
 -- What a transaction changed, found by comparing the states before and after: ZooKeeper Programmer's Guide, "ZooKeeper
 -- Watches". One instruction is a transaction or one part of a multi.
-use Rattle.std.specs.Prelude.{ℕ, ℤ, Bool, List, [], ◌∷◌, ◌++◌, Option, Some, None, if◌then◌else◌}
+use Rattle.std.specs.Prelude.{ℕ, Bool, List, [], ◌∷◌, ◌++◌, Option, Some, None, if◌then◌else◌}
 use Rattle.std.specs.List.{list_any, flat_map}
 use Rattle.std.specs.Ordering.{int_eq}
 use Rattle.std.specs.FinMap.{get, entries, keys, from_entries}
 use Rattle.zk_table.specs.declared.node.Node.{Node}
 use Rattle.zk_table.specs.declared.sub.Sub.{Sub}
 use Rattle.zk_table.specs.declared.txn.Op.{Op}
-use Rattle.zk_table.specs.declared.txn.Op.TheVariants.{Create, Delete, SetData, SetAcl, OpenSession, CloseSession, Error, Multi}
+use Rattle.zk_table.specs.declared.txn.Op.TheVariants.{Multi}
 use Rattle.zk_table.specs.declared.txn.Txn.{Txn}
 use Rattle.zk_table.specs.Multis.{apply_part, is_error}
 use Rattle.zk_table.specs.States.{NodeMap, State, path_cmp}

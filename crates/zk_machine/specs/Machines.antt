@@ -1,6 +1,6 @@
 -- A machine: a state, and how many transactions it was brought there by.
-use Rattle.std.specs.Prelude.{ℕ, ℤ, Bool, refl}
-use Rattle.std.specs.Coded.{Coded, code_by, coded×, coded_ℕ, coded_ℤ, coded_bool}
+use Rattle.std.specs.Prelude.{ℕ, Bool, refl}
+use Rattle.std.specs.Coded.{Coded, code_by, coded×, coded_ℕ, coded_bool}
 use Rattle.zk_table.specs.declared.node.Node.{Node}
 use Rattle.zk_table.specs.States.{State, state_code}
 

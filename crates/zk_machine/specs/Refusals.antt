@@ -1,5 +1,5 @@
 -- Why a machine doesn't take a transaction back, and what it is then.
-use Rattle.std.specs.Prelude.{◌≡◌, ◌≢◌, ℕ, Bool, true, false, Option, Some, None}
+use Rattle.std.specs.Prelude.{◌≡◌, ◌≢◌, true, false, Option, Some, None}
 use Rattle.zk_machine.specs.declared.fault.MachineFault.{MachineFault}
 use Rattle.zk_machine.specs.declared.fault.MachineFault.TheVariants.{NoMemory, Failed, NotLast}
 use Rattle.zk_machine.specs.declared.fault.UndoFault.{UndoFault}

@@ -1,5 +1,5 @@
-use Rattle.std.proofs.Common.{◌≡◌, ℕ, List, Option, Some, sym, ap, subst, ◌∙◌, codes, IsTrue}
-use Rattle.std.specs.FinMap.{entries, find, get-entries, is_sorted}
+use Rattle.std.proofs.Common.{List, sym, ap, subst, ◌∙◌, codes}
+use Rattle.std.specs.FinMap.{find, get-entries}
 use Rattle.zk_table.specs.States.{path_cmp}
 use Rattle.zk_table.proofs.Sorted.{sorted_from_entries}
 use Rattle.zk_machine.specs.Notes.{Note}

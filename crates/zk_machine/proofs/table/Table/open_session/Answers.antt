@@ -1,4 +1,4 @@
-use Rattle.std.proofs.Common.{refl, sym, ap, ◌∙◌}
+use Rattle.std.proofs.Common.{refl, ap, ◌∙◌}
 use Rattle.zk_machine.specs.Undoing.{sessions_before}
 use Rattle.zk_machine.proofs.Notes.{begun_changes, begun_undone}
 use Rattle.zk_machine.proofs.Timeouts.{opened_back}

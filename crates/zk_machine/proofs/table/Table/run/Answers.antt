@@ -1,5 +1,4 @@
-use Rattle.std.proofs.Common.{◌≡◌, refl, sym, ap, ◌∙◌, rules}
-use Rattle.zk_table.specs.Steps.{step}
+use Rattle.std.proofs.Common.{◌≡◌, refl, sym, ◌∙◌, rules}
 use Rattle.zk_machine.specs.Changes.{changes_between, changes_of}
 use Rattle.zk_machine.specs.Tables.{state_of}
 use Rattle.zk_machine.specs.Undoing.{nodes_before}

@@ -1,4 +1,4 @@
-use Rattle.std.proofs.Common.{◌≡◌, Result, Ok, Err, is_ok, is_some, refl, sym, ap, ◌∙◌, Some, None, [], get_or}
+use Rattle.std.proofs.Common.{refl, ◌∙◌, None, []}
 use Rattle.std.proofs.lemmas.Cmp.{nat_list_cmp_total}
 use Rattle.zk_machine.proofs.Kept.{contained}
 use Rattle.zk_machine.proofs.touched.Touched.has.Goals as goal
