@@ -2,6 +2,9 @@
 """Measures `zk` beside `sha1sum`: CPU seconds and peak memory, on logs and on logs of twice their length.
 
 usage: bench/measure.py     in a checkout where `rt ci`, or `rt run` in crates/zk_cli, has left the proved program
+
+The runs of a log's commands take turns, and the least of each counts: so a machine that is busy for a while is no one
+command's loss.
 """
 import os
 import subprocess
@@ -10,59 +13,84 @@ import tempfile
 
 HERE = os.path.dirname(os.path.abspath(__file__))
 ZK = os.path.join(HERE, "..", "crates", "zk_cli", "out", "zk_cli")
+TURNS = 5
 
 
-def measured(*words, output=os.devnull):
-    """The least CPU seconds of three runs, and the peak memory in bytes."""
-    seconds = []
-    for _ in range(3):
-        with open(output, "w") as out:
-            child = subprocess.Popen(words, stdout=out)
-            _, status, usage = os.wait4(child.pid, 0)
-        if status:
-            sys.exit("%s: status %d" % (" ".join(words), os.waitstatus_to_exitcode(status)))
-        seconds.append(usage.ru_utime + usage.ru_stime)
-    return min(seconds), usage.ru_maxrss * 1024
+def run(words, output):
+    """The CPU seconds of a run, and its peak memory in bytes."""
+    with open(output, "w") as out:
+        child = subprocess.Popen(words, stdout=out)
+        _, status, usage = os.wait4(child.pid, 0)
+    if status:
+        sys.exit("%s: status %d" % (" ".join(words), os.waitstatus_to_exitcode(status)))
+    return usage.ru_utime + usage.ru_stime, usage.ru_maxrss * 1024
 
 
-def report(name, size, *words, output=os.devnull):
-    seconds, memory = measured(*words, output=output)
-    print("  %-28s %6.2f s CPU, %6.1f MB at most (%.1f times)" % (name, seconds, memory / 1e6, memory / size))
+def measured(commands):
+    """For each command, a name, its words and where its output goes: the least CPU seconds and the peak memory."""
+    seconds = {name: [] for name, _, _ in commands}
+    memory = {}
+    for _ in range(TURNS):
+        for name, words, output in commands:
+            took, memory[name] = run(words, output)
+            seconds[name].append(took)
+    return {name: (min(took), memory[name]) for name, took in seconds.items()}
+
+
+def report(size, results):
+    yardstick, _ = results["sha1sum"]
+    for name, (seconds, memory) in results.items():
+        print("  %-28s %6.2f s CPU, %5.2f times sha1sum, %6.1f MB at most, %.1f times the log"
+              % (name, seconds, seconds / yardstick, memory / 1e6, memory / size))
 
 
 def make(folder, total, mix):
     log = os.path.join(folder, "log")
     subprocess.run([sys.executable, os.path.join(HERE, "make_log.py"), log, str(total), mix], check=True)
-    print("%d transactions of %s kinds, %.1f MB" % (total, mix, os.path.getsize(log) / 1e6))
+    print("%d transactions of the mix '%s', %.1f MB" % (total, mix, os.path.getsize(log) / 1e6))
     return log, os.path.getsize(log)
 
 
-def show(folder, total):
-    log, size = make(folder, total, "few")
-    report("sha1sum", size, "sha1sum", log)
-    report("zk show of the start state", size, ZK, "show", log, "0" * 16)
-    report("zk show of the last state", size, ZK, "show", log, "last")
+def of_a_log(folder, total, mix):
+    """`show` and `list` of a log. Answers what they took."""
+    log, size = make(folder, total, mix)
+    results = measured([
+        ("sha1sum", ["sha1sum", log], os.devnull),
+        ("zk show of the start state", [ZK, "show", log, "0" * 16], os.devnull),
+        ("zk show of the last state", [ZK, "show", log, "last"], os.devnull),
+        ("zk list", [ZK, "list", log], os.devnull),
+    ])
+    report(size, results)
+    return results
 
 
-def list_and_asm(folder, total):
+def there_and_back(folder, total):
+    """`list` to a file, and `asm` of it."""
     log, size = make(folder, total, "all")
-    text = os.path.join(folder, "text")
-    report("sha1sum", size, "sha1sum", log)
-    report("zk show of the start state", size, ZK, "show", log, "0" * 16)
-    report("zk list", size, ZK, "list", log)
-    report("zk list to a file", size, ZK, "list", log, output=text)
-    longer = max(size, os.path.getsize(text))
-    print("  the listing has %.1f MB" % (os.path.getsize(text) / 1e6))
-    report("zk asm", longer, ZK, "asm", text, os.path.join(folder, "back"))
-    subprocess.run(["cmp", log, os.path.join(folder, "back")], check=True)
+    listing, back = os.path.join(folder, "listing"), os.path.join(folder, "back")
+    run([ZK, "list", log], listing)
+    longer = os.path.getsize(listing)
+    print("  the listing has %.1f MB" % (longer / 1e6))
+    report(longer, measured([
+        ("sha1sum", ["sha1sum", log], os.devnull),
+        ("zk list to a file", [ZK, "list", log], listing),
+        ("zk asm", [ZK, "asm", listing, back], os.devnull),
+    ]))
+    subprocess.run(["cmp", log, back], check=True)
+
+
+def twice(name, once, again):
+    print("twice the log: %-28s %.2f times" % (name, again[name][0] / once[name][0]))
 
 
 def main():
     with tempfile.TemporaryDirectory() as folder:
-        for total in (100_000, 200_000):
-            show(folder, total)
-        for total in (200_000, 400_000):
-            list_and_asm(folder, total)
+        once = of_a_log(folder, 210_000, "tree")
+        again = of_a_log(folder, 420_000, "tree")
+        twice("zk show of the last state", once, again)
+        twice("zk list", once, again)
+        there_and_back(folder, 200_000)
+        of_a_log(folder, 20_000, "colliding")
 
 
 main()

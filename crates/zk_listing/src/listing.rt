@@ -4,7 +4,7 @@ ghost use Rattle.std.specs.String.{string_bytes};
 ghost use Rattle.zk_listing.specs.Listings.{IsListed, HasCountedAcls, listing_of, line_of, op_text, sub_text, part_text, create_text, delete_text, set_data_text, set_acl_text, check_text, error_text, ephemeral_text, header_text};
 
 use crate::ranges::{txn_is_listed, txns_are_listed};
-use crate::spelling::{push_id, spell_acl, spell_content, spell_next_id, spell_quoted};
+use crate::spelling::{LINE, push_id, spell_acl, spell_content, spell_next_id, spell_quoted};
 use std::alloc::Global;
 use zk_acl::Acls;
 use zk_path::{NoMemory, Path};
@@ -31,7 +31,7 @@ pub fn push_line(text: &mut String, txn: &Txn) -> Result<(), NoMemory>
     ensures listed { HasCountedAcls txn.now → IsListed txn.now }
 {
     txn_is_listed(txn);
-    let mut line = String::new(*text.allocator());
+    let mut line = String::with_capacity(*text.allocator(), LINE)?;
     spell_line(&mut line, txn)?;
     text.push_str(line.as_str())?;
     Ok(())

@@ -3,7 +3,7 @@ ghost use Rattle.std.specs.List.{flat_map};
 ghost use Rattle.std.specs.String.{string_bytes};
 ghost use Rattle.zk_listing.specs.Reports.{node_line, path_or_dash, stat_or_dash, answer_text, part_answer, result_line};
 
-use crate::spelling::{push_id, spell_acl, spell_content, spell_quoted, spell_stat};
+use crate::spelling::{LINE, push_id, spell_acl, spell_content, spell_quoted, spell_stat};
 use zk_acl::Stat;
 use zk_path::{NoMemory, Path};
 use zk_table::{Node, PartResult, TxnResult};
@@ -19,7 +19,7 @@ pub fn push_node_line(
         (string_bytes line.new ≡ string_bytes line.old ++ node_line path.now node.now stat.now) }
     ensures unchanged { OnErr result (string_bytes line.new ≡ string_bytes line.old) }
 {
-    let mut spelled = String::new(*line.allocator());
+    let mut spelled = String::with_capacity(*line.allocator(), LINE)?;
     spell_node_line(&mut spelled, path, node, stat)?;
     line.push_str(spelled.as_str())?;
     Ok(())

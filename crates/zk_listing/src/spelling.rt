@@ -11,6 +11,9 @@ use zk_acl::{Acl, Acls, Stat};
 use zk_path::NoMemory;
 use zk_table::Content;
 
+/// The room that is made for a line before it is spelled, in bytes. Most lines fit, and need no growth.
+pub(crate) const LINE: usize = 256;
+
 /// Appends the sixteen lower-case hexadecimal digits of 64 bits.
 #[tactic(auto, unfolding(crate::specs::Spelling::sixteen_digits))]
 pub fn push_digits(line: &mut String, bits: u64) -> Result<(), NoMemory>

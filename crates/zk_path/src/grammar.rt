@@ -54,7 +54,23 @@ pub(crate) fn check_name(name: &str) -> Result<(), PathFault>
 fn has_bad_char(name: &str) -> bool
     ensures { result ≡ list_any is_bad_char (chars name.now) }
 {
+    if name.is_ascii() {
+        // Most names are, and their bytes need no decoding.
+        return has_bad_byte(name);
+    }
     name.chars().any(is_bad_char)
+}
+
+fn has_bad_byte(name: &str) -> bool
+    ensures { result ≡ list_any is_bad_char name.now }
+{
+    name.bytes().any(is_bad_byte)
+}
+
+fn is_bad_byte(byte: u8) -> bool
+    ensures { result ≡ is_bad_char byte }
+{
+    is_bad_char(char::from(byte))
 }
 
 /// Whether no name may have this character: NUL, a control character, one for
