@@ -10,6 +10,9 @@ use std::io::Write;
 use zk_log::{Sink, WriteFault};
 use zk_path::NoMemory;
 
+/// How many bytes of lines are put together before they are written.
+pub(crate) const PAGE: usize = 65_536;
+
 /// Why a line could not be written.
 #[derive(Clone, Copy, Debug, PartialEq, Eq)]
 pub(crate) enum LineFault {

@@ -3,15 +3,12 @@ ghost use Rattle.zk_cli.specs.Writing.{Writes};
 ghost use Rattle.zk_listing.specs.Listings.{listing_of};
 ghost use Rattle.zk_log.specs.Devices.{write_failures_of};
 
-use crate::lines::LineFault;
+use crate::lines::{LineFault, PAGE};
 use std::alloc::Global;
 use std::io::Write;
 use zk_listing::push_line;
 use zk_log::Sink;
 use zk_table::Txn;
-
-/// How many bytes of lines are put together before they are written.
-const PAGE: usize = 65_536;
 
 /// Writes the listing of these transactions.
 pub(crate) fn write_listing<O: Write>(

@@ -10,6 +10,7 @@ use crate::show::write_report;
 use crate::telling::{TURNS, tell, tell_log_fault};
 use std::alloc::Global;
 use std::io::{Read, Write};
+use std::mem::forget;
 use zk_log::{Loaded, LogFault, Sink, Source, load};
 use zk_path::NoMemory;
 
@@ -38,7 +39,12 @@ pub(crate) fn tell_log<F: Read, O: Write, E: Write>(
         output.old output.new faults.old faults.new result }
 {
     match load(alloc, file, TURNS) {
-        Ok(loaded) => tell_loaded(alloc, report, &loaded, output, faults),
+        Ok(loaded) => {
+            let status = tell_loaded(alloc, report, &loaded, output, faults);
+            // The program ends with this: to give the memory back piece by piece would cost as much as to list the log.
+            forget(loaded);
+            status
+        }
         Err(LogFault::NoMemory) => Err(NoMemory),
         Err(fault) => tell_log_fault(alloc, fault, faults),
     }
