@@ -7,9 +7,9 @@ ghost use Rattle.zk_listing.specs.Promises.{ReadsLine, AddsLine, BeginsWithListi
 ghost use Rattle.zk_listing.specs.Reading.{Takes, TakesUnit, past, txn_at};
 
 use crate::fault::{ListCause, ListFault};
-use crate::fields::{id, long};
+use crate::fields::id;
 use crate::ops::operation;
-use crate::parts::{space, spaced_int};
+use crate::parts::{space, spaced_id, spaced_int, spaced_long};
 use std::alloc::Global;
 use zk_table::Txn;
 
@@ -71,11 +71,9 @@ fn txn_line(alloc: Global, input: &mut &str) -> Result<Txn, ListCause>
     ensures { Takes result input.new.now (txn_at input.old.now) }
 {
     let zxid = id(input)?;
-    space(input)?;
-    let session = id(input)?;
+    let session = spaced_id(input)?;
     let cxid = spaced_int(input)?;
-    space(input)?;
-    let time = long(input)?;
+    let time = spaced_long(input)?;
     space(input)?;
     let op = operation(alloc, input)?;
     newline(input)?;

@@ -1,10 +1,10 @@
 //! The readers of operations: a word, and a space before each field.
 ghost use Rattle.std.specs.Prelude.{◌≡◌};
-ghost use Rattle.zk_listing.specs.Reading.{Takes, TakesUnit, ContinuesParts, of_field, ephemeral_at, word_from, word_at, create_at, set_data_at, set_acl_op_at, check_at, sub_by, sub_at, semicolon_from, part_at, parts_in, op_by, op_at, mapped, sub_created, sub_written, op_created, op_written};
+ghost use Rattle.zk_listing.specs.Reading.{Takes, TakesUnit, ContinuesParts, of_field, spaced, ephemeral_at, word_from, word_at, create_at, set_data_at, set_acl_op_at, check_at, sub_by, sub_at, semicolon_from, part_at, parts_in, op_by, op_at, mapped, sub_created, sub_written, op_created, op_written};
 
 use crate::fault::ListCause;
-use crate::fields::{content, take_field};
-use crate::parts::{acl, space, spaced_int, spaced_path};
+use crate::fields::take_field;
+use crate::parts::{space, spaced_acl, spaced_content, spaced_int, spaced_path};
 use std::alloc::Global;
 use zk_acl::Acls;
 use zk_path::Path;
@@ -65,6 +65,13 @@ fn ephemeral(input: &mut &str) -> Result<bool, ListCause>
     }
 }
 
+fn spaced_ephemeral(input: &mut &str) -> Result<bool, ListCause>
+    ensures { Takes result input.new.now (spaced ephemeral_at input.old.now) }
+{
+    space(input)?;
+    ephemeral(input)
+}
+
 /// The fields of a create.
 #[derive(Debug, Drop)]
 pub(crate) struct Created {
@@ -80,12 +87,9 @@ fn create(alloc: Global, input: &mut &str) -> Result<Created, ListCause>
     ensures { Takes result input.new.now (create_at input.old.now) }
 {
     let path = spaced_path(alloc, input)?;
-    space(input)?;
-    let content = content(alloc, input)?;
-    space(input)?;
-    let acl = acl(alloc, input)?;
-    space(input)?;
-    let ephemeral = ephemeral(input)?;
+    let content = spaced_content(alloc, input)?;
+    let acl = spaced_acl(alloc, input)?;
+    let ephemeral = spaced_ephemeral(input)?;
     let count = spaced_int(input)?;
     Ok(Created {
         path,
@@ -109,8 +113,7 @@ fn set_data(alloc: Global, input: &mut &str) -> Result<Written, ListCause>
     ensures { Takes result input.new.now (set_data_at input.old.now) }
 {
     let path = spaced_path(alloc, input)?;
-    space(input)?;
-    let content = content(alloc, input)?;
+    let content = spaced_content(alloc, input)?;
     let version = spaced_int(input)?;
     Ok(Written {
         path,
@@ -124,8 +127,7 @@ fn set_acl(alloc: Global, input: &mut &str) -> Result<Op, ListCause>
     ensures { Takes result input.new.now (set_acl_op_at input.old.now) }
 {
     let path = spaced_path(alloc, input)?;
-    space(input)?;
-    let acl = acl(alloc, input)?;
+    let acl = spaced_acl(alloc, input)?;
     let version = spaced_int(input)?;
     Ok(Op::SetAcl { path, acl, version })
 }

@@ -1,15 +1,16 @@
 //! The readers of paths and access control lists, and of fields behind a space.
 ghost use Rattle.std.specs.Prelude.{◌≡◌};
-ghost use Rattle.std.specs.Int.{w32};
+ghost use Rattle.std.specs.Int.{w32, w64};
 ghost use Rattle.std.specs.String.{string_bytes};
-ghost use Rattle.zk_listing.specs.Reading.{Takes, TakesBy, Makes, TakesUnit, past, spaced, path_from, path_at, entry_at, acl_at, int_at, many_at};
+ghost use Rattle.zk_listing.specs.Reading.{Takes, TakesBy, Makes, TakesUnit, past, spaced, path_from, path_at, entry_at, acl_at, id_at, int_at, content_at, many_at};
 
 use crate::fault::ListCause;
-use crate::fields::{count, int};
+use crate::fields::{content, count, id, int, long};
 use crate::quoting::quoted;
 use std::alloc::Global;
 use zk_acl::{Acl, Acls, Id, Text};
 use zk_path::{Path, PathFault};
+use zk_table::Content;
 
 /// The path of a node, quoted.
 #[tactic(auto, unfolding(crate::specs::Reading::path_at))]
@@ -56,6 +57,34 @@ pub(crate) fn spaced_int(input: &mut &str) -> Result<i32, ListCause>
 {
     space(input)?;
     int(input)
+}
+
+pub(crate) fn spaced_id(input: &mut &str) -> Result<i64, ListCause>
+    ensures { Takes result input.new.now (spaced id_at input.old.now) }
+{
+    space(input)?;
+    id(input)
+}
+
+pub(crate) fn spaced_long(input: &mut &str) -> Result<i64, ListCause>
+    ensures { Takes result input.new.now (spaced (int_at w64) input.old.now) }
+{
+    space(input)?;
+    long(input)
+}
+
+pub(crate) fn spaced_content(alloc: Global, input: &mut &str) -> Result<Option<Content>, ListCause>
+    ensures { Takes result input.new.now (spaced content_at input.old.now) }
+{
+    space(input)?;
+    content(alloc, input)
+}
+
+pub(crate) fn spaced_acl(alloc: Global, input: &mut &str) -> Result<Acls, ListCause>
+    ensures { Takes result input.new.now (spaced acl_at input.old.now) }
+{
+    space(input)?;
+    acl(alloc, input)
 }
 
 /// An access control list: the number of its entries, and the three fields of each.

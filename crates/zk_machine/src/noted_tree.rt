@@ -75,15 +75,19 @@ impl NotedTree {
         Ok(())
     }
 
-    /// Notes the node that stood at a path, if nothing is noted of it.
+    /// Notes the node that stood at a path, where another stands now, if nothing is noted of it.
     fn note(&mut self, path: &str, before: Node) -> Result<(), NoMemory>
+        requires { finite.contains_key self.old.tree path.now ≡ true }
         ensures noted { OnOk result (self.new.touched ≡ noted self.old.touched path.now (Some before)) }
         ensures tree { self.new.tree ≡ self.old.tree }
     {
         if self.touched.has(path) {
             return Ok(());
         }
-        let path = known_path(self.alloc, path)?;
+        let Some((path, _)) = self.tree.entry_by_text(path) else {
+            unreachable!()
+        };
+        let path = path.copy()?;
         self.touched.note(path, Some(before))?;
         Ok(())
     }
@@ -137,11 +141,4 @@ impl NotedTree {
         }
         Ok(changes)
     }
-}
-
-/// The path of a text that is one, so that it is refused for want of memory alone.
-fn known_path(alloc: Global, text: &str) -> Result<Path, NoMemory>
-    ensures { IfOk result (λ path. path ≡ text.now) }
-{
-    Path::read(alloc, text).map_err(|_| NoMemory)
 }

@@ -1,7 +1,15 @@
-use Rattle.std.proofs.Common.{ap, sym, ◌∙◌}
+use Rattle.std.proofs.Common.{ap, sym, ◌∙◌, is_some}
+use Rattle.std.specs.FinMap as finite
 use Rattle.zk_machine.specs.Notes.{noted}
 use Rattle.zk_machine.proofs.Notes.{put_before}
+use Rattle.std.proofs.lemmas.Cmp.{nat_list_cmp_total}
+use Rattle.zk_tree.proofs.Kept.{get-insert_itself}
 use Rattle.zk_machine.proofs.noted_tree.NotedTree.change.Goals as goal
+
+pub note-requires : goal.note-requires
+note-requires c =
+    ap (λ m. finite.contains_key m c.args.path.now) c.change_by_text-old.ensures.changed
+    ∙ ap is_some (get-insert_itself nat_list_cmp_total c.args.self.now.tree c.args.path.now c.args.node)
 
 pub returns-clause-before : goal.returns-clause-before
 returns-clause-before c =
