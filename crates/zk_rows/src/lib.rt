@@ -9,6 +9,8 @@
 #[cfg(test)]
 mod acl_rows;
 #[cfg(test)]
+mod machine_rows;
+#[cfg(test)]
 mod path_rows;
 #[cfg(test)]
 mod table_rows;

@@ -1,91 +1,116 @@
 //! Rows of `zk_path`.
 
-use std::test::Fail;
+ghost use Rattle.std.specs.Prelude.{◌≡◌, ◌≢◌, [], false};
+ghost use Rattle.std.specs.List.{AllByRecursion};
+ghost use Rattle.zk_path.specs.Paths.{is_slash};
+
+use std::alloc::Global;
 use zk_path::{NoMemory, Path, PathFault};
 
-/// The code of the fault that a text is refused with, and `-` for a path.
-fn fault_code(rt: &HostRuntime, text: &str) -> Result<String, Fail> {
-    match Path::read(rt.alloc(), text) {
-        Ok(_) => Ok(format!(in rt.alloc(); "-")?),
-        Err(fault) => Ok(format!(in rt.alloc(); "{fault}")?),
+/// Whether a text is refused with the fault of this code, and whether it is a path where the code is `-`.
+fn is_told(alloc: Global, text: &str, code: &str) -> Result<bool, NoMemory> {
+    match Path::read(alloc, text) {
+        Ok(_) => Ok(code == "-"),
+        Err(fault) => Ok(format!(in alloc; "{fault}")?.as_str() == code),
     }
 }
 
+static PATH_FAULTS: [(&str, &str); 30] = [
+    ("", "P1"),
+    ("a", "P2"),
+    ("a/", "P2"),
+    ("//", "P3"),
+    ("/a//./", "P3"),
+    ("/a//b", "P4"),
+    ("/a//.", "P4"),
+    ("/a/./b", "P5"),
+    ("/../\u{7f}//b", "P5"),
+    ("/a\u{7f}", "P6"),
+    ("/\u{7f}/.", "P6"),
+    ("/\0", "P6"),
+    ("/\u{1f}", "P6"),
+    ("/\u{9f}", "P6"),
+    ("/\u{e000}", "P6"),
+    ("/\u{f8ff}", "P6"),
+    ("/\u{fff0}", "P6"),
+    ("/\u{ffff}", "P6"),
+    ("/\u{10000}", "P6"),
+    ("/\u{10ffff}", "P6"),
+    ("/", "-"),
+    ("/..a", "-"),
+    ("/...", "-"),
+    ("/ ", "-"),
+    ("/a/b/c", "-"),
+    ("/\u{7e}", "-"),
+    ("/\u{a0}", "-"),
+    ("/\u{d7ff}", "-"),
+    ("/\u{f900}", "-"),
+    ("/\u{ffef}", "-"),
+];
+
 #[test]
-fn path_faults_in_order(rt: HostRuntime) -> Result<(), Fail> {
-    for (text, code) in [
-        ("", "P1"),
-        ("a", "P2"),
-        ("a/", "P2"),
-        ("//", "P3"),
-        ("/a//./", "P3"),
-        ("/a//b", "P4"),
-        ("/a//.", "P4"),
-        ("/a/./b", "P5"),
-        ("/../\u{7f}//b", "P5"),
-        ("/a\u{7f}", "P6"),
-        ("/\u{7f}/.", "P6"),
-        ("/\0", "P6"),
-        ("/\u{1f}", "P6"),
-        ("/\u{9f}", "P6"),
-        ("/\u{e000}", "P6"),
-        ("/\u{f8ff}", "P6"),
-        ("/\u{fff0}", "P6"),
-        ("/\u{ffff}", "P6"),
-        ("/\u{10000}", "P6"),
-        ("/\u{10ffff}", "P6"),
-        ("/", "-"),
-        ("/..a", "-"),
-        ("/...", "-"),
-        ("/ ", "-"),
-        ("/a/b/c", "-"),
-        ("/\u{7e}", "-"),
-        ("/\u{a0}", "-"),
-        ("/\u{d7ff}", "-"),
-        ("/\u{f900}", "-"),
-        ("/\u{ffef}", "-"),
-    ] {
-        assert_eq!(rt; fault_code(&rt, text)?.as_str(), code, "{text:?}");
+fn path_faults_in_order(rt: HostRuntime) {
+    for (text, code) in &PATH_FAULTS {
+        assert_eq!(rt; is_told(rt.alloc(), text, code), Ok(true), "{text:?}");
     }
-    Ok(())
+}
+
+/// Whether a path, by its copy, has this text, parent and name.
+fn has_parts(
+    alloc: Global,
+    text: &str,
+    parent: Option<&str>,
+    name: &str,
+) -> Result<bool, PathFault> {
+    let path = Path::read(alloc, text)?.copy()?;
+    Ok(path.text() == text && path.parent() == parent && path.name() == name)
 }
 
 #[test]
-fn parents_and_names(rt: HostRuntime) -> Result<(), Fail> {
+fn parents_and_names(rt: HostRuntime) {
     for (text, parent, name) in [
         ("/", None, ""),
         ("/app", Some("/"), "app"),
         ("/app/..lock", Some("/app"), "..lock"),
     ] {
-        let path = Path::read(rt.alloc(), text)?;
-        assert_eq!(rt; path.parent(), parent);
-        assert_eq!(rt; path.name(), name);
-        assert_eq!(rt; path.copy()?.text(), text);
+        assert_eq!(rt;
+            has_parts(rt.alloc(), text, parent, name),
+            Ok(true),
+            "{text:?}"
+        );
     }
-    Ok(())
+}
+
+/// Whether a path's child with this name has this text, or is refused with the fault of this code.
+fn has_child(alloc: Global, text: &str, name: &str, child: &str) -> Result<bool, PathFault>
+    requires filled { name.now ≢ [] }
+    requires whole { AllByRecursion (λ b. is_slash b ≡ false) name.now }
+{
+    match Path::read(alloc, text)?.child(name) {
+        Ok(path) => Ok(path.text() == child),
+        Err(fault) => Ok(format!(in alloc; "{fault}")?.as_str() == child),
+    }
 }
 
 #[test]
-fn children_add_a_name(rt: HostRuntime) -> Result<(), Fail> {
-    for (text, name, child) in [
-        ("/", "app", "/app"),
-        ("/app", "..lock", "/app/..lock"),
-        ("/app", ".", "P5"),
-        ("/app", "..", "P5"),
-        ("/app", "a\u{7f}", "P6"),
-    ] {
-        let told = match Path::read(rt.alloc(), text)?.child(name) {
-            Ok(path) => format!(in rt.alloc(); "{}", path.text())?,
-            Err(fault) => format!(in rt.alloc(); "{fault}")?,
-        };
-        assert_eq!(rt; told.as_str(), child);
-    }
-    Ok(())
+fn children_add_a_name(rt: HostRuntime) {
+    let alloc = rt.alloc();
+    assert_eq!(rt; has_child(alloc, "/", "app", "/app"), Ok(true));
+    assert_eq!(rt; has_child(alloc, "/app", "..lock", "/app/..lock"), Ok(true));
+    assert_eq!(rt; has_child(alloc, "/app", ".", "P5"), Ok(true));
+    assert_eq!(rt; has_child(alloc, "/app", "..", "P5"), Ok(true));
+    assert_eq!(rt; has_child(alloc, "/app", "a\u{7f}", "P6"), Ok(true));
+}
+
+/// Whether want of memory is shown by this code.
+fn is_shown_as(alloc: Global, fault: PathFault, code: &str) -> Result<bool, NoMemory> {
+    Ok(format!(in alloc; "{fault}")?.as_str() == code)
 }
 
 #[test]
-fn want_of_memory_has_its_code(rt: HostRuntime) -> Result<(), Fail> {
-    let code = format!(in rt.alloc(); "{}", PathFault::from(NoMemory))?;
-    assert_eq!(rt; code.as_str(), "P7");
-    Ok(())
+fn want_of_memory_has_its_code(rt: HostRuntime) {
+    assert_eq!(rt;
+        is_shown_as(rt.alloc(), PathFault::from(NoMemory), "P7"),
+        Ok(true)
+    );
 }

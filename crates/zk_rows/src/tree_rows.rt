@@ -8,7 +8,6 @@ ghost use Rattle.zk_table.specs.States.{children_of};
 ghost use Rattle.zk_tree.specs.Trees.{owner_at};
 
 use std::alloc::Global;
-use std::test::Fail;
 use zk_path::{NoMemory, Path};
 use zk_table::Node;
 use zk_tree::{Refused, Tree};
@@ -46,8 +45,13 @@ fn can_change(tree: &Tree, path: &Path, node: &Node) -> bool
     old.owner == node.owner
 }
 
-fn path_of(alloc: Global, text: &str) -> Result<Path, Fail> {
-    Ok(Path::read(alloc, text)?)
+/// Whether these are the paths of these texts.
+fn are(paths: &[Path], texts: &[&str]) -> bool {
+    paths.len() == texts.len()
+        && paths
+            .iter()
+            .zip(texts.iter())
+            .all(|(path, text)| path.text() == *text)
 }
 
 /// A node as those of the start, with this owner and version.
@@ -59,89 +63,119 @@ fn node_of(alloc: Global, owner: i64, version: i32) -> Result<Node, NoMemory> {
     })
 }
 
-/// Whether these are the paths of these texts.
-fn are(paths: &[Path], texts: &[&str]) -> bool {
-    paths.len() == texts.len()
-        && paths
-            .iter()
-            .zip(texts.iter())
-            .all(|(path, text)| path.text() == *text)
+/// Puts a node where one may be put, and tells whether it did.
+fn is_put(tree: &mut Tree, path: &Path, node: Node) -> Result<bool, NoMemory> {
+    let free = can_put(tree, path);
+    if free {
+        tree.put(path.copy()?, node)?;
+    }
+    Ok(free)
+}
+
+/// Takes the node at a path, where it may be taken, and tells its owner.
+fn owner_of_taken(tree: &mut Tree, path: &Path) -> Option<i64> {
+    if !can_take(tree, path) {
+        return None;
+    }
+    Some(tree.take(path).owner)
+}
+
+/// Changes the node at a path, where this one may stand in its place, and tells the old one's version.
+fn version_of_changed(tree: &mut Tree, path: &Path, node: Node) -> Option<i32> {
+    if !can_change(tree, path, &node) {
+        return None;
+    }
+    Some(tree.change(path, node).version)
+}
+
+/// Whether a session owns the nodes of these paths.
+fn owns(tree: &Tree, session: i64, texts: &[&str]) -> Result<bool, NoMemory> {
+    Ok(are(&tree.owned_by(session)?, texts))
+}
+
+/// Whether a session owns a node from when it is put until it is taken.
+fn comes_and_goes(tree: &mut Tree, path: &Path, node: Node) -> Result<bool, NoMemory> {
+    let put = is_put(tree, path, node)?;
+    let owned = owns(tree, 5, &["/x"])?;
+    let owner = owner_of_taken(tree, path);
+    let gone = tree.get(path).is_none();
+    let empty = owns(tree, 5, &[])?;
+    Ok(put && owned && owner == Some(5) && gone && empty)
+}
+
+/// The same at this path of a new tree.
+fn is_owned_until_taken(alloc: Global, path: &Path) -> Result<bool, NoMemory> {
+    let node = node_of(alloc, 5, 0)?;
+    comes_and_goes(&mut Tree::new(alloc)?, path, node)
 }
 
 #[test]
-fn a_session_owns_its_node_until_it_is_taken(rt: HostRuntime) -> Result<(), Fail> {
-    let mut tree = Tree::new(rt.alloc())?;
-    let path = path_of(rt.alloc(), "/x")?;
-    let node = node_of(rt.alloc(), 5, 0)?;
-    assert!(rt; can_put(&tree, &path));
-    tree.put(path.copy()?, node)?;
-    let owned = tree.owned_by(5)?;
-    assert!(rt; are(&owned, &["/x"]));
-    assert!(rt; can_take(&tree, &path));
-    let node = tree.take(&path);
-    assert_eq!(rt; node.owner, 5);
-    assert!(rt; tree.get(&path).is_none());
-    let owned = tree.owned_by(5)?;
-    assert!(rt; owned.is_empty());
-    Ok(())
+fn a_session_owns_its_node_until_it_is_taken(rt: HostRuntime) {
+    let path = Path::read(rt.alloc(), "/x").expect(&rt, "a path");
+    assert_eq!(rt; is_owned_until_taken(rt.alloc(), &path), Ok(true));
+}
+
+/// Whether the start tree has these paths, and this path these children.
+fn has_paths(
+    tree: &Tree,
+    texts: &[&str],
+    path: &Path,
+    children: &[&str],
+) -> Result<bool, NoMemory> {
+    let paths = are(&tree.paths()?, texts);
+    Ok(paths && are(&tree.children(path)?, children))
 }
 
 #[test]
-fn the_start_tree_answers(rt: HostRuntime) -> Result<(), Fail> {
-    let tree = Tree::new(rt.alloc())?;
-    let path = path_of(rt.alloc(), "/zookeeper")?;
-    let paths = tree.paths()?;
-    assert!(rt; are(&paths, &["/", "/zookeeper", "/zookeeper/quota"]));
-    let children = tree.children(&path)?;
-    assert!(rt; are(&children, &["/zookeeper/quota"]));
+fn the_start_tree_answers(rt: HostRuntime) {
+    let tree = Tree::new(rt.alloc()).expect(&rt, "memory");
+    let path = Path::read(rt.alloc(), "/zookeeper").expect(&rt, "a path");
+    let paths = ["/", "/zookeeper", "/zookeeper/quota"];
+    assert_eq!(rt;
+        has_paths(&tree, &paths, &path, &["/zookeeper/quota"]),
+        Ok(true)
+    );
     assert_eq!(rt; tree.child_count(&path), 1);
-    let owned = tree.owned_by(0)?;
-    assert!(rt; owned.is_empty());
-    Ok(())
+    assert_eq!(rt; owns(&tree, 0, &[]), Ok(true));
 }
 
 #[test]
-fn texts_find_nodes_and_paths(rt: HostRuntime) -> Result<(), Fail> {
-    let tree = Tree::new(rt.alloc())?;
-    let node = tree.get_by_text("/zookeeper").ok_or("/zookeeper")?;
-    assert_eq!(rt; node.owner, 0);
-    let (path, node) = tree.entry_by_text("/zookeeper/quota").ok_or("the quota")?;
-    assert_eq!(rt; path.text(), "/zookeeper/quota");
-    assert_eq!(rt; node.version, 0);
+fn texts_find_nodes_and_paths(rt: HostRuntime) {
+    let tree = Tree::new(rt.alloc()).expect(&rt, "memory");
+    assert!(rt; matches!(tree.get_by_text("/zookeeper"), Some(node) if node.owner == 0));
+    assert!(rt;
+        matches!(
+            tree.entry_by_text("/zookeeper/quota"),
+            Some((path, node)) if path.text() == "/zookeeper/quota" && node.version == 0
+        )
+    );
     assert!(rt; tree.entry_by_text("/quota").is_none());
-    Ok(())
 }
 
 #[test]
-fn a_stat_counts_children(rt: HostRuntime) -> Result<(), Fail> {
-    let tree = Tree::new(rt.alloc())?;
-    let path = path_of(rt.alloc(), "/zookeeper")?;
-    let stat = tree.stat(&path).ok_or("/zookeeper")?;
-    assert_eq!(rt; stat.num_children, 1);
-    assert_eq!(rt; stat.cversion, -1);
-    let absent = path_of(rt.alloc(), "/x")?;
+fn a_stat_counts_children(rt: HostRuntime) {
+    let tree = Tree::new(rt.alloc()).expect(&rt, "memory");
+    let path = Path::read(rt.alloc(), "/zookeeper").expect(&rt, "a path");
+    assert!(rt;
+        matches!(tree.stat(&path), Some(stat) if stat.num_children == 1 && stat.cversion == -1)
+    );
+    let absent = Path::read(rt.alloc(), "/x").expect(&rt, "a path");
     assert!(rt; tree.stat(&absent).is_none());
-    Ok(())
 }
 
 #[test]
-fn a_change_gives_the_old_node(rt: HostRuntime) -> Result<(), Fail> {
-    let mut tree = Tree::new(rt.alloc())?;
-    let path = path_of(rt.alloc(), "/zookeeper")?;
-    let node = node_of(rt.alloc(), 0, 3)?;
-    assert!(rt; can_change(&tree, &path, &node));
-    let old = tree.change(&path, node);
-    assert_eq!(rt; old.version, 0);
-    let node = tree.get(&path).ok_or("/zookeeper")?;
-    assert_eq!(rt; node.version, 3);
+fn a_change_gives_the_old_node(rt: HostRuntime) {
+    let mut tree = Tree::new(rt.alloc()).expect(&rt, "memory");
+    let path = Path::read(rt.alloc(), "/zookeeper").expect(&rt, "a path");
+    let node = node_of(rt.alloc(), 0, 3).expect(&rt, "memory");
+    assert_eq!(rt; version_of_changed(&mut tree, &path, node), Some(0));
+    assert!(rt; matches!(tree.get(&path), Some(node) if node.version == 3));
     assert_eq!(rt; tree.child_count(&path), 1);
-    Ok(())
 }
 
 #[test]
-fn a_refused_put_is_want_of_memory(rt: HostRuntime) -> Result<(), Fail> {
-    let path = path_of(rt.alloc(), "/x")?;
-    let node = node_of(rt.alloc(), 0, 0)?;
+fn a_refused_put_is_want_of_memory(rt: HostRuntime) {
+    let path = Path::read(rt.alloc(), "/x").expect(&rt, "a path");
+    let node = node_of(rt.alloc(), 0, 0).expect(&rt, "memory");
     assert_eq!(rt; NoMemory::from(Refused { path, node }), NoMemory);
-    Ok(())
 }

@@ -1,0 +1,9 @@
+//! The worked rows of the protocol's rules: the tests of `zab_epoch` and `zab_broadcast`, and no code of its own.
+//!
+//! They stand apart from the crates that they test, as those of `zk_rows` do, and for the same reason.
+#![tactic(auto)]
+
+#[cfg(test)]
+mod broadcast_rows;
+#[cfg(test)]
+mod epoch_rows;
