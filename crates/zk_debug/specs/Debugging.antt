@@ -8,6 +8,7 @@ use Rattle.std.specs.Option.{option_map_or}
 use Rattle.std.specs.Ordering.{nat_cmp}
 use Rattle.zk_machine.specs.declared.change.Change.{Change}
 use Rattle.zk_machine.specs.Changes.{changes_of}
+use Rattle.zk_machine.specs.Machines.{MachineView}
 use Rattle.zk_table.specs.declared.result.TxnResult.{TxnResult}
 use Rattle.zk_table.specs.declared.txn.Txn.{Txn}
 use Rattle.zk_table.specs.Histories.{tree_of}
@@ -24,6 +25,10 @@ use Rattle.zk_debug.specs.declared.stop.Stop.{Stop}
 -- the state that the first transactions make
 abbrev pub state_at : List Txn → ℕ → State
 state_at txns place = tree_of (take place txns)
+
+-- a machine that was brought there
+abbrev pub machine_at : List Txn → ℕ → MachineView
+machine_at txns place = record { state = state_at txns place; steps = place; failed = false }
 
 -- the transaction that leads to a place; none leads to the start
 abbrev pub txn_at : List Txn → ℕ → Option Txn

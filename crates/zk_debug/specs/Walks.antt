@@ -6,17 +6,13 @@ use Rattle.zk_machine.specs.Machines.{MachineView}
 use Rattle.zk_machine.specs.Undoing.{IsState, restored}
 use Rattle.zk_table.specs.declared.txn.Txn.{Txn}
 use Rattle.zk_table.specs.Steps.{step}
-use Rattle.zk_debug.specs.Debugging.{state_at}
+use Rattle.zk_debug.specs.Debugging.{state_at, machine_at}
 
 pub record Walk : Type 0 where
   pub txns : List Txn
   pub place : ℕ
   -- of a walk that has failed nothing else is said
   pub failed : Bool
-
--- the machine at a place
-abbrev pub machine_at : List Txn → ℕ → MachineView
-machine_at txns place = record { state = state_at txns place; steps = place; failed = false }
 
 -- what is kept of the step from one place to the next
 pub record IsStepFrom (txns : List Txn) (place : ℕ) (applied : Applied) : Type 0 where

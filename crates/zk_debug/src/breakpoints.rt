@@ -1,4 +1,4 @@
-ghost use Rattle.std.specs.Prelude.{◌≡◌, ◌+◌, ◌<◌, true, false, IfOk, OnOk, OnErr, IsTrue};
+ghost use Rattle.std.specs.Prelude.{◌≡◌, ◌+◌, ◌<◌, ◌≤◌, true, false, IfOk, OnOk, OnErr, IsTrue};
 ghost use Rattle.std.specs.FinMap as finite;
 ghost use Rattle.zk_debug.specs.Breakpoints.{is_met};
 ghost use Rattle.zk_debug.specs.Debugging.{lowest_by};
@@ -46,7 +46,8 @@ impl Breakpoints {
 
     /// How many were ever set.
     pub(crate) fn numbered(&self) -> u32
-        ensures { result ≡ self.now.numbered }
+        ensures numbered { result ≡ self.now.numbered }
+        ensures limited { self.now.numbered ≤ 65535 }
     {
         self.numbered
     }

@@ -4,8 +4,7 @@ ghost use Rattle.std.specs.Option.{option_copied};
 ghost use Rattle.zk_table.specs.States.{stat_at};
 ghost use Rattle.zk_log.specs.Logs.{Rises};
 ghost use Rattle.zk_debug.specs.declared.fault.DebugFault.TheVariants as faults;
-ghost use Rattle.zk_debug.specs.Debugging.{state_at, result_at, zxid_at, hit_at, moved, broken, up_to, Moves, IsRunTo, IsRunBackTo, RefusesOn, RefusesBack, RefusesAny, RefusesSet};
-ghost use Rattle.zk_debug.specs.Walks.{machine_at};
+ghost use Rattle.zk_debug.specs.Debugging.{state_at, machine_at, result_at, zxid_at, hit_at, moved, broken, up_to, Moves, IsRunTo, IsRunBackTo, RefusesOn, RefusesBack, RefusesAny, RefusesSet};
 
 use crate::breakpoint::Breakpoint;
 use crate::breakpoints::Breakpoints;

@@ -1,6 +1,5 @@
 ghost use Rattle.std.specs.Prelude.{◌≡◌, ◌<◌, ◌≤◌, ◌+◌, true, false, length, option_map, IfOk, OnOk, OnErr};
-ghost use Rattle.zk_debug.specs.Debugging.{txn_at, result_at, changes_at, zxid_at, up_to};
-ghost use Rattle.zk_debug.specs.Walks.{machine_at};
+ghost use Rattle.zk_debug.specs.Debugging.{machine_at, txn_at, result_at, changes_at, zxid_at, up_to};
 
 use std::alloc::Global;
 use std::marker::Model;
