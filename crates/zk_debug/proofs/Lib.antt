@@ -1,0 +1,5 @@
+pub mod Found
+pub mod Numbering
+pub mod Steps
+pub mod Runs
+pub mod Hits

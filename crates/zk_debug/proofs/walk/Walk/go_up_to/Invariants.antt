@@ -1,0 +1,5 @@
+use Rattle.std.proofs.Common.{◌≡◌}
+use Rattle.zk_debug.proofs.walk.Walk.go_up_to.Given as goal
+
+abbrev pub invariant-loop : goal.invariant-loop
+invariant-loop l = l.self ≡ record l.fn.self { place = l.counter }

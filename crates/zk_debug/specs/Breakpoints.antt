@@ -1,0 +1,78 @@
+-- Which transactions meet a breakpoint: this project's own.
+use Rattle.std.specs.Prelude.{ℤ, pos, List, Bool, true, false, not, Option, Some, None}
+use Rattle.std.specs.List.{list_any}
+use Rattle.std.specs.Ordering.{int_eq}
+use Rattle.std.specs.Str.{bytes_eq}
+use Rattle.std.specs.Prelude.{ℕ}
+use Rattle.zk_machine.specs.declared.change.Change.{Change}
+use Rattle.zk_machine.specs.declared.change.ChangeKind.{ChangeKind}
+use Rattle.zk_machine.specs.declared.change.ChangeKind.TheVariants as changes
+use Rattle.zk_table.specs.declared.sub.Sub.{Sub}
+use Rattle.zk_table.specs.declared.txn.Op.{Op}
+use Rattle.zk_table.specs.declared.txn.Op.TheVariants as ops
+use Rattle.zk_table.specs.declared.txn.Txn.{Txn}
+use Rattle.zk_table.specs.Multis.{path_of}
+use Rattle.zk_debug.specs.declared.breakpoint.Breakpoint.{Breakpoint}
+use Rattle.zk_debug.specs.declared.breakpoint.Breakpoint.TheVariants as breakpoints
+use Rattle.zk_debug.specs.declared.breakpoint.Kind.{Kind}
+use Rattle.zk_debug.specs.declared.breakpoint.Kind.TheVariants as kinds
+
+-- ---- kinds
+
+abbrev pub kind_of : Op → Kind
+kind_of (ops.Create path content acl ephemeral count) = kinds.Create
+kind_of (ops.Delete path) = kinds.Delete
+kind_of (ops.SetData path content version) = kinds.SetData
+kind_of (ops.SetAcl path acl version) = kinds.SetAcl
+kind_of (ops.OpenSession timeout) = kinds.OpenSession
+kind_of ops.CloseSession = kinds.CloseSession
+kind_of (ops.Error code) = kinds.Error
+kind_of (ops.Multi parts) = kinds.Multi
+
+abbrev pub is_kind : Kind → Kind → Bool
+is_kind kinds.Create kinds.Create = true
+is_kind kinds.Delete kinds.Delete = true
+is_kind kinds.SetData kinds.SetData = true
+is_kind kinds.SetAcl kinds.SetAcl = true
+is_kind kinds.OpenSession kinds.OpenSession = true
+is_kind kinds.CloseSession kinds.CloseSession = true
+is_kind kinds.Error kinds.Error = true
+is_kind kinds.Multi kinds.Multi = true
+is_kind kind other = false
+
+-- ---- paths
+
+abbrev pub is_at : List ℕ → Option (List ℕ) → Bool
+is_at path None = false
+is_at path (Some named) = bytes_eq named path
+
+-- a part names the path, whether it was applied, refused or left out
+abbrev pub names : List ℕ → Sub → Bool
+names path part = is_at path (path_of part)
+
+abbrev pub removed : ChangeKind → List ℕ → Option (List ℕ)
+removed changes.Deleted path = Some path
+removed kind path = None
+
+-- the node of the path went
+abbrev pub is_removal : List ℕ → Change → Bool
+is_removal path change = is_at path (removed change.kind change.path)
+
+-- an operation names the path, applied or refused, or a part of it does, or it closed a session whose node was there
+abbrev pub concerns : List ℕ → Op → List Change → Bool
+concerns path (ops.Create named content acl ephemeral count) changed = bytes_eq named path
+concerns path (ops.Delete named) changed = bytes_eq named path
+concerns path (ops.SetData named content version) changed = bytes_eq named path
+concerns path (ops.SetAcl named acl version) changed = bytes_eq named path
+concerns path (ops.Multi parts) changed = list_any (names path) parts
+concerns path ops.CloseSession changed = list_any (is_removal path) changed
+concerns path op changed = false
+
+-- ---- a transaction that answered a code and changed this
+
+abbrev pub is_met : Txn → ℤ → List Change → Breakpoint → Bool
+is_met txn err changed (breakpoints.At zxid) = int_eq txn.zxid zxid
+is_met txn err changed (breakpoints.Path path) = concerns path txn.op changed
+is_met txn err changed (breakpoints.Session session) = int_eq txn.session session
+is_met txn err changed (breakpoints.Kind kind) = is_kind (kind_of txn.op) kind
+is_met txn err changed breakpoints.Error = not (int_eq err (pos 0))

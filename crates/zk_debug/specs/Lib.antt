@@ -1,0 +1,4 @@
+pub mod Breakpoints
+pub mod Debugging
+pub mod Walks
+pub mod Numbers

@@ -1,0 +1,35 @@
+-- A machine that walks along a list of transactions, and what it keeps of its steps so that it can go back.
+use Rattle.std.specs.Prelude.{◌≡◌, ◌+◌, ◌≤◌, ℕ, List, Bool, false, Some, length, slice_get}
+use Rattle.zk_machine.specs.declared.applied.Applied.{Applied}
+use Rattle.zk_machine.specs.Changes.{changes_of}
+use Rattle.zk_machine.specs.Machines.{MachineView}
+use Rattle.zk_machine.specs.Undoing.{IsState, restored}
+use Rattle.zk_table.specs.declared.txn.Txn.{Txn}
+use Rattle.zk_table.specs.Steps.{step}
+use Rattle.zk_debug.specs.Debugging.{state_at, machine_at}
+
+pub record Walk : Type 0 where
+  pub txns : List Txn
+  pub place : ℕ
+  -- of a walk that has failed nothing else is said
+  pub failed : Bool
+
+-- what is kept of the step from one place to the next
+pub record IsStepFrom (txns : List Txn) (place : ℕ) (applied : Applied) : Type 0 where
+  pub txn : Txn
+  pub found : slice_get txns place ≡ Some txn
+  pub result : applied.result ≡ (step (state_at txns place) txn).1
+  pub changes : applied.changes.items ≡ changes_of (state_at txns place) txn
+  pub last_step : applied.undo.step ≡ place + 1
+  pub undone : restored applied.undo (state_at txns (place + 1)) ≡ state_at txns place
+  pub stands : IsState (state_at txns place).nodes
+
+-- the machine stands at the place, and each step to it is kept
+pub record IsWalkTo (txns : List Txn) (place : ℕ) (machine : MachineView) (steps : List Applied) : Type 0 where
+  pub at_place : machine ≡ machine_at txns place
+  pub counted : length steps ≡ place
+  pub kept : (at : ℕ) (applied : Applied) → slice_get steps at ≡ Some applied → IsStepFrom txns at applied
+
+pub record IsWalk (txns : List Txn) (place : ℕ) (failed : Bool) (machine : MachineView) (steps : List Applied) : Type 0 where
+  pub within : place ≤ length txns
+  pub stands : failed ≡ false → IsWalkTo txns place machine steps

@@ -1,0 +1,214 @@
+ghost use Rattle.std.specs.Prelude.{◌≡◌, ◌<◌, ◌≤◌, ◌+◌, true, false, length, option_map, IfOk, OnOk, OnErr};
+ghost use Rattle.zk_debug.specs.Debugging.{machine_at, txn_at, result_at, changes_at, zxid_at, up_to};
+
+use std::alloc::Global;
+use std::marker::Model;
+use zk_log::Txns;
+use zk_machine::{Applied, Machine};
+use zk_path::NoMemory;
+use zk_table::Txn;
+
+/// A log, a place in it, and a machine that stands there. What each step answered, what it changed and how it is taken
+/// back is kept, so that a step back costs what the step cost.
+#[derive(Drop)]
+pub(crate) struct Walk {
+    alloc: Global,
+    txns: Txns,
+    place: usize,
+    failed: bool,
+    machine: Machine,
+    steps: Vec<Applied>,
+}
+
+impl Model for Walk {
+    ghost use Rattle.zk_debug.specs.Walks.{Walk, IsWalk};
+
+    ghost Value = { Walk };
+
+    ghost view = { λ walk. record { txns = walk.txns; place = walk.place; failed = walk.failed } };
+
+    ghost invariant = { λ walk. IsWalk walk.txns walk.place walk.failed walk.machine walk.steps.items };
+}
+
+impl Walk {
+    /// The start of a log.
+    pub(crate) fn new(alloc: Global, txns: Txns) -> Result<Walk, NoMemory>
+        ensures { IfOk result (λ walk. walk ≡ record { txns = txns; place = 0; failed = false }) }
+    {
+        Ok(Walk {
+            alloc,
+            txns,
+            place: 0,
+            failed: false,
+            machine: Machine::new(alloc)?,
+            steps: Vec::new(alloc),
+        })
+    }
+
+    /// Begins at the start again. After want of memory the walk has failed where it was.
+    pub(crate) fn restart(&mut self) -> Result<(), NoMemory>
+        ensures started { OnOk result (self.new ≡ record self.old { place = 0; failed = false }) }
+        ensures failed { OnErr result (self.new ≡ record self.old { failed = true }) }
+    {
+        let Ok(machine) = Machine::new(self.alloc) else {
+            self.failed = true;
+            return Err(NoMemory);
+        };
+        self.machine = machine;
+        self.steps.clear();
+        self.place = 0;
+        self.failed = false;
+        Ok(())
+    }
+
+    /// Goes on to the next place. After want of memory the walk has failed, at the place where a move of several steps
+    /// began.
+    pub(crate) fn go_on(&mut self, began: usize) -> Result<(), NoMemory>
+        requires running { self.old.failed ≡ false }
+        requires above { self.old.place < length self.old.txns }
+        requires began { began ≤ length self.old.txns }
+        ensures moved { OnOk result (self.new ≡ record self.old { place = self.old.place + 1 }) }
+        ensures failed { OnErr result (self.new ≡ record self.old { place = began; failed = true }) }
+    {
+        let txn = &self.txns.as_slice()[self.place];
+        let Ok(applied) = self.machine.apply(txn) else {
+            self.failed = true;
+            self.place = began;
+            return Err(NoMemory);
+        };
+        let Ok(()) = self.steps.push(applied) else {
+            self.failed = true;
+            self.place = began;
+            return Err(NoMemory);
+        };
+        self.place += 1;
+        Ok(())
+    }
+
+    /// Goes back to the place before. After want of memory the walk has failed, at the place where a move of several
+    /// steps began.
+    pub(crate) fn go_back(&mut self, began: usize) -> Result<(), NoMemory>
+        requires running { self.old.failed ≡ false }
+        requires above { 0 < self.old.place }
+        requires began { began ≤ length self.old.txns }
+        ensures moved { OnOk result ((self.new.place + 1 ≡ self.old.place) × (self.new ≡ record self.old { place = self.new.place })) }
+        ensures failed { OnErr result (self.new ≡ record self.old { place = began; failed = true }) }
+    {
+        let Some(applied) = self.steps.pop() else {
+            unreachable!()
+        };
+        let Ok(()) = self.machine.undo(applied.undo) else {
+            self.failed = true;
+            self.place = began;
+            return Err(NoMemory);
+        };
+        self.place -= 1;
+        Ok(())
+    }
+
+    /// Goes to a place. After want of memory the walk has failed where it was.
+    pub(crate) fn go_to(&mut self, place: usize) -> Result<(), NoMemory>
+        requires running { self.old.failed ≡ false }
+        requires within { place ≤ length self.old.txns }
+        ensures moved { OnOk result (self.new ≡ record self.old { place = place }) }
+        ensures failed { OnErr result (self.new ≡ record self.old { failed = true }) }
+    {
+        if self.place < place {
+            self.go_up_to(place)
+        } else {
+            self.go_down_to(place)
+        }
+    }
+
+    fn go_up_to(&mut self, place: usize) -> Result<(), NoMemory>
+        requires running { self.old.failed ≡ false }
+        requires above { self.old.place ≤ place }
+        requires within { place ≤ length self.old.txns }
+        ensures moved { OnOk result (self.new ≡ record self.old { place = place }) }
+        ensures failed { OnErr result (self.new ≡ record self.old { failed = true }) }
+    {
+        let began = self.place();
+        for _ in began..place {
+            self.go_on(began)?;
+        }
+        Ok(())
+    }
+
+    fn go_down_to(&mut self, place: usize) -> Result<(), NoMemory>
+        requires running { self.old.failed ≡ false }
+        requires below { place ≤ self.old.place }
+        ensures moved { OnOk result (self.new ≡ record self.old { place = place }) }
+        ensures failed { OnErr result (self.new ≡ record self.old { failed = true }) }
+    {
+        let began = self.place();
+        for _ in place..began {
+            self.go_back(began)?;
+        }
+        Ok(())
+    }
+
+    /// The transaction that leads to the place, and what it answered and changed.
+    pub(crate) fn last(&self) -> Option<(&Txn, &Applied)>
+        requires running { self.now.failed ≡ false }
+        ensures txn { option_map (λ last. last.0.now) result ≡ txn_at self.now.txns self.now.place }
+        ensures result { option_map (λ last. last.1.now.result) result ≡ result_at self.now.txns self.now.place }
+        ensures changes { option_map (λ last. last.1.now.changes.items) result ≡ changes_at self.now.txns self.now.place }
+    {
+        let Some(applied) = self.steps.last() else {
+            return None;
+        };
+        let txn = &self.txns.as_slice()[self.place - 1];
+        Some((txn, applied))
+    }
+
+    /// The machine at the place.
+    pub(crate) fn machine(&self) -> &Machine
+        requires running { self.now.failed ≡ false }
+        ensures { result.now ≡ machine_at self.now.txns self.now.place }
+    {
+        &self.machine
+    }
+
+    pub(crate) fn place(&self) -> usize
+        ensures place { result ≡ self.now.place }
+        ensures within { self.now.place ≤ length self.now.txns }
+    {
+        self.place
+    }
+
+    pub(crate) fn has_failed(&self) -> bool
+        ensures { result ≡ self.now.failed }
+    {
+        self.failed
+    }
+
+    /// How many transactions the log has.
+    pub(crate) fn end(&self) -> usize
+        ensures end { result ≡ length self.now.txns }
+        ensures within { self.now.place ≤ length self.now.txns }
+    {
+        self.txns.as_slice().len()
+    }
+
+    /// The zxid of the transaction that leads to the place, and 0 at the start.
+    pub(crate) fn zxid(&self) -> i64
+        ensures { result ≡ zxid_at self.now.txns self.now.place }
+    {
+        if self.place == 0 {
+            return 0;
+        }
+        self.txns.as_slice()[self.place - 1].zxid
+    }
+
+    /// How many transactions have at most this zxid.
+    pub(crate) fn count_up_to(&self, zxid: i64) -> usize
+        ensures count { result ≡ length (up_to zxid self.now.txns) }
+        ensures within { result ≤ length self.now.txns }
+    {
+        self.txns
+            .as_slice()
+            .iter()
+            .filter(|txn| txn.zxid <= zxid)
+            .count()
+    }
+}
