@@ -2,4 +2,5 @@
 pub mod Refusals
 pub mod Runs
 pub mod Standings
+pub mod Tags
 pub mod Worlds

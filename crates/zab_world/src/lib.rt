@@ -6,10 +6,12 @@
 
 mod event;
 mod fault;
+mod laws;
 mod place;
 mod steps;
 mod world;
 
 pub use event::{Event, Moved};
 pub use fault::WorldFault;
+pub use laws::one_entry_for_a_tag;
 pub use world::World;
