@@ -1,0 +1,10 @@
+//! The worked rows of the world of servers and messages, with calls that are echoed: the tests of `zab_world`, and no code
+//! of its own.
+//!
+//! Expected values come from the definition of the protocol.
+#![tactic(auto)]
+
+#[cfg(test)]
+mod scripts;
+#[cfg(test)]
+mod world_rows;
