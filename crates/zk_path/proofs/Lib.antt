@@ -1,4 +1,5 @@
 pub mod Children
 pub mod FaultLaw
 pub mod Faults
+pub mod Plain
 pub mod Slashes

@@ -1,8 +1,9 @@
-ghost use Rattle.std.specs.Prelude.{◌≡◌, None};
+ghost use Rattle.std.specs.Prelude.{◌≡◌, None, true};
 ghost use Rattle.std.specs.List.{list_any, slice_split};
 ghost use Rattle.std.specs.Result.{result_err};
 ghost use Rattle.std.specs.Str.{chars};
 ghost use Rattle.zk_path.specs.Paths.{is_slash, is_bad_char, name_fault, first_fault, fault_of};
+ghost use Rattle.zk_path.specs.Plain.{is_plain_behind, may_follow};
 
 use crate::fault::PathFault;
 
@@ -29,10 +30,38 @@ pub(crate) fn check_path(text: &str) -> Result<(), PathFault>
 fn check_names(names: &str) -> Result<(), PathFault>
     ensures { result_err result ≡ first_fault (slice_split is_slash names.now) }
 {
+    if is_plain(names) {
+        return Ok(());
+    }
     for name in names.split('/') {
         check_name(name)?;
     }
     Ok(())
+}
+
+/// Whether one look at each byte shows that what stands behind the first slash spells names: all of it is ASCII that
+/// shows, and no name is empty or begins with a dot. Most paths are so; another text may be a path still.
+fn is_plain(names: &str) -> bool
+    ensures { result ≡ is_plain_behind true names.now }
+{
+    let mut behind_slash = true;
+    for byte in names.as_bytes() {
+        if !may_follow(behind_slash, *byte) {
+            return false;
+        }
+        behind_slash = *byte == b'/';
+    }
+    !behind_slash
+}
+
+/// Whether a byte may follow a slash, or another byte of a name, in a plain path.
+fn may_follow(behind_slash: bool, byte: u8) -> bool
+    ensures { result ≡ may_follow behind_slash byte }
+{
+    if behind_slash && (byte == b'/' || byte == b'.') {
+        return false;
+    }
+    matches!(byte, b' '..=b'~')
 }
 
 /// Whether a text without a slash may be a node's name.
@@ -54,23 +83,7 @@ pub(crate) fn check_name(name: &str) -> Result<(), PathFault>
 fn has_bad_char(name: &str) -> bool
     ensures { result ≡ list_any is_bad_char (chars name.now) }
 {
-    if name.is_ascii() {
-        // Most names are, and their bytes need no decoding.
-        return has_bad_byte(name);
-    }
     name.chars().any(is_bad_char)
-}
-
-fn has_bad_byte(name: &str) -> bool
-    ensures { result ≡ list_any is_bad_char name.now }
-{
-    name.bytes().any(is_bad_byte)
-}
-
-fn is_bad_byte(byte: u8) -> bool
-    ensures { result ≡ is_bad_char byte }
-{
-    is_bad_char(char::from(byte))
 }
 
 /// Whether no name may have this character: NUL, a control character, one for

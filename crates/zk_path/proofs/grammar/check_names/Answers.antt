@@ -6,7 +6,11 @@ use Rattle.std.proofs.lemmas.List.{at_drop_all, length_push}
 use Rattle.std.proofs.lemmas.Result.{err_from_is_err_and}
 use Rattle.zk_path.specs.Paths.{is_slash, first_fault}
 use Rattle.zk_path.proofs.Faults.{first_fault_found, first_fault_passed}
+use Rattle.zk_path.proofs.Plain.{plain_has_no_fault}
 use Rattle.zk_path.proofs.grammar.check_names.Goals as goal
+
+pub returns-then-is_plain : goal.returns-then-is_plain
+returns-then-is_plain c = sym (plain_has_no_fault c.args.names.now (sym c.is_plain.ensures ∙ c.if-is_plain.true))
 
 pub returns-in_err-check_name : goal.returns-in_err-check_name
 returns-in_err-check_name c =
