@@ -80,7 +80,12 @@ fn spell_between_quotes(line: &mut String, text: &str) -> Result<(), NoMemory>
 fn has_escaped(text: &str) -> bool
     ensures { result ≡ list_any is_escaped text.now }
 {
-    text.bytes().any(is_escaped)
+    let mut found = false;
+    // No way out in the middle: so the compiler looks at several bytes at a time.
+    for byte in text.as_bytes() {
+        found |= is_escaped(*byte);
+    }
+    found
 }
 
 /// Whether a byte doesn't stand for itself between quotes.
