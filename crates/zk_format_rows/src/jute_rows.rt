@@ -1,10 +1,9 @@
 //! Rows of `zk_jute`.
 
 use std::alloc::Global;
-use std::test::*;
-use zk_acl::Acls;
+use zk_acl::{Acl, Acls};
 use zk_jute::{JuteFault, read_txn, size, write_txn};
-use zk_path::Path;
+use zk_path::{NoMemory, Path};
 use zk_table::{Content, Op, Sub, Txn};
 
 /// The first record of the first log: a session is opened.
@@ -60,137 +59,171 @@ const MULTI: [u8; 66] = [
     0xff, 0xff, 0xff, 0x99, // code -103
 ];
 
+/// What a record is refused with, where there is another byte string at a place.
+fn fault_with(alloc: Global, record: &[u8], at: usize, bytes: &[u8]) -> Option<JuteFault> {
+    let changed = with(alloc, record, at, bytes)?;
+    fault_of(alloc, changed.as_slice())
+}
+
 /// A record with other bytes at a place.
-fn with(rt: &HostRuntime, record: &[u8], at: usize, bytes: &[u8]) -> Result<Vec<u8>, Fail> {
-    let end = at.checked_add(bytes.len()).ok_or("the place is too large")?;
-    let front = record.get(..at).ok_or("the place is past the record")?;
-    let back = record.get(end..).ok_or("the bytes end past the record")?;
-    let mut changed = Vec::from_slice(rt.alloc(), front)?;
-    changed.extend_from_slice(bytes)?;
-    changed.extend_from_slice(back)?;
-    Ok(changed)
+fn with(alloc: Global, record: &[u8], at: usize, bytes: &[u8]) -> Option<Vec<u8>> {
+    let end = at.checked_add(bytes.len())?;
+    let front = record.get(..at)?;
+    let back = record.get(end..)?;
+    joined(alloc, front, bytes, back).ok()
+}
+
+/// Three parts as one text.
+fn joined(alloc: Global, front: &[u8], middle: &[u8], back: &[u8]) -> Result<Vec<u8>, NoMemory> {
+    let mut bytes = Vec::from_slice(alloc, front)?;
+    bytes.extend_from_slice(middle)?;
+    bytes.extend_from_slice(back)?;
+    Ok(bytes)
+}
+
+fn fault_of(alloc: Global, bytes: &[u8]) -> Option<JuteFault> {
+    read_txn(alloc, bytes).err()
 }
 
 /// The record of a transaction that is not too long.
-fn written(rt: &HostRuntime, txn: &Txn) -> Result<Vec<u8>, Fail> {
+fn written(alloc: Global, txn: &Txn) -> Option<Vec<u8>> {
     if size(txn) > 16_777_216 {
-        return Err("the record is too long".into());
+        return None;
     }
-    Ok(write_txn(rt.alloc(), txn)?)
+    write_txn(alloc, txn).ok()
 }
 
-fn fault_of(rt: &HostRuntime, bytes: &[u8]) -> Option<JuteFault> {
-    read_txn(rt.alloc(), bytes).err()
+/// Whether a transaction has this size, and is written as this record.
+fn is_written(alloc: Global, txn: &Txn, record: &[u8]) -> bool {
+    size(txn) == record.len() as u64
+        && matches!(written(alloc, txn), Some(bytes) if bytes.as_slice() == record)
 }
 
-/// A node `/n` is created by the first session's second request.
-fn create(alloc: Global, content: Option<Content>) -> Result<Txn, Fail> {
-    Ok(Txn {
-        session: 0x0100000000000001,
-        cxid: 1,
-        zxid: 0x0000000100000002,
-        time: 2000,
-        op: Op::Create {
-            path: Path::read(alloc, "/n")?,
+/// Whether a record is read, and written back.
+fn is_written_back(alloc: Global, record: &[u8]) -> bool {
+    match read_txn(alloc, record) {
+        Ok(txn) => is_written(alloc, &txn, record),
+        Err(_) => false,
+    }
+}
+
+/// Whether a transaction has these numbers: session, cxid, zxid and time.
+fn has_numbers(txn: &Txn, session: i64, cxid: i32, zxid: i64, time: i64) -> bool {
+    txn.session == session && txn.cxid == cxid && txn.zxid == zxid && txn.time == time
+}
+
+/// Whether the first log's session is opened.
+fn opens(txn: &Txn) -> bool {
+    has_numbers(txn, 0x0100000000000001, 0, 0x0000000100000001, 1000)
+        && matches!(txn.op, Op::OpenSession { timeout: 30000 })
+}
+
+/// Whether this is the record of it.
+fn is_opening(alloc: Global, record: &[u8]) -> bool {
+    matches!(read_txn(alloc, record), Ok(txn) if opens(&txn))
+}
+
+#[test]
+fn opening_a_session_is_read(rt: HostRuntime) {
+    assert!(rt; is_opening(rt.alloc(), &FIRST));
+}
+
+/// Whether a content holds this.
+fn holds(content: &Option<Content>, bytes: &[u8]) -> bool {
+    matches!(content, Some(content) if content.as_slice() == bytes)
+}
+
+/// Whether everyone may do everything.
+fn is_open(entries: &[Acl]) -> bool {
+    match entries {
+        [entry] => {
+            entry.perms == 31
+                && entry.id.scheme.as_str() == "world"
+                && entry.id.id.as_str() == "anyone"
+        }
+        _ => false,
+    }
+}
+
+/// Whether `/a` is created.
+fn creates(op: &Op) -> bool {
+    match op {
+        Op::Create {
+            path,
             content,
-            acl: Acls::new(alloc, Vec::new(alloc))?,
+            acl,
             ephemeral: false,
             count: 1,
+        } => path.text() == "/a" && holds(content, b"hi") && is_open(acl.as_slice()),
+        _ => false,
+    }
+}
+
+/// Whether this is the record of it.
+fn is_create(alloc: Global, record: &[u8]) -> bool {
+    matches!(read_txn(alloc, record), Ok(txn) if creates(&txn.op))
+}
+
+#[test]
+fn create_is_read(rt: HostRuntime) {
+    assert!(rt; is_create(rt.alloc(), &SECOND));
+}
+
+/// Whether the parts are a check of `/a` and an error.
+fn checks(op: &Op) -> bool {
+    match op {
+        Op::Multi { parts } => match parts.as_slice() {
+            [Sub::Check { path, version: 7 }, Sub::Error { code: -103 }] => path.text() == "/a",
+            _ => false,
         },
-    })
-}
-
-/// What the record of a create has as content.
-fn content_of(rt: &HostRuntime, record: &[u8]) -> Result<Option<Content>, Fail> {
-    match read_txn(rt.alloc(), record)?.op {
-        Op::Create { content, .. } => Ok(content),
-        _ => Err("the record creates a node".into()),
+        _ => false,
     }
 }
 
-#[test]
-fn opening_a_session_is_read(rt: HostRuntime) -> Result<(), Fail> {
-    let txn = read_txn(rt.alloc(), &FIRST)?;
-    assert_eq!(rt; txn.session, 0x0100000000000001);
-    assert_eq!(rt; txn.cxid, 0);
-    assert_eq!(rt; txn.zxid, 0x0000000100000001);
-    assert_eq!(rt; txn.time, 1000);
-    assert!(rt; matches!(txn.op, Op::OpenSession { timeout: 30000 }));
-    Ok(())
+/// Whether this is the record of such a multi.
+fn is_multi(alloc: Global, record: &[u8]) -> bool {
+    matches!(read_txn(alloc, record), Ok(txn) if checks(&txn.op))
 }
 
 #[test]
-fn create_is_read(rt: HostRuntime) -> Result<(), Fail> {
-    let txn = read_txn(rt.alloc(), &SECOND)?;
-    let Op::Create {
-        path,
-        content,
-        acl,
-        ephemeral,
-        count,
-    } = txn.op
-    else {
-        return Err("the record creates a node".into());
-    };
-    assert_eq!(rt; path.text(), "/a");
-    let content = content.ok_or("the node has content")?;
-    assert_eq!(rt; content.as_slice(), b"hi".as_slice());
-    assert_eq!(rt; acl.as_slice().len(), 1);
-    for entry in acl.as_slice() {
-        assert_eq!(rt; entry.perms, 31);
-        assert_eq!(rt; entry.id.scheme.as_str(), "world");
-        assert_eq!(rt; entry.id.id.as_str(), "anyone");
-    }
-    assert!(rt; !ephemeral);
-    assert_eq!(rt; count, 1);
-    Ok(())
+fn multi_is_read(rt: HostRuntime) {
+    assert!(rt; is_multi(rt.alloc(), &MULTI));
 }
 
 #[test]
-fn multi_is_read(rt: HostRuntime) -> Result<(), Fail> {
-    let txn = read_txn(rt.alloc(), &MULTI)?;
-    let Op::Multi { parts } = txn.op else {
-        return Err("the record is a multi".into());
-    };
-    let [Sub::Check { path, version: 7 }, Sub::Error { code: -103 }] = parts.as_slice() else {
-        return Err("the parts are a check and an error".into());
-    };
-    assert_eq!(rt; path.text(), "/a");
-    Ok(())
+fn records_are_written_back(rt: HostRuntime) {
+    assert!(rt; is_written_back(rt.alloc(), &FIRST));
+    assert!(rt; is_written_back(rt.alloc(), &SECOND));
+    assert!(rt; is_written_back(rt.alloc(), &THIRD));
+    assert!(rt; is_written_back(rt.alloc(), &MULTI));
+}
+
+/// What the first record is refused with, where a byte stands behind it.
+fn fault_of_longer(alloc: Global) -> Option<JuteFault> {
+    let longer = joined(alloc, &FIRST, &[0], &[]).ok()?;
+    fault_of(alloc, longer.as_slice())
 }
 
 #[test]
-fn records_are_written_back(rt: HostRuntime) -> Result<(), Fail> {
-    for record in [FIRST.as_slice(), &SECOND, &THIRD, &MULTI] {
-        let txn = read_txn(rt.alloc(), record)?;
-        assert_eq!(rt; size(&txn), record.len() as u64);
-        assert_eq!(rt; written(&rt, &txn)?.as_slice(), record);
-    }
-    Ok(())
-}
-
-#[test]
-fn record_faults_in_order(rt: HostRuntime) -> Result<(), Fail> {
-    assert_eq!(rt; fault_of(&rt, &FIRST[..35]), Some(JuteFault::Short));
-    let kind = with(&rt, &FIRST, 28, &[0, 0, 0, 3])?;
-    assert_eq!(rt; fault_of(&rt, &kind), Some(JuteFault::Kind));
-    let mut longer = Vec::from_slice(rt.alloc(), &FIRST)?;
-    longer.push(0)?;
-    assert_eq!(rt; fault_of(&rt, &longer), Some(JuteFault::Trailing));
+fn record_faults_in_order(rt: HostRuntime) {
+    assert_eq!(rt; fault_of(rt.alloc(), &FIRST[..35]), Some(JuteFault::Short));
+    assert_eq!(rt;
+        fault_with(rt.alloc(), &FIRST, 28, &[0, 0, 0, 3]),
+        Some(JuteFault::Kind)
+    );
+    assert_eq!(rt; fault_of_longer(rt.alloc()), Some(JuteFault::Trailing));
     for (at, bytes, fault) in [
         (71, [2].as_slice(), JuteFault::Boolean),
         (44, &[0xff, 0xff, 0xff, 0xff], JuteFault::Length),
         (36, b"aa", JuteFault::Path),
         (36, &[b'/', 0xff], JuteFault::Text),
     ] {
-        let changed = with(&rt, &SECOND, at, bytes)?;
-        assert_eq!(rt; fault_of(&rt, &changed), Some(fault));
+        assert_eq!(rt; fault_with(rt.alloc(), &SECOND, at, bytes), Some(fault));
     }
-    Ok(())
 }
 
 #[test]
-fn part_faults_in_order(rt: HostRuntime) -> Result<(), Fail> {
+fn part_faults_in_order(rt: HostRuntime) {
     for (at, number, fault) in [
         // no type of a part
         (36, [0, 0, 0, 7], JuteFault::Kind),
@@ -201,21 +234,53 @@ fn part_faults_in_order(rt: HostRuntime) -> Result<(), Fail> {
         (40, [0, 0, 0, 9], JuteFault::Short),
         (40, [0, 0, 0, 11], JuteFault::Trailing),
     ] {
-        let changed = with(&rt, &MULTI, at, &number)?;
-        assert_eq!(rt; fault_of(&rt, &changed), Some(fault));
+        assert_eq!(rt; fault_with(rt.alloc(), &MULTI, at, &number), Some(fault));
     }
-    Ok(())
+}
+
+/// The record of a create of `/n` by the first session's second request.
+fn record_with(alloc: Global, content: Option<Content>) -> Option<Vec<u8>> {
+    let path = Path::read(alloc, "/n").ok()?;
+    let acl = Acls::new(alloc, Vec::new(alloc)).ok()?;
+    let txn = Txn {
+        session: 0x0100000000000001,
+        cxid: 1,
+        zxid: 0x0000000100000002,
+        time: 2000,
+        op: Op::Create {
+            path,
+            content,
+            acl,
+            ephemeral: false,
+            count: 1,
+        },
+    };
+    written(alloc, &txn)
+}
+
+/// Whether a content's length is written so, and the content read back is this.
+fn has_content(alloc: Global, record: &[u8], length: &[u8], content: Option<&[u8]>) -> bool {
+    record.get(38..42) == Some(length)
+        && match read_txn(alloc, record) {
+            Ok(txn) => creates_with(&txn.op, content),
+            Err(_) => false,
+        }
+}
+
+/// Whether a node with this content is created.
+fn creates_with(op: &Op, bytes: Option<&[u8]>) -> bool {
+    match (op, bytes) {
+        (Op::Create { content, .. }, Some(bytes)) => holds(content, bytes),
+        (Op::Create { content, .. }, None) => content.is_none(),
+        _ => false,
+    }
 }
 
 #[test]
-fn null_and_empty_content(rt: HostRuntime) -> Result<(), Fail> {
-    let null = written(&rt, &create(rt.alloc(), None)?)?;
-    assert_eq!(rt; null.get(38..42), Some([0xff, 0xff, 0xff, 0xff].as_slice()));
-    assert!(rt; content_of(&rt, &null)?.is_none());
-    let empty = Content::read(rt.alloc(), &[])?;
-    let empty = written(&rt, &create(rt.alloc(), Some(empty))?)?;
-    assert_eq!(rt; empty.get(38..42), Some([0, 0, 0, 0].as_slice()));
-    let content = content_of(&rt, &empty)?.ok_or("empty content is no null")?;
-    assert!(rt; content.as_slice().is_empty());
-    Ok(())
+fn null_and_empty_content(rt: HostRuntime) {
+    let null = record_with(rt.alloc(), None).expect(&rt, "memory");
+    assert!(rt; has_content(rt.alloc(), null.as_slice(), &[0xff, 0xff, 0xff, 0xff], None));
+    let empty = Content::read(rt.alloc(), &[]).expect(&rt, "memory");
+    let empty = record_with(rt.alloc(), Some(empty)).expect(&rt, "memory");
+    assert!(rt; has_content(rt.alloc(), empty.as_slice(), &[0, 0, 0, 0], Some(&[])));
 }

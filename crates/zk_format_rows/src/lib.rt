@@ -1,5 +1,4 @@
-//! The worked rows of the formats, which are records, listings and logs: the tests of these libraries, and no code of its
-//! own.
+//! The worked rows of records and listings: the tests of these libraries, and no code of its own.
 //!
 //! They stand apart from the crates that they test, as those of `zk_rows` do, and for the same reason.
 #![tactic(auto)]
@@ -8,5 +7,3 @@
 mod jute_rows;
 #[cfg(test)]
 mod listing_rows;
-#[cfg(test)]
-mod log_rows;

@@ -1,13 +1,15 @@
 //! Listings both ways, and the spelling of reports.
-use std::test::Fail;
+use std::alloc::Global;
 use zk_acl::{Acl, Acls, Id, Stat, Text};
 use zk_listing::{
     ListCause, ListFault, assemble, list, push_acl, push_content, push_digits, push_id, push_line,
     push_node_line, push_quoted, push_result_line, push_stat, read_acl, read_content, read_id,
     read_int, read_long, read_path, read_quoted,
 };
-use zk_path::Path;
+use zk_path::{NoMemory, Path};
 use zk_table::{Content, Node, Op, PartResult, PartResults, Txn, TxnResult};
+
+// A proof of a test grows steeply with its exits, so a test only asserts, and what can be refused stands in helpers.
 
 /// The listing of the log with three transactions: a session, `/a`, and the session's end.
 const FIRST_LOG: &str = "0000000100000001 0100000000000001 0 1000 createSession 30000\n\
@@ -34,25 +36,27 @@ const ALL_WORDS: &str =
 /// What each line below begins with.
 const HEAD: &str = "0000000100000001 0100000000000001 0 1000 ";
 
-fn lines_of(rt: &HostRuntime, text: &str) -> Result<String, Fail> {
-    let txns = assemble(rt.alloc(), text)?;
-    Ok(list(rt.alloc(), txns.as_slice())?)
+/// The listing of what a listing assembles to.
+fn listed(alloc: Global, text: &str) -> Option<String> {
+    let txns = assemble(alloc, text).ok()?;
+    list(alloc, txns.as_slice()).ok()
 }
 
-/// What a listing is refused with, and nothing where it is none.
-fn fault_of(rt: &HostRuntime, text: &str) -> Result<String, Fail> {
-    match assemble(rt.alloc(), text) {
-        Ok(_) => Ok(String::new(rt.alloc())),
-        Err(fault) => Ok(format!(in rt.alloc(); "{fault}")?),
-    }
+/// Whether this is a text, and the other.
+fn is_text(told: Option<String>, text: &str) -> bool {
+    matches!(told, Some(told) if told.as_str() == text)
+}
+
+/// Whether a fault is spelled so.
+fn is_spelled(alloc: Global, told: ListFault, fault: &str) -> bool {
+    is_text(format!(in alloc; "{told}").ok(), fault)
 }
 
 #[test]
-fn listings_assemble_and_list_back(rt: HostRuntime) -> Result<(), Fail> {
+fn listings_assemble_and_list_back(rt: HostRuntime) {
     for text in ["", FIRST_LOG, WITH_A_MULTI, ALL_WORDS] {
-        assert_eq!(rt; lines_of(&rt, text)?.as_str(), text);
+        assert!(rt; is_text(listed(rt.alloc(), text), text), "{text:?}");
     }
-    Ok(())
 }
 
 /// A transaction of the first log's session.
@@ -67,46 +71,67 @@ fn txn(cxid: i32, op: Op) -> Txn {
     }
 }
 
-fn for_anyone(rt: &HostRuntime) -> Result<Acls, Fail> {
-    let scheme = Text::read(rt.alloc(), "world")?;
-    let id = Text::read(rt.alloc(), "anyone")?;
-    let mut acl = Vec::new(rt.alloc());
-    acl.push(Acl {
-        perms: 31,
-        id: Id { scheme, id },
-    })?;
-    Ok(Acls::new(rt.alloc(), acl)?)
+fn for_anyone(alloc: Global) -> Result<Acls, NoMemory> {
+    let id = Id {
+        scheme: Text::read(alloc, "world")?,
+        id: Text::read(alloc, "anyone")?,
+    };
+    Acls::new(alloc, vec![in alloc; Acl { perms: 31, id }]?)
 }
 
-fn create(rt: &HostRuntime) -> Result<Op, Fail> {
+fn path_of(alloc: Global, text: &str) -> Result<Path, NoMemory> {
+    Path::read(alloc, text).map_err(|_| NoMemory)
+}
+
+fn create(alloc: Global) -> Result<Op, NoMemory> {
+    let acl = for_anyone(alloc)?;
+    let content = Some(Content::read(alloc, b"hi")?);
     Ok(Op::Create {
-        path: Path::read(rt.alloc(), "/a")?,
-        content: Some(Content::read(rt.alloc(), b"hi")?),
-        acl: for_anyone(rt)?,
+        path: path_of(alloc, "/a")?,
+        content,
+        acl,
         ephemeral: false,
         count: 1,
     })
 }
 
-#[test]
-fn first_log_is_listed(rt: HostRuntime) -> Result<(), Fail> {
-    let mut text = String::new(rt.alloc());
-    push_line(&mut text, &txn(0, Op::OpenSession { timeout: 30000 }))?;
-    push_line(&mut text, &txn(1, create(&rt)?))?;
-    push_line(&mut text, &txn(2, Op::CloseSession))?;
-    assert_eq!(rt; text.as_str(), FIRST_LOG);
-    Ok(())
+/// Appends the line of a transaction of the first log's session.
+fn push_op(text: &mut String, cxid: i32, op: Op) -> Result<(), NoMemory> {
+    push_line(text, &txn(cxid, op))
+}
+
+/// The lines of the first log's transactions.
+fn first_lines(alloc: Global) -> Result<String, NoMemory> {
+    let mut text = String::new(alloc);
+    push_op(&mut text, 0, Op::OpenSession { timeout: 30000 })?;
+    push_op(&mut text, 1, create(alloc)?)?;
+    push_op(&mut text, 2, Op::CloseSession)?;
+    Ok(text)
 }
 
 #[test]
-fn copies_have_the_same_lines(rt: HostRuntime) -> Result<(), Fail> {
-    let txns = assemble(rt.alloc(), WITH_A_MULTI)?;
-    let mut text = String::new(rt.alloc());
-    for txn in &txns {
-        push_line(&mut text, &txn.copy()?)?;
+fn first_log_is_listed(rt: HostRuntime) {
+    assert!(rt; is_text(first_lines(rt.alloc()).ok(), FIRST_LOG));
+}
+
+/// Appends the line of a transaction's copy.
+fn push_copy(text: &mut String, txn: &Txn) -> Result<(), NoMemory> {
+    push_line(text, &txn.copy()?)
+}
+
+/// The lines of copies.
+fn copied_lines(alloc: Global, txns: &[Txn]) -> Result<String, NoMemory> {
+    let mut text = String::new(alloc);
+    for txn in txns {
+        push_copy(&mut text, txn)?;
     }
-    assert_eq!(rt; text.as_str(), WITH_A_MULTI);
-    Ok(())
+    Ok(text)
+}
+
+#[test]
+fn copies_have_the_same_lines(rt: HostRuntime) {
+    let txns = assemble(rt.alloc(), WITH_A_MULTI).expect(&rt, "a listing");
+    assert!(rt; is_text(copied_lines(rt.alloc(), txns.as_slice()).ok(), WITH_A_MULTI));
 }
 
 #[test]
@@ -123,45 +148,91 @@ fn faults_have_a_line_and_a_cause(rt: HostRuntime) {
 }
 
 /// Whether a text is refused with this fault.
-fn is_refused(rt: &HostRuntime, text: &str, fault: &str) -> Result<bool, Fail> {
-    Ok(fault_of(rt, text)?.as_str() == fault)
+fn is_refused(alloc: Global, text: &str, fault: &str) -> bool {
+    match assemble(alloc, text) {
+        Ok(_) => false,
+        Err(told) => is_spelled(alloc, told, fault),
+    }
 }
 
 /// Whether a line with these fields before its operation is.
-fn is_head_refused(rt: &HostRuntime, head: &str, fault: &str) -> Result<bool, Fail> {
-    let text = format!(in rt.alloc(); "{head} createSession 30000\n")?;
-    is_refused(rt, text.as_str(), fault)
+fn is_head_refused(alloc: Global, head: &str, fault: &str) -> Result<bool, NoMemory> {
+    let text = format!(in alloc; "{head} createSession 30000\n")?;
+    Ok(is_refused(alloc, text.as_str(), fault))
 }
 
 /// Whether a line with this operation is refused with this cause.
-fn is_op_refused(rt: &HostRuntime, op: &str, cause: &str) -> Result<bool, Fail> {
-    let text = format!(in rt.alloc(); "{HEAD}{op}\n")?;
-    let fault = format!(in rt.alloc(); "{cause} 1")?;
-    is_refused(rt, text.as_str(), fault.as_str())
+fn is_op_refused(alloc: Global, op: &str, cause: &str) -> Result<bool, NoMemory> {
+    let text = format!(in alloc; "{HEAD}{op}\n")?;
+    let fault = format!(in alloc; "{cause} 1")?;
+    Ok(is_refused(alloc, text.as_str(), fault.as_str()))
 }
 
 /// The same of the fourth line, where the fifth is unended.
-fn is_fourth_refused(rt: &HostRuntime, op: &str, cause: &str) -> Result<bool, Fail> {
-    let text = format!(in rt.alloc(); "{FIRST_LOG}{HEAD}{op}\nx")?;
-    let fault = format!(in rt.alloc(); "{cause} 4")?;
-    is_refused(rt, text.as_str(), fault.as_str())
+fn is_fourth_refused(alloc: Global, op: &str, cause: &str) -> Result<bool, NoMemory> {
+    let text = format!(in alloc; "{FIRST_LOG}{HEAD}{op}\nx")?;
+    let fault = format!(in alloc; "{cause} 4")?;
+    Ok(is_refused(alloc, text.as_str(), fault.as_str()))
+}
+
+/// The first of the heads that is not refused with its fault.
+fn wrong_head(alloc: Global) -> Option<&'static str> {
+    for (head, fault) in &HEADS {
+        if is_head_refused(alloc, head, fault) != Ok(true) {
+            return Some(*head);
+        }
+    }
+    None
+}
+
+/// The first of the operations that is not refused with its cause.
+fn wrong_op(alloc: Global) -> Option<&'static str> {
+    for (op, cause) in &REFUSED {
+        if is_op_refused(alloc, op, cause) != Ok(true) {
+            return Some(*op);
+        }
+    }
+    None
+}
+
+/// The same in the fourth line.
+fn wrong_fourth(alloc: Global) -> Option<&'static str> {
+    for (op, cause) in &REFUSED {
+        if is_fourth_refused(alloc, op, cause) != Ok(true) {
+            return Some(*op);
+        }
+    }
+    None
+}
+
+/// The first of the texts that is not refused with its fault.
+fn wrong_end(alloc: Global) -> Option<&'static str> {
+    for (text, fault) in &ENDS {
+        if !is_refused(alloc, text, fault) {
+            return Some(*text);
+        }
+    }
+    None
+}
+
+/// Whether a text is the listing of no transactions.
+fn is_empty_listing(alloc: Global, text: &str) -> bool {
+    matches!(assemble(alloc, text), Ok(txns) if txns.is_empty())
+}
+
+/// Whether what a listing assembles to is listed with this line first.
+fn begins_with(alloc: Global, text: &str, line: &str) -> bool {
+    matches!(listed(alloc, text), Some(text) if text.as_str().starts_with(line))
 }
 
 #[test]
-fn listing_lines_and_faults(rt: HostRuntime) -> Result<(), Fail> {
-    assert!(rt; lines_of(&rt, FIRST_LOG)?.as_str().starts_with(FIRST_LINE));
-    assert_eq!(rt; assemble(rt.alloc(), "")?.len(), 0);
-    for (head, fault) in HEADS {
-        assert!(rt; is_head_refused(&rt, head, fault)?, "{head:?}");
-    }
-    for (op, cause) in REFUSED {
-        assert!(rt; is_op_refused(&rt, op, cause)?, "{op:?}");
-        assert!(rt; is_fourth_refused(&rt, op, cause)?, "{op:?}");
-    }
-    for (text, fault) in ENDS {
-        assert!(rt; is_refused(&rt, text, fault)?, "{text:?}");
-    }
-    Ok(())
+fn listing_lines_and_faults(rt: HostRuntime) {
+    assert!(rt; begins_with(rt.alloc(), FIRST_LOG, FIRST_LINE));
+    assert!(rt; is_empty_listing(rt.alloc(), ""));
+    assert_eq!(rt; wrong_head(rt.alloc()), None);
+    assert_eq!(rt; wrong_op(rt.alloc()), None);
+    assert_eq!(rt; wrong_fourth(rt.alloc()), None);
+    assert_eq!(rt; wrong_end(rt.alloc()), None);
 }
 
 const FIRST_LINE: &str = "0000000100000001 0100000000000001 0 1000 createSession 30000\n";
@@ -171,7 +242,7 @@ const FIRST_LINE_UNENDED: &str = "0000000100000001 0100000000000001 0 1000 creat
 const TWO_FAULTS: &str = "0000000100000001 0100000000000001 0 1000 createSession 30000\nx\nx";
 
 /// What stands before an operation in a line that is refused, and the fault.
-const HEADS: [(&str, &str); 11] = [
+static HEADS: [(&str, &str); 11] = [
     ("0000000100000001 0100000000000001 0 +1000", "L2 1"),
     ("0A00000100000001 0100000000000001 0 1000", "L2 1"),
     ("0000000100000001  0100000000000001 0 1000", "L1 1"),
@@ -186,7 +257,7 @@ const HEADS: [(&str, &str); 11] = [
 ];
 
 /// Texts with an unended or an empty line, and the fault.
-const ENDS: [(&str, &str); 5] = [
+static ENDS: [(&str, &str); 5] = [
     (FIRST_LINE_UNENDED, "L7 1"),
     (TWO_FAULTS, "L2 2"),
     ("x\nx", "L2 1"),
@@ -195,7 +266,7 @@ const ENDS: [(&str, &str); 5] = [
 ];
 
 /// What is refused behind a line's head, and the cause.
-const REFUSED: [(&str, &str); 38] = [
+static REFUSED: [(&str, &str); 38] = [
     ("createSession 30000\r", "L2"),
     ("createSession 30000 ", "L1"),
     ("createSession 30000 1", "L1"),
@@ -237,96 +308,139 @@ const REFUSED: [(&str, &str); 38] = [
 ];
 
 #[test]
-fn numbers_are_read(rt: HostRuntime) -> Result<(), Fail> {
+fn numbers_are_read(rt: HostRuntime) {
     let mut input = "ffffffffffffffff -5";
-    assert_eq!(rt; read_id(&mut input)?, -1);
+    assert_eq!(rt; read_id(&mut input), Ok(-1));
     assert_eq!(rt; input, " -5");
     input = "-5\n";
-    assert_eq!(rt; read_int(&mut input)?, -5);
+    assert_eq!(rt; read_int(&mut input), Ok(-5));
     assert_eq!(rt; input, "\n");
     input = "9223372036854775807";
-    assert_eq!(rt; read_long(&mut input)?, i64::MAX);
+    assert_eq!(rt; read_long(&mut input), Ok(i64::MAX));
     assert_eq!(rt; input, "");
-    Ok(())
+}
+
+/// Whether a quoted text is read, and this is left.
+fn reads_quoted(alloc: Global, mut input: &str, text: &str, rest: &str) -> bool {
+    is_text(read_quoted(alloc, &mut input).ok(), text) && input == rest
+}
+
+/// The same of a path.
+fn reads_path(alloc: Global, mut input: &str, text: &str, rest: &str) -> bool {
+    matches!(read_path(alloc, &mut input), Ok(path) if path.text() == text) && input == rest
 }
 
 #[test]
-fn texts_are_read(rt: HostRuntime) -> Result<(), Fail> {
-    let mut input = "\"a\\\"b\" rest";
-    assert_eq!(rt; read_quoted(rt.alloc(), &mut input)?.as_str(), "a\"b");
-    assert_eq!(rt; input, " rest");
-    input = "\"/a\" rest";
-    assert_eq!(rt; read_path(rt.alloc(), &mut input)?.text(), "/a");
-    assert_eq!(rt; input, " rest");
-    Ok(())
+fn texts_are_read(rt: HostRuntime) {
+    assert!(rt; reads_quoted(rt.alloc(), "\"a\\\"b\" rest", "a\"b", " rest"));
+    assert!(rt; reads_path(rt.alloc(), "\"/a\" rest", "/a", " rest"));
 }
 
-#[test]
-fn contents_and_acls_are_read(rt: HostRuntime) -> Result<(), Fail> {
-    let mut input = "x00 0 rest";
-    let content = read_content(rt.alloc(), &mut input)?.ok_or("null")?;
-    assert_eq!(rt; content.as_slice(), [0u8].as_slice());
-    assert_eq!(rt; input, " 0 rest");
-    input = "1 -1 \"s\" \"i\" rest";
-    let acl = read_acl(rt.alloc(), &mut input)?;
-    assert_eq!(rt; input, " rest");
-    assert_eq!(rt; acl.as_slice().len(), 1);
-    for entry in acl.as_slice() {
-        assert_eq!(rt; entry.perms, -1);
-        assert_eq!(rt; entry.id.scheme.as_str(), "s");
-        assert_eq!(rt; entry.id.id.as_str(), "i");
+/// Whether a content is read, and this is left.
+fn reads_content(alloc: Global, mut input: &str, bytes: &[u8], rest: &str) -> bool {
+    matches!(read_content(alloc, &mut input), Ok(Some(content)) if content.as_slice() == bytes)
+        && input == rest
+}
+
+/// Whether this is the only entry of a list.
+fn is_only(entries: &[Acl], perms: i32, scheme: &str, id: &str) -> bool {
+    match entries {
+        [entry] => {
+            entry.perms == perms && entry.id.scheme.as_str() == scheme && entry.id.id.as_str() == id
+        }
+        _ => false,
     }
-    Ok(())
+}
+
+/// Whether a list with this entry is read, and this is left.
+fn reads_acl(alloc: Global, mut input: &str, perms: i32, rest: &str) -> bool {
+    matches!(read_acl(alloc, &mut input), Ok(acl) if is_only(acl.as_slice(), perms, "s", "i"))
+        && input == rest
+}
+
+#[test]
+fn contents_and_acls_are_read(rt: HostRuntime) {
+    assert!(rt; reads_content(rt.alloc(), "x00 0 rest", &[0], " 0 rest"));
+    assert!(rt; reads_acl(rt.alloc(), "1 -1 \"s\" \"i\" rest", -1, " rest"));
+}
+
+/// Whether no number is read of a text, and all of it is left.
+fn is_no_number(text: &str) -> bool {
+    let mut input = text;
+    let refused = read_id(&mut input).is_err()
+        && read_int(&mut input).is_err()
+        && read_long(&mut input).is_err();
+    refused && input == text
+}
+
+/// Whether neither a text nor a path nor a content is read of a text, and all of it is left.
+fn is_no_text(alloc: Global, text: &str) -> bool {
+    let mut input = text;
+    let refused = read_quoted(alloc, &mut input).is_err()
+        && read_path(alloc, &mut input).is_err()
+        && read_content(alloc, &mut input).is_err();
+    refused && input == text
+}
+
+/// Whether no access control list is read of a text, and all of it is left.
+fn is_no_acl(alloc: Global, text: &str) -> bool {
+    let mut input = text;
+    read_acl(alloc, &mut input).is_err() && input == text
 }
 
 #[test]
 fn refused_fields_stay(rt: HostRuntime) {
-    let mut input = "0A00000100000001 1";
-    assert!(rt; read_id(&mut input).is_err());
-    assert_eq!(rt; input, "0A00000100000001 1");
-    input = "+1 -";
-    assert!(rt; read_int(&mut input).is_err());
-    assert!(rt; read_long(&mut input).is_err());
-    assert!(rt; read_content(rt.alloc(), &mut input).is_err());
-    assert_eq!(rt; input, "+1 -");
-    input = "\"a\tb\" 1";
-    assert!(rt; read_quoted(rt.alloc(), &mut input).is_err());
-    assert!(rt; read_path(rt.alloc(), &mut input).is_err());
-    assert_eq!(rt; input, "\"a\tb\" 1");
-    input = "2 31 \"world\" \"anyone\" 31 world";
-    assert!(rt; read_acl(rt.alloc(), &mut input).is_err());
-    assert_eq!(rt; input, "2 31 \"world\" \"anyone\" 31 world");
+    for text in ["0A00000100000001 1", "+1 -"] {
+        assert!(rt; is_no_number(text), "{text:?}");
+    }
+    for text in ["\"a\tb\" 1", "+1 -"] {
+        assert!(rt; is_no_text(rt.alloc(), text), "{text:?}");
+    }
+    assert!(rt; is_no_acl(rt.alloc(), "2 31 \"world\" \"anyone\" 31 world"));
+}
+
+fn push_numbers(line: &mut String) -> Result<(), NoMemory> {
+    push_digits(line, 0x0123_4567_89ab_cdef)?;
+    push_id(line, -2)
+}
+
+fn push_texts(line: &mut String) -> Result<(), NoMemory> {
+    push_quoted(line, "/a b")?;
+    push_quoted(line, "\"\\\u{1}é")
 }
 
 #[test]
-fn numbers_and_texts_are_spelled(rt: HostRuntime) -> Result<(), Fail> {
+fn numbers_and_texts_are_spelled(rt: HostRuntime) {
     let mut line = String::new(rt.alloc());
-    push_digits(&mut line, 0x0123_4567_89ab_cdef)?;
-    push_id(&mut line, -2)?;
+    assert_eq!(rt; push_numbers(&mut line), Ok(()));
     assert_eq!(rt; line.as_str(), "0123456789abcdeffffffffffffffffe");
     line.clear();
-    push_quoted(&mut line, "/a b")?;
-    push_quoted(&mut line, "\"\\\u{1}é")?;
+    assert_eq!(rt; push_texts(&mut line), Ok(()));
     assert_eq!(rt; line.as_str(), "\"/a b\"\"\\\"\\\\\\u{1}é\"");
-    Ok(())
+}
+
+fn push_read_content(alloc: Global, line: &mut String, bytes: &[u8]) -> Result<(), NoMemory> {
+    push_content(line, &Some(Content::read(alloc, bytes)?))
+}
+
+fn push_open_acl(alloc: Global, line: &mut String) -> Result<(), NoMemory> {
+    push_acl(line, &for_anyone(alloc)?)
 }
 
 #[test]
-fn contents_and_acls_are_spelled(rt: HostRuntime) -> Result<(), Fail> {
+fn contents_and_acls_are_spelled(rt: HostRuntime) {
     let mut line = String::new(rt.alloc());
-    push_content(&mut line, &None)?;
-    push_content(&mut line, &Some(Content::read(rt.alloc(), b"hi")?))?;
-    push_acl(&mut line, &for_anyone(&rt)?)?;
+    assert_eq!(rt; push_content(&mut line, &None), Ok(()));
+    assert_eq!(rt; push_read_content(rt.alloc(), &mut line, b"hi"), Ok(()));
+    assert_eq!(rt; push_open_acl(rt.alloc(), &mut line), Ok(()));
     assert_eq!(rt; line.as_str(), "-x68691 31 \"world\" \"anyone\"");
-    Ok(())
 }
 
 #[test]
-fn stats_are_spelled(rt: HostRuntime) -> Result<(), Fail> {
+fn stats_are_spelled(rt: HostRuntime) {
     let mut line = String::new(rt.alloc());
-    push_stat(&mut line, &STAT)?;
+    assert_eq!(rt; push_stat(&mut line, &STAT), Ok(()));
     assert_eq!(rt; line.as_str(), STAT_TEXT);
-    Ok(())
 }
 
 const STAT: Stat = Stat {
@@ -346,11 +460,12 @@ const STAT: Stat = Stat {
 const STAT_TEXT: &str =
     "0000000000000001 0000000000000002 3 4 5 6 7 0000000000000008 9 10 000000000000000b";
 
-#[test]
-fn nodes_have_lines(rt: HostRuntime) -> Result<(), Fail> {
-    let node = Node {
-        content: Some(Content::read(rt.alloc(), b"hi")?),
-        acl: Acls::new(rt.alloc(), Vec::new(rt.alloc()))?,
+/// A node with this content.
+fn node_of(alloc: Global, bytes: &[u8]) -> Result<Node, NoMemory> {
+    let content = Some(Content::read(alloc, bytes)?);
+    Ok(Node {
+        content,
+        acl: Acls::new(alloc, Vec::new(alloc))?,
         czxid: 0,
         mzxid: 0,
         pzxid: 0,
@@ -360,39 +475,58 @@ fn nodes_have_lines(rt: HostRuntime) -> Result<(), Fail> {
         creates: 0,
         aversion: 0,
         owner: 0,
-    };
-    let path = Path::read(rt.alloc(), "/a")?;
-    let mut line = String::new(rt.alloc());
-    push_node_line(&mut line, &path, &node, &STAT)?;
-    let expected = format!(in rt.alloc(); "\"/a\" x6869 0 {STAT_TEXT}")?;
-    assert_eq!(rt; line.as_str(), expected.as_str());
-    Ok(())
+    })
 }
 
-fn part_result(rt: &HostRuntime) -> Result<PartResult, Fail> {
+/// The line of such a node.
+fn node_line(alloc: Global) -> Result<String, NoMemory> {
+    let mut line = String::new(alloc);
+    let node = node_of(alloc, b"hi")?;
+    push_node_line(&mut line, &path_of(alloc, "/a")?, &node, &STAT)?;
+    Ok(line)
+}
+
+const NODE_LINE: &str =
+    "\"/a\" x6869 0 0000000000000001 0000000000000002 3 4 5 6 7 0000000000000008 9 10 000000000000000b";
+
+#[test]
+fn nodes_have_lines(rt: HostRuntime) {
+    assert!(rt; is_text(node_line(rt.alloc()).ok(), NODE_LINE));
+}
+
+fn part_result(alloc: Global) -> Result<PartResult, NoMemory> {
+    let path = path_of(alloc, "/t")?;
     Ok(PartResult {
         err: 0,
-        path: Some(Path::read(rt.alloc(), "/t")?),
+        path: Some(path),
         stat: None,
     })
 }
 
-#[test]
-fn results_have_lines(rt: HostRuntime) -> Result<(), Fail> {
-    let mut parts = Vec::new(rt.alloc());
-    parts.push(part_result(&rt)?)?;
-    parts.push(part_result(&rt)?)?;
+fn part_results(alloc: Global) -> Result<PartResults, NoMemory> {
+    let mut parts = Vec::new(alloc);
+    parts.push(part_result(alloc)?)?;
+    parts.push(part_result(alloc)?)?;
+    Ok(PartResults::new(parts))
+}
+
+/// The line of an answer to a multi.
+fn result_line(alloc: Global) -> Result<String, NoMemory> {
     let answer = TxnResult {
         zxid: 0x1_0000_0004,
         err: 0,
         path: None,
         stat: None,
-        parts: PartResults::new(parts),
+        parts: part_results(alloc)?,
     };
-    let mut line = String::new(rt.alloc());
+    let mut line = String::new(alloc);
     push_result_line(&mut line, &answer)?;
-    assert_eq!(rt; line.as_str(), RESULT_LINE);
-    Ok(())
+    Ok(line)
 }
 
 const RESULT_LINE: &str = "result 0000000100000004 0 - - ; 0 \"/t\" - ; 0 \"/t\" -";
+
+#[test]
+fn results_have_lines(rt: HostRuntime) {
+    assert!(rt; is_text(result_line(rt.alloc()).ok(), RESULT_LINE));
+}

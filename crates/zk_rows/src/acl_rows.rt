@@ -1,7 +1,6 @@
 //! Rows of `zk_acl`.
 
 use std::alloc::Global;
-use std::test::Fail;
 use zk_acl::{Acl, Acls, Id, Text};
 use zk_path::NoMemory;
 
@@ -27,9 +26,8 @@ fn copied_entry(alloc: Global, perms: i32) -> Result<Acl, NoMemory> {
 }
 
 #[test]
-fn copies_are_the_same(rt: HostRuntime) -> Result<(), Fail> {
-    assert!(rt; is_for_anyone(&copied_entry(rt.alloc(), 1)?, 1));
-    Ok(())
+fn copies_are_the_same(rt: HostRuntime) {
+    assert!(rt; matches!(copied_entry(rt.alloc(), 1), Ok(acl) if is_for_anyone(&acl, 1)));
 }
 
 /// A list of these entries, by its copy.
@@ -41,11 +39,16 @@ fn copied_list(alloc: Global, perms: &[i32]) -> Result<Acls, NoMemory> {
     Acls::new(alloc, entries)?.copy()
 }
 
-#[test]
-fn copied_list_outlives_the_first(rt: HostRuntime) -> Result<(), Fail> {
-    match copied_list(rt.alloc(), &[31, 1])?.as_slice() {
-        [first, second] => assert!(rt; is_for_anyone(first, 31) && is_for_anyone(second, 1)),
-        _ => return Err("two entries".into()),
+/// Whether these entries let everyone do this, and that.
+fn are_for_anyone(entries: &[Acl], one: i32, other: i32) -> bool {
+    match entries {
+        [first, second] => is_for_anyone(first, one) && is_for_anyone(second, other),
+        _ => false,
     }
-    Ok(())
+}
+
+#[test]
+fn copied_list_outlives_the_first(rt: HostRuntime) {
+    let list = copied_list(rt.alloc(), &[31, 1]).expect(&rt, "memory");
+    assert!(rt; are_for_anyone(list.as_slice(), 31, 1));
 }

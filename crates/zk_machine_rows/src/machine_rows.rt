@@ -14,6 +14,11 @@ use zk_tree::Tree;
 // What is applied is written as a listing. What stands there, and what is answered, is compared as it is shown for
 // debugging, field by field.
 
+/// A machine in the start state.
+fn new_machine(alloc: Global) -> Result<Machine, MachineFault> {
+    Ok(Machine::new(alloc)?)
+}
+
 /// The transactions of a listing.
 fn txns_of(alloc: Global, listing: &str) -> Result<Vec<Txn>, NoMemory> {
     assemble(alloc, listing).map_err(|_| NoMemory)
@@ -158,7 +163,7 @@ fn agree_on(
 
 /// Whether a new machine and a new table agree on a listing.
 fn agree(alloc: Global, listing: &str) -> Result<bool, MachineFault> {
-    let mut machine = Machine::new(alloc)?;
+    let mut machine = new_machine(alloc)?;
     let mut plain = Plain::new(alloc)?;
     let txns = txns_of(alloc, listing)?;
     agree_on(alloc, &mut machine, &mut plain, txns.as_slice())
@@ -201,7 +206,7 @@ fn shown_step(
 
 /// What a new machine changes, and what it is then.
 fn first_step(alloc: Global, txn: &Txn) -> Result<String, MachineFault> {
-    let mut machine = Machine::new(alloc)?;
+    let mut machine = new_machine(alloc)?;
     let applied = applied(&mut machine, txn)?;
     shown_step(alloc, &machine, applied.changes.as_slice())
 }
@@ -268,7 +273,7 @@ fn both_come_back(
 
 /// Whether this is so of the two transactions of a listing.
 fn two_come_back(alloc: Global, listing: &str) -> Result<bool, MachineFault> {
-    let mut machine = Machine::new(alloc)?;
+    let mut machine = new_machine(alloc)?;
     match txns_of(alloc, listing)?.as_slice() {
         [first, second] => both_come_back(alloc, &mut machine, first, second),
         _ => Ok(false),
@@ -304,7 +309,7 @@ fn all_come_back(alloc: Global, machine: &mut Machine, txns: &[Txn]) -> Result<b
 
 /// Whether this is so of each transaction of a listing.
 fn each_comes_back(alloc: Global, listing: &str) -> Result<bool, MachineFault> {
-    let mut machine = Machine::new(alloc)?;
+    let mut machine = new_machine(alloc)?;
     all_come_back(alloc, &mut machine, txns_of(alloc, listing)?.as_slice())
 }
 
@@ -342,7 +347,7 @@ fn push_all_changes(
 
 /// What each transaction of a listing changes.
 fn changes_of(alloc: Global, listing: &str) -> Result<String, MachineFault> {
-    let mut machine = Machine::new(alloc)?;
+    let mut machine = new_machine(alloc)?;
     let mut text = String::new(alloc);
     push_all_changes(&mut text, &mut machine, txns_of(alloc, listing)?.as_slice())?;
     Ok(text)

@@ -45,6 +45,15 @@ fn can_change(tree: &Tree, path: &Path, node: &Node) -> bool
     old.owner == node.owner
 }
 
+/// The start tree.
+fn new_tree(alloc: Global) -> Result<Tree, NoMemory> {
+    Tree::new(alloc)
+}
+
+fn path_of(alloc: Global, text: &str) -> Result<Path, NoMemory> {
+    Path::read(alloc, text).map_err(|_| NoMemory)
+}
+
 /// Whether these are the paths of these texts.
 fn are(paths: &[Path], texts: &[&str]) -> bool {
     paths.len() == texts.len()
@@ -103,16 +112,12 @@ fn comes_and_goes(tree: &mut Tree, path: &Path, node: Node) -> Result<bool, NoMe
     Ok(put && owned && owner == Some(5) && gone && empty)
 }
 
-/// The same at this path of a new tree.
-fn is_owned_until_taken(alloc: Global, path: &Path) -> Result<bool, NoMemory> {
-    let node = node_of(alloc, 5, 0)?;
-    comes_and_goes(&mut Tree::new(alloc)?, path, node)
-}
-
 #[test]
 fn a_session_owns_its_node_until_it_is_taken(rt: HostRuntime) {
-    let path = Path::read(rt.alloc(), "/x").expect(&rt, "a path");
-    assert_eq!(rt; is_owned_until_taken(rt.alloc(), &path), Ok(true));
+    let mut tree = new_tree(rt.alloc()).expect(&rt, "memory");
+    let path = path_of(rt.alloc(), "/x").expect(&rt, "a path");
+    let node = node_of(rt.alloc(), 5, 0).expect(&rt, "memory");
+    assert_eq!(rt; comes_and_goes(&mut tree, &path, node), Ok(true));
 }
 
 /// Whether the start tree has these paths, and this path these children.
@@ -128,8 +133,8 @@ fn has_paths(
 
 #[test]
 fn the_start_tree_answers(rt: HostRuntime) {
-    let tree = Tree::new(rt.alloc()).expect(&rt, "memory");
-    let path = Path::read(rt.alloc(), "/zookeeper").expect(&rt, "a path");
+    let tree = new_tree(rt.alloc()).expect(&rt, "memory");
+    let path = path_of(rt.alloc(), "/zookeeper").expect(&rt, "a path");
     let paths = ["/", "/zookeeper", "/zookeeper/quota"];
     assert_eq!(rt;
         has_paths(&tree, &paths, &path, &["/zookeeper/quota"]),
@@ -139,34 +144,56 @@ fn the_start_tree_answers(rt: HostRuntime) {
     assert_eq!(rt; owns(&tree, 0, &[]), Ok(true));
 }
 
+/// The owner of the node at the path of a text.
+fn owner_by(tree: &Tree, text: &str) -> Option<i64> {
+    match tree.get_by_text(text) {
+        Some(node) => Some(node.owner),
+        None => None,
+    }
+}
+
+/// The version of the node at the path of a text, where that path is told too.
+fn version_by(tree: &Tree, text: &str) -> Option<i32> {
+    match tree.entry_by_text(text) {
+        Some((path, node)) if path.text() == text => Some(node.version),
+        _ => None,
+    }
+}
+
+/// Whether there is no entry at the path of a text.
+fn has_none(tree: &Tree, text: &str) -> bool {
+    tree.entry_by_text(text).is_none()
+}
+
 #[test]
 fn texts_find_nodes_and_paths(rt: HostRuntime) {
-    let tree = Tree::new(rt.alloc()).expect(&rt, "memory");
-    assert!(rt; matches!(tree.get_by_text("/zookeeper"), Some(node) if node.owner == 0));
-    assert!(rt;
-        matches!(
-            tree.entry_by_text("/zookeeper/quota"),
-            Some((path, node)) if path.text() == "/zookeeper/quota" && node.version == 0
-        )
-    );
-    assert!(rt; tree.entry_by_text("/quota").is_none());
+    let tree = new_tree(rt.alloc()).expect(&rt, "memory");
+    assert_eq!(rt; owner_by(&tree, "/zookeeper"), Some(0));
+    assert_eq!(rt; version_by(&tree, "/zookeeper/quota"), Some(0));
+    assert!(rt; has_none(&tree, "/quota"));
+}
+
+/// How many children a stat counts, and how often they changed.
+fn counts_of(tree: &Tree, path: &Path) -> Option<(i32, i32)> {
+    match tree.stat(path) {
+        Some(stat) => Some((stat.num_children, stat.cversion)),
+        None => None,
+    }
 }
 
 #[test]
 fn a_stat_counts_children(rt: HostRuntime) {
-    let tree = Tree::new(rt.alloc()).expect(&rt, "memory");
-    let path = Path::read(rt.alloc(), "/zookeeper").expect(&rt, "a path");
-    assert!(rt;
-        matches!(tree.stat(&path), Some(stat) if stat.num_children == 1 && stat.cversion == -1)
-    );
-    let absent = Path::read(rt.alloc(), "/x").expect(&rt, "a path");
-    assert!(rt; tree.stat(&absent).is_none());
+    let tree = new_tree(rt.alloc()).expect(&rt, "memory");
+    let path = path_of(rt.alloc(), "/zookeeper").expect(&rt, "a path");
+    assert_eq!(rt; counts_of(&tree, &path), Some((1, -1)));
+    let absent = path_of(rt.alloc(), "/x").expect(&rt, "a path");
+    assert_eq!(rt; counts_of(&tree, &absent), None);
 }
 
 #[test]
 fn a_change_gives_the_old_node(rt: HostRuntime) {
-    let mut tree = Tree::new(rt.alloc()).expect(&rt, "memory");
-    let path = Path::read(rt.alloc(), "/zookeeper").expect(&rt, "a path");
+    let mut tree = new_tree(rt.alloc()).expect(&rt, "memory");
+    let path = path_of(rt.alloc(), "/zookeeper").expect(&rt, "a path");
     let node = node_of(rt.alloc(), 0, 3).expect(&rt, "memory");
     assert_eq!(rt; version_of_changed(&mut tree, &path, node), Some(0));
     assert!(rt; matches!(tree.get(&path), Some(node) if node.version == 3));
@@ -175,7 +202,7 @@ fn a_change_gives_the_old_node(rt: HostRuntime) {
 
 #[test]
 fn a_refused_put_is_want_of_memory(rt: HostRuntime) {
-    let path = Path::read(rt.alloc(), "/x").expect(&rt, "a path");
+    let path = path_of(rt.alloc(), "/x").expect(&rt, "a path");
     let node = node_of(rt.alloc(), 0, 0).expect(&rt, "memory");
     assert_eq!(rt; NoMemory::from(Refused { path, node }), NoMemory);
 }
