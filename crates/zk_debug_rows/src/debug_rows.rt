@@ -24,7 +24,7 @@ const WITH_EACH_KIND: &str = "0000000100000001 0100000000000001 0 1000 createSes
     000000010000000a 0300000000000001 0 10000 createSession 4000\n";
 
 /// A move.
-#[derive(Clone, Copy, Debug)]
+#[derive(Clone, Copy)]
 enum Move {
     Step,
     Back,
@@ -33,18 +33,15 @@ enum Move {
     Goto(i64),
 }
 
-/// What is shown at a place.
-struct Shown {
-    zxid: i64,
-    last: &'static str,
-    root: &'static str,
-    a: &'static str,
-    paths: usize,
-    sessions: usize,
-}
+/// A move, and what it answers: the place and the lowest number that it matches, or a refusal.
+type Moved = (Move, Result<(usize, Option<u32>), DebugFault>);
+
+/// What is shown at a place: its zxid, the line of the last result and those of `/` and `/a`, and how many nodes and
+/// sessions there are.
+type Shown = (i64, [&'static str; 3], usize, usize);
 
 /// What is looked for.
-#[derive(Clone, Copy, Debug)]
+#[derive(Clone, Copy)]
 enum Sought {
     At(i64),
     Path(&'static str),
@@ -55,51 +52,60 @@ enum Sought {
 
 /// What is shown at the places of the listing with a multi.
 const PLACES: [Shown; 5] = [
-    Shown {
-        zxid: 0,
-        last: "none",
-        root: "\"/\" x 1 31 \"world\" \"anyone\" 0000000000000000 0000000000000000 0 0 0 -1 0 0000000000000000 0 1 0000000000000000",
-        a: "none",
-        paths: 3,
-        sessions: 0,
-    },
-    Shown {
-        zxid: 0x1_0000_0001,
-        last: "result 0000000100000001 0 - -",
-        root: "\"/\" x 1 31 \"world\" \"anyone\" 0000000000000000 0000000000000000 0 0 0 -1 0 0000000000000000 0 1 0000000000000000",
-        a: "none",
-        paths: 3,
-        sessions: 1,
-    },
-    Shown {
-        zxid: 0x1_0000_0002,
-        last: "result 0000000100000002 0 \"/a\" -",
-        root: "\"/\" x 1 31 \"world\" \"anyone\" 0000000000000000 0000000000000000 0 0 0 0 0 0000000000000000 0 2 0000000100000002",
-        a: "\"/a\" x6869 1 31 \"world\" \"anyone\" 0000000100000002 0000000100000002 2000 2000 0 0 0 0000000000000000 2 0 0000000100000002",
-        paths: 4,
-        sessions: 1,
-    },
-    Shown {
-        zxid: 0x1_0000_0004,
-        last: "result 0000000100000004 0 - - ; 0 \"/t\" - ; 0 \"/t\" -",
-        root: "\"/\" x 1 31 \"world\" \"anyone\" 0000000000000000 0000000000000000 0 0 0 2 0 0000000000000000 0 2 0000000100000004",
-        a: "\"/a\" x6869 1 31 \"world\" \"anyone\" 0000000100000002 0000000100000002 2000 2000 0 0 0 0000000000000000 2 0 0000000100000002",
-        paths: 4,
-        sessions: 1,
-    },
-    Shown {
-        zxid: 0x1_0000_0005,
-        last: "result 0000000100000005 -110 \"/a\" -",
-        root: "\"/\" x 1 31 \"world\" \"anyone\" 0000000000000000 0000000000000000 0 0 0 2 0 0000000000000000 0 2 0000000100000004",
-        a: "\"/a\" x6869 1 31 \"world\" \"anyone\" 0000000100000002 0000000100000002 2000 2000 0 0 0 0000000000000000 2 0 0000000100000002",
-        paths: 4,
-        sessions: 1,
-    },
+    (
+        0,
+        [
+            "none",
+            "\"/\" x 1 31 \"world\" \"anyone\" 0000000000000000 0000000000000000 0 0 0 -1 0 0000000000000000 0 1 0000000000000000",
+            "none",
+        ],
+        3,
+        0,
+    ),
+    (
+        0x1_0000_0001,
+        [
+            "result 0000000100000001 0 - -",
+            "\"/\" x 1 31 \"world\" \"anyone\" 0000000000000000 0000000000000000 0 0 0 -1 0 0000000000000000 0 1 0000000000000000",
+            "none",
+        ],
+        3,
+        1,
+    ),
+    (
+        0x1_0000_0002,
+        [
+            "result 0000000100000002 0 \"/a\" -",
+            "\"/\" x 1 31 \"world\" \"anyone\" 0000000000000000 0000000000000000 0 0 0 0 0 0000000000000000 0 2 0000000100000002",
+            "\"/a\" x6869 1 31 \"world\" \"anyone\" 0000000100000002 0000000100000002 2000 2000 0 0 0 0000000000000000 2 0 0000000100000002",
+        ],
+        4,
+        1,
+    ),
+    (
+        0x1_0000_0004,
+        [
+            "result 0000000100000004 0 - - ; 0 \"/t\" - ; 0 \"/t\" -",
+            "\"/\" x 1 31 \"world\" \"anyone\" 0000000000000000 0000000000000000 0 0 0 2 0 0000000000000000 0 2 0000000100000004",
+            "\"/a\" x6869 1 31 \"world\" \"anyone\" 0000000100000002 0000000100000002 2000 2000 0 0 0 0000000000000000 2 0 0000000100000002",
+        ],
+        4,
+        1,
+    ),
+    (
+        0x1_0000_0005,
+        [
+            "result 0000000100000005 -110 \"/a\" -",
+            "\"/\" x 1 31 \"world\" \"anyone\" 0000000000000000 0000000000000000 0 0 0 2 0 0000000000000000 0 2 0000000100000004",
+            "\"/a\" x6869 1 31 \"world\" \"anyone\" 0000000100000002 0000000100000002 2000 2000 0 0 0 0000000000000000 2 0 0000000100000002",
+        ],
+        4,
+        1,
+    ),
 ];
 
-/// Moves over that listing, with a breakpoint on `/t` and one at the multi, and their answers: the place and the hit, or
-/// the refusal.
-const MOVES: [(Move, Result<(usize, Option<u32>), DebugFault>); 18] = [
+/// Moves over that listing, with a breakpoint on `/t` and one at the multi.
+const MOVES: [Moved; 18] = [
     (Move::Run, Ok((3, Some(1)))),
     (Move::Step, Ok((4, None))),
     (Move::Step, Err(DebugFault::AtEnd)),
@@ -191,25 +197,74 @@ fn node_line(rt: &HostRuntime, debugger: &Debugger, path: &str) -> Result<String
     Ok(line)
 }
 
-/// Whether the place shows what it should.
-fn is_shown(rt: &HostRuntime, debugger: &Debugger) -> Result<bool, Fail> {
-    let Some(shown) = PLACES.get(debugger.place()) else {
-        return Ok(false);
-    };
+/// Whether these lines are shown.
+fn are_lines(rt: &HostRuntime, debugger: &Debugger, lines: &[&str; 3]) -> Result<bool, Fail> {
     let last = last_line(rt, debugger)?;
     let root = node_line(rt, debugger, "/")?;
     let a = node_line(rt, debugger, "/a")?;
+    Ok([last.as_str(), root.as_str(), a.as_str()] == *lines)
+}
+
+/// Whether the place shows what it should.
+fn is_shown(rt: &HostRuntime, debugger: &Debugger, places: &[Shown]) -> Result<bool, Fail> {
+    let Some((zxid, lines, paths, sessions)) = places.get(debugger.place()) else {
+        return Ok(false);
+    };
     let machine = debugger.tree()?;
-    let paths = machine.tree()?.paths()?.len();
-    let sessions = machine.sessions()?.len();
-    Ok(
-        debugger.zxid() == shown.zxid
-            && last.as_str() == shown.last
-            && root.as_str() == shown.root
-            && a.as_str() == shown.a
-            && paths == shown.paths
-            && sessions == shown.sessions,
-    )
+    let counts = (
+        debugger.zxid(),
+        machine.tree()?.paths()?.len(),
+        machine.sessions()?.len(),
+    );
+    Ok(are_lines(rt, debugger, lines)? && counts == (*zxid, *paths, *sessions))
+}
+
+/// Whether each move answers what it should, and shows it.
+fn are_moved(
+    rt: &HostRuntime,
+    debugger: &mut Debugger,
+    moves: &[Moved],
+    places: &[Shown],
+) -> Result<bool, Fail> {
+    for (the_move, answer) in moves {
+        let answer = answer.map(|(place, hit)| Stop { place, hit });
+        if make(debugger, *the_move) != answer || !is_shown(rt, debugger, places)? {
+            return Ok(false);
+        }
+    }
+    Ok(true)
+}
+
+/// Where a breakpoint is met first above the start, and last below the end.
+fn meetings(
+    rt: &HostRuntime,
+    debugger: &mut Debugger,
+    sought: Sought,
+) -> Result<(usize, usize), Fail> {
+    debugger.reset()?;
+    let number = debugger.set(breakpoint(rt, sought)?)?;
+    let first = debugger.run()?;
+    debugger.goto(i64::MAX)?;
+    let last = debugger.run_back()?;
+    debugger.clear(number)?;
+    if first.hit != Some(number) || last.hit != Some(number) {
+        return Err(Fail::from("it hit another one"));
+    }
+    Ok((first.place, last.place))
+}
+
+/// Whether each is met where it should be.
+fn are_met(
+    rt: &HostRuntime,
+    debugger: &mut Debugger,
+    rows: &[(Sought, usize, usize)],
+) -> Result<bool, Fail> {
+    for (sought, first, last) in rows {
+        if meetings(rt, debugger, *sought)? != (*first, *last) {
+            return Ok(false);
+        }
+    }
+    Ok(true)
 }
 
 #[test]
@@ -217,12 +272,8 @@ fn debug_script_over_a_multi(rt: HostRuntime) -> Result<(), Fail> {
     let mut debugger = debugger_over(&rt, WITH_A_MULTI)?;
     assert_eq!(rt; debugger.set(breakpoint(&rt, Sought::Path("/t"))?)?, 1);
     assert_eq!(rt; debugger.set(Breakpoint::At(0x1_0000_0004))?, 2);
-    assert!(rt; is_shown(&rt, &debugger)?);
-    for (the_move, answer) in MOVES {
-        let answer = answer.map(|(place, hit)| Stop { place, hit });
-        assert_eq!(rt; make(&mut debugger, the_move), answer, "{the_move:?}");
-        assert!(rt; is_shown(&rt, &debugger)?, "{the_move:?}");
-    }
+    assert!(rt; is_shown(&rt, &debugger, &PLACES)?);
+    assert!(rt; are_moved(&rt, &mut debugger, &MOVES, &PLACES)?);
     assert_eq!(rt; debugger.clear(3), Err(DebugFault::NoBreakpoint));
     Ok(())
 }
@@ -230,19 +281,7 @@ fn debug_script_over_a_multi(rt: HostRuntime) -> Result<(), Fail> {
 #[test]
 fn each_breakpoint_is_met_forwards_and_backwards(rt: HostRuntime) -> Result<(), Fail> {
     let mut debugger = debugger_over(&rt, WITH_EACH_KIND)?;
-    for (sought, first, last) in MEETINGS {
-        debugger.reset()?;
-        let number = debugger.set(breakpoint(&rt, sought)?)?;
-        let hit = Some(number);
-        assert_eq!(rt; debugger.run()?, Stop { place: first, hit }, "{sought:?}");
-        debugger.goto(i64::MAX)?;
-        assert_eq!(rt;
-            debugger.run_back()?,
-            Stop { place: last, hit },
-            "{sought:?}"
-        );
-        debugger.clear(number)?;
-    }
+    assert!(rt; are_met(&rt, &mut debugger, &MEETINGS)?);
     Ok(())
 }
 
