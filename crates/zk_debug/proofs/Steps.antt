@@ -13,7 +13,7 @@ use Rattle.zk_table.specs.Histories.{state_after, tree_of}
 use Rattle.zk_table.specs.States.{State, start_state}
 use Rattle.zk_table.specs.Steps.{step}
 use Rattle.zk_debug.specs.Debugging.{state_at, machine_at, txn_at, result_at, changes_at}
-use Rattle.zk_debug.specs.Walks.{IsStepFrom, IsWalkTo}
+use Rattle.zk_debug.specs.Walks.{IsStepFrom, IsWalkTo, TakesStep}
 
 -- ---- the state one transaction later
 
@@ -46,29 +46,40 @@ module _ {A : Type 0} where
 same_machine : (m : MachineView) (txns : List Txn) (place : ℕ) → m.state ≡ state_at txns place → m.steps ≡ place → m.failed ≡ false → m ≡ machine_at txns place
 same_machine m txns place s n f i = record { state = s i; steps = n i; failed = f i }
 
-module _ (txns : List Txn) (place : ℕ) (m m' : MachineView) (steps : List Applied) (txn : Txn) (applied : Applied) (to : IsWalkTo txns place m steps) (below : place < length txns) (is : txn ≡ get_or txns place txn) where
-  pub walked_on : (m'.state, applied.result) ≡ step m.state txn → applied.changes.items ≡ changes_of m.state txn → restored applied.undo m'.state ≡ m.state → applied.undo.step ≡ m'.steps → IsState m.state.nodes → m'.steps ≡ m.steps + 1 → m'.failed ≡ false → IsWalkTo txns (place + 1) m' (steps ++ applied ∷ [])
-  walked_on stepped changed undone last_step stands counted ran =
-      let before : m.state ≡ state_at txns place = ap (λ m. m.state) to.at_place in
-      let after : m'.state ≡ state_at txns (place + 1) = ap (λ p. p.0) stepped ∙ ap (λ s. (step s txn).0) before ∙ sym (state_at-next txns place txn below is) in
-      let many : m'.steps ≡ place + 1 = counted ∙ ap (λ m. m.steps + 1) to.at_place in
-      let new : IsStepFrom txns place applied = record {
-        txn = txn;
-        found = slice_get-get_or txns place txn below ∙ ap Some (sym is);
-        result = ap (λ p. p.1) stepped ∙ ap (λ s. (step s txn).1) before;
-        changes = changed ∙ ap (λ s. changes_of s txn) before;
-        last_step = last_step ∙ many;
-        undone = ap (restored applied.undo) (sym after) ∙ undone ∙ before;
-        stands = subst (λ (s : State). IsState s.nodes) before stands;
-      } in
-      record {
-        at_place = same_machine m' txns (place + 1) after many ran;
-        counted = length-append steps (applied ∷ []) ∙ ap (λ n. n + 1) to.counted;
-        kept = λ at kept found. elim (last_or_before steps applied at kept found) as (λ _. IsStepFrom txns at kept) [
-          | inl e ↦ to.kept at kept e
-          | inr e ↦ subst (λ n. IsStepFrom txns n kept) (sym to.counted ∙ e.0) (subst (IsStepFrom txns place) e.1 new)
-        ];
-      }
+module _ (txns : List Txn) (place : ℕ) (m m' : MachineView) (steps steps' : List Applied) (txn : Txn) (to : IsWalkTo txns place m steps) (below : place < length txns) (is : txn ≡ get_or txns place txn) (taken : TakesStep m txn m' steps steps') where
+  before_step : m.state ≡ state_at txns place
+  before_step = ap (λ m. m.state) to.at_place
+
+  after_step : m'.state ≡ state_at txns (place + 1)
+  after_step = ap (λ p. p.0) taken.stepped ∙ ap (λ s. (step s txn).0) before_step ∙ sym (state_at-next txns place txn below is)
+
+  one_more : m'.steps ≡ place + 1
+  one_more = taken.counted ∙ ap (λ m. m.steps + 1) to.at_place
+
+  new_step : IsStepFrom txns place taken.applied
+  new_step = record {
+    txn = txn;
+    found = slice_get-get_or txns place txn below ∙ ap Some (sym is);
+    result = ap (λ p. p.1) taken.stepped ∙ ap (λ s. (step s txn).1) before_step;
+    changes = taken.changes ∙ ap (λ s. changes_of s txn) before_step;
+    last_step = taken.last_step ∙ one_more;
+    undone = ap (restored taken.applied.undo) (sym after_step) ∙ taken.undone ∙ before_step;
+    stands = subst (λ (s : State). IsState s.nodes) before_step taken.stands;
+  }
+
+  all_kept : (at : ℕ) (applied : Applied) → slice_get (steps ++ taken.applied ∷ []) at ≡ Some applied → IsStepFrom txns at applied
+  all_kept at applied found =
+      elim (last_or_before steps taken.applied at applied found) as (λ _. IsStepFrom txns at applied) [
+        | inl e ↦ to.kept at applied e
+        | inr e ↦ subst (λ n. IsStepFrom txns n applied) (sym to.counted ∙ e.0) (subst (IsStepFrom txns place) e.1 new_step)
+      ]
+
+  pub walked_on : IsWalkTo txns (place + 1) m' steps'
+  walked_on = subst (IsWalkTo txns (place + 1) m') (sym taken.kept) (record {
+    at_place = same_machine m' txns (place + 1) after_step one_more taken.ran;
+    counted = length-append steps (taken.applied ∷ []) ∙ ap (λ n. n + 1) to.counted;
+    kept = all_kept;
+  })
 
 module _ (txns : List Txn) (place : ℕ) (m : MachineView) (steps rest : List Applied) (applied : Applied) (to : IsWalkTo txns place m steps) (popped : steps ≡ rest ++ applied ∷ []) where
   one_less : place ≡ length rest + 1

@@ -1,5 +1,5 @@
 -- A machine that walks along a list of transactions, and what it keeps of its steps so that it can go back.
-use Rattle.std.specs.Prelude.{◌≡◌, ◌+◌, ◌≤◌, ℕ, List, Bool, false, Some, length, slice_get}
+use Rattle.std.specs.Prelude.{◌≡◌, ◌+◌, ◌≤◌, ℕ, List, [], ◌∷◌, ◌++◌, Bool, false, Some, length, slice_get}
 use Rattle.zk_machine.specs.declared.applied.Applied.{Applied}
 use Rattle.zk_machine.specs.Changes.{changes_of}
 use Rattle.zk_machine.specs.Machines.{MachineView}
@@ -23,6 +23,18 @@ pub record IsStepFrom (txns : List Txn) (place : ℕ) (applied : Applied) : Type
   pub last_step : applied.undo.step ≡ place + 1
   pub undone : restored applied.undo (state_at txns (place + 1)) ≡ state_at txns place
   pub stands : IsState (state_at txns place).nodes
+
+-- a machine applied a transaction, and what it answered, changed and noted is kept behind the steps before
+pub record TakesStep (before : MachineView) (txn : Txn) (after : MachineView) (steps steps' : List Applied) : Type 0 where
+  pub applied : Applied
+  pub kept : steps' ≡ steps ++ applied ∷ []
+  pub stepped : (after.state, applied.result) ≡ step before.state txn
+  pub changes : applied.changes.items ≡ changes_of before.state txn
+  pub last_step : applied.undo.step ≡ after.steps
+  pub undone : restored applied.undo after.state ≡ before.state
+  pub stands : IsState before.state.nodes
+  pub counted : after.steps ≡ before.steps + 1
+  pub ran : after.failed ≡ false
 
 -- the machine stands at the place, and each step to it is kept
 pub record IsWalkTo (txns : List Txn) (place : ℕ) (machine : MachineView) (steps : List Applied) : Type 0 where

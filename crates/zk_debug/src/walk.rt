@@ -1,5 +1,6 @@
-ghost use Rattle.std.specs.Prelude.{◌≡◌, ◌<◌, ◌≤◌, ◌+◌, true, false, length, option_map, IfOk, OnOk, OnErr};
+ghost use Rattle.std.specs.Prelude.{◌≡◌, ◌<◌, ◌≤◌, ◌+◌, ◌-◌, ◌^◌, true, false, length, option_map, IfOk, OnOk, OnErr};
 ghost use Rattle.zk_debug.specs.Debugging.{machine_at, txn_at, result_at, changes_at, zxid_at, up_to};
+ghost use Rattle.zk_debug.specs.Walks.{TakesStep};
 
 use std::alloc::Global;
 use std::marker::Model;
@@ -71,12 +72,7 @@ impl Walk {
         ensures failed { OnErr result (self.new ≡ record self.old { place = began; failed = true }) }
     {
         let txn = &self.txns.as_slice()[self.place];
-        let Ok(applied) = self.machine.apply(txn) else {
-            self.failed = true;
-            self.place = began;
-            return Err(NoMemory);
-        };
-        let Ok(()) = self.steps.push(applied) else {
+        let Ok(()) = take_step(&mut self.machine, &mut self.steps, txn) else {
             self.failed = true;
             self.place = began;
             return Err(NoMemory);
@@ -211,4 +207,17 @@ impl Walk {
             .filter(|txn| txn.zxid <= zxid)
             .count()
     }
+}
+
+/// Applies a transaction, and keeps what that answered and changed, and how it is taken back. After want of memory the
+/// machine may be a step ahead.
+fn take_step(machine: &mut Machine, steps: &mut Vec<Applied>, txn: &Txn) -> Result<(), NoMemory>
+    requires { machine.old.steps < 2 ^ 64 - 1 }
+    ensures { OnOk result (TakesStep machine.old txn.now machine.new steps.old.items steps.new.items) }
+{
+    let Ok(applied) = machine.apply(txn) else {
+        return Err(NoMemory);
+    };
+    steps.push(applied)?;
+    Ok(())
 }
