@@ -13,5 +13,5 @@ mod world;
 
 pub use event::{Event, Moved};
 pub use fault::WorldFault;
-pub use laws::one_entry_for_a_tag;
+pub use laws::{one_entry_for_a_tag, stable_part_outlasts_crashes};
 pub use world::World;

@@ -65,7 +65,8 @@ impl<P: Primary, Q: Quorums + Drop> World<P, Q> {
     ghost use Rattle.zab_world.specs.declared.event.Event.{Event};
     ghost use Rattle.zab_world.specs.declared.fault.WorldFault.TheVariants as faults;
     ghost use Rattle.zab_world.specs.Worlds.{new_world, happens, profile_of};
-    ghost use Rattle.zab_world.specs.Runs.{run, delivered_of, stable_of};
+    ghost use Rattle.zab_world.specs.Runs.{delivered_of, stable_of};
+    ghost use Rattle.zab_world.specs.Laws.{IsNextInRun};
 
     fn begin(alloc: Global, servers: usize, quorums: Q) -> Result<World<P, Q>, NoMemory>
         ensures { IfOk result (λ it. it ≡ record {
@@ -90,10 +91,9 @@ impl<P: Primary, Q: Quorums + Drop> World<P, Q> {
     pub fn step(&mut self, event: Event<P::Call>) -> Result<Moved, WorldFault>
         ensures acts { result ≢ Err faults.NoMemory → (self.new.world, result)
             ≡ happens (profile_of (Q.passes self.old.quorums) P.made_of P.tag_of P.closing_of) self.old.world event }
-        // It is one event of a run.
-        ensures run { result ≢ Err faults.NoMemory → (events : List (Event P.Call))
-            × ((self.old.world ≡ (run (profile_of (Q.passes self.old.quorums) P.made_of P.tag_of P.closing_of) self.old.servers events).0)
-            × (self.new.world ≡ (run (profile_of (Q.passes self.old.quorums) P.made_of P.tag_of P.closing_of) self.old.servers (events ++ event ∷ [])).0)) }
+        ensures run { result ≢ Err faults.NoMemory
+            → IsNextInRun (profile_of (Q.passes self.old.quorums) P.made_of P.tag_of P.closing_of) self.old.servers
+            self.old.world event self.new.world }
         ensures same { (self.new.quorums ≡ self.old.quorums) × (self.new.servers ≡ self.old.servers) }
         ensures fine { result ≢ Err faults.NoMemory → self.new.failed ≡ false }
         ensures fails { result ≡ Err faults.NoMemory → self.new.failed ≡ true }
@@ -149,6 +149,7 @@ impl<P: Primary, Q: Quorums + Drop + Copy> World<P, Q> {
     ghost use Rattle.std.specs.Prelude.{◌≡◌, false, IfOk};
     ghost use Rattle.zab_world.specs.Worlds.{profile_of};
     ghost use Rattle.zab_world.specs.Runs.{run};
+    ghost use Rattle.zab_world.specs.Laws.{IsTaggedOnce};
 
     /// A new world with this one's servers and quorums, after these events, and what each was answered.
     pub fn replay(
@@ -158,6 +159,8 @@ impl<P: Primary, Q: Quorums + Drop + Copy> World<P, Q> {
         requires { self.now.failed ≡ false }
         ensures run { IfOk result (λ told. (told.0.world, told.1.items)
             ≡ run (profile_of (Q.passes self.now.quorums) P.made_of P.tag_of P.closing_of) self.now.servers events.items) }
+        ensures tagged { IfOk result (λ _. IsTaggedOnce
+            (profile_of (Q.passes self.now.quorums) P.made_of P.tag_of P.closing_of) self.now.servers events.items) }
         ensures same { IfOk result (λ told. (told.0.quorums ≡ self.now.quorums)
             × ((told.0.servers ≡ self.now.servers) × (told.0.failed ≡ false))) }
     {

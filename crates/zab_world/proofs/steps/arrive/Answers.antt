@@ -8,7 +8,7 @@ pub returns-in_err-said : goal.returns-in_err-said
 returns-in_err-said g c = λ tags kept.
     let setting = setting_of (g.Q.Quorums.passes c.args.quorums.now) g.P.Primary.made_of g.P.Primary.tag_of in
     arrived setting (world c.args.places.now c.args.messages.now tags) (world c.hear.new.places c.args.messages.now tags)
-    c.args.messages.now c.args.number c.in-Some.message.now c.hear.result _
+    c.args.messages.now c.args.number c.in-Some.message.now c.hear.result (world c.hear.new.places c.args.messages.now tags, c.from_residual.result)
     (search rules)
     (c.hear.ensures c.args.messages.now tags (search rules))
     (search rules)

@@ -2,6 +2,7 @@ use Rattle.std.proofs.Common.{◌≢◌, Err, [], ◌∷◌, ◌++◌}
 use Rattle.zab_world.specs.declared.fault.WorldFault.TheVariants as faults
 use Rattle.zab_world.specs.Worlds.{profile_of, new_world}
 use Rattle.zab_world.proofs.RunLaws.{one_more}
+use Rattle.zab_world.proofs.TagRuns.{tagged_once}
 use Rattle.zab_world.proofs.world.World.step.Goals as goal
 
 pub invariant_of-self : goal.invariant_of-self
@@ -16,10 +17,10 @@ invariant_of-self g c = λ fine.
 pub returns-clause-run : goal.returns-clause-run
 returns-clause-run g c = rw (← c.self.view_is) (λ kept.
     let profile = profile_of (g.Q.Quorums.passes c.self.inside.quorums) g.P.Primary.made_of g.P.Primary.tag_of g.P.Primary.closing_of in
-    let reached = c.self.invariant c.if-self.false in (
-      reached.0,
-      (
-        reached.1,
-        one_more profile (new_world c.self.inside.servers) _ _ _ reached.0 c.args.event reached.1 (c.step-answer.ensures kept),
-      ),
-    ))
+    let reached = c.self.invariant c.if-self.false in
+    record {
+      events = reached.0;
+      reached = reached.1;
+      goes_on = one_more profile (new_world c.self.inside.servers) _ _ _ reached.0 c.args.event reached.1 (c.step-answer.ensures kept);
+      tagged = tagged_once profile g.met.P.Primary.made_tag c.self.inside.servers (reached.0 ++ c.args.event ∷ []);
+    })
