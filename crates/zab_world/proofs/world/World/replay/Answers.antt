@@ -1,8 +1,8 @@
 use Rattle.std.proofs.Common.{◌≡◌, ◌≢◌, Err, List, ap, subst, ◌∙◌}
-use Rattle.zab_world.specs.declared.fault.WorldFault.TheVariants as faults
-use Rattle.zab_world.specs.Worlds.{Answer, profile_of, happens}
-use Rattle.zab_world.proofs.RunLaws.{run_more}
-use Rattle.zab_world.proofs.TagRuns.{tagged_once}
+use Rattle.zab_runs.specs.declared.fault.WorldFault.TheVariants as faults
+use Rattle.zab_runs.specs.Worlds.{Answer, profile_of, happens}
+use Rattle.zab_runs.proofs.RunLaws.{run_more}
+use Rattle.zab_runs.proofs.TagRuns.{tagged_once}
 use Rattle.zab_world.proofs.world.World.replay.Goals as goal
 
 pub loop-event-preserved : goal.loop-event-preserved

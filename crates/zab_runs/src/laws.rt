@@ -1,9 +1,9 @@
 ghost use Rattle.std.specs.Prelude.{◌≡◌, ℕ, List};
-ghost use Rattle.zab_world.specs.declared.event.Event.{Event};
-ghost use Rattle.zab_world.specs.Laws.{IsTaggedOnce};
-ghost use Rattle.zab_world.specs.declared.event.Event.TheVariants as events;
-ghost use Rattle.zab_world.specs.Worlds.{World, happens, profile_of};
-ghost use Rattle.zab_world.specs.Runs.{stable_of};
+ghost use Rattle.zab_runs.specs.declared.event.Event.{Event};
+ghost use Rattle.zab_runs.specs.Laws.{IsTaggedOnce};
+ghost use Rattle.zab_runs.specs.declared.event.Event.TheVariants as events;
+ghost use Rattle.zab_runs.specs.Worlds.{World, happens, profile_of};
+ghost use Rattle.zab_runs.specs.Runs.{stable_of};
 
 use zab_broadcast::Primary;
 use zab_epoch::Quorums;

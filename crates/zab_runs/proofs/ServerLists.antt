@@ -1,11 +1,11 @@
 -- Servers in a list.
 use Rattle.std.proofs.Common.{◌≡◌, ◌≢◌, ℕ, suc, zero, ◌-◌, ◌<◌, Bool, true, false, cond, List, [], ◌∷◌, length, set, Option, Some, None, Result, Ok, Err, refl, sym, ap, ◌∙◌, arith, slice_get, length-set}
 use Rattle.std.proofs.lemmas.Bool.Decides.{nat_tests}
-use Rattle.zab_world.specs.declared.fault.WorldFault.{WorldFault}
-use Rattle.zab_world.specs.declared.fault.WorldFault.TheVariants as faults
-use Rattle.zab_world.specs.Standings.{Standing, standing}
-use Rattle.zab_world.specs.Worlds.{World, is_server, server_at, if_up, running, if_down, resting, with_server, crashed, crashes, restarts}
-use Rattle.zab_world.specs.Runs.{kept, stable_of}
+use Rattle.zab_runs.specs.declared.fault.WorldFault.{WorldFault}
+use Rattle.zab_runs.specs.declared.fault.WorldFault.TheVariants as faults
+use Rattle.zab_runs.specs.Standings.{Standing, standing}
+use Rattle.zab_runs.specs.Worlds.{World, is_server, server_at, if_up, running, if_down, resting, with_server, crashed, crashes, restarts}
+use Rattle.zab_runs.specs.Runs.{kept, stable_of}
 
 get_set_same : {A : Type 0} (xs : List A) (i : ℕ) (x y : A) → slice_get xs i ≡ Some x → slice_get (set xs i y) i ≡ Some y
 get_set_same [] i x y e = absurd cc

@@ -2,9 +2,9 @@
 use Rattle.std.specs.Prelude.{◌≡◌, ℕ, List, [], ◌∷◌, ◌++◌}
 use Rattle.std.specs.List.{Contains}
 use Rattle.zab_epoch.specs.declared.history.Entry.{Entry}
-use Rattle.zab_world.specs.declared.event.Event.{Event}
-use Rattle.zab_world.specs.Worlds.{World, Profile}
-use Rattle.zab_world.specs.Runs.{run, history_after}
+use Rattle.zab_runs.specs.declared.event.Event.{Event}
+use Rattle.zab_runs.specs.Worlds.{World, Profile}
+use Rattle.zab_runs.specs.Runs.{run, history_after}
 
 -- a tag belongs to one entry: over all histories that any servers have after any numbers of a run's events, entries with
 -- one tag are one entry

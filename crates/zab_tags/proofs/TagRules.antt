@@ -18,7 +18,7 @@ use Rattle.zab_broadcast.specs.declared.state.State.{State}
 use Rattle.zab_broadcast.specs.News.{proposals, commits, tells_all, entries_for, news}
 use Rattle.zab_broadcast.specs.Rules as rules
 use Rattle.zab_broadcast.specs.Rules.{Settled, settles, counted, raised, entered, is_next}
-use Rattle.zab_world.proofs.TagFacts.{Owners, AreOwned, IsOwned, SlotFact, BodyFact, MessageFact, SentFact, IsPast, Holds, ServerFact, ActsFact, idles, rises, by_test, all_append, all_set, all_replicate, all_drop}
+use Rattle.zab_tags.proofs.TagFacts.{Owners, AreOwned, IsOwned, SlotFact, BodyFact, MessageFact, SentFact, IsPast, Holds, ServerFact, ActsFact, idles, rises, by_test, all_append, all_set, all_replicate, all_drop}
 
 -- ---- messages
 

@@ -1,6 +1,6 @@
-use Rattle.zab_world.specs.Worlds.{profile_of}
-use Rattle.zab_world.proofs.TagRuns.{tagged_once}
-use Rattle.zab_world.proofs.laws.one_entry_for_a_tag.Goals as goal
+use Rattle.zab_runs.specs.Worlds.{profile_of}
+use Rattle.zab_runs.proofs.TagRuns.{tagged_once}
+use Rattle.zab_runs.proofs.laws.one_entry_for_a_tag.Goals as goal
 
 pub returns : goal.returns
 returns g c = λ servers events.

@@ -11,17 +11,17 @@ use Rattle.zab_epoch.specs.declared.role.Role.TheVariants.{Looking}
 use Rattle.zab_broadcast.specs.declared.state.State.{State}
 use Rattle.zab_broadcast.specs.Calls.{Setting, is_taken}
 use Rattle.zab_broadcast.specs.Rules as rules
-use Rattle.zab_world.specs.declared.event.Event.{Event}
-use Rattle.zab_world.specs.declared.event.Event.TheVariants.{Lead, Follow, Arrive, Submit, Expire, Crash, Restart}
-use Rattle.zab_world.specs.declared.fault.WorldFault.{WorldFault}
-use Rattle.zab_world.specs.Standings.{Standing, standing, new_server, new_servers}
-use Rattle.zab_world.specs.Worlds.{World, Profile, Answer, new_world, is_server, server_at, running, resting, told, said, with_server, acts, receives, message_at, arrives, spends, submits, crashed, crashes, restarts, happens}
-use Rattle.zab_world.specs.Runs.{after, history_list, history_of, history_after}
-use Rattle.zab_world.specs.Laws.{IsTaggedOnce}
-use Rattle.zab_world.proofs.ServerLists.{found, same_place, other_place, up_is, down_is}
-use Rattle.zab_world.proofs.TagFacts.{Owners, nobody, IsOwned, AreOwned, BodyFact, MessageFact, SentFact, ServerFact, ActsFact, Grows, grows_refl, grows_trans, owned_grows, messages_grow, idles, by_test, cases_eq, all_append, all_get, same_some, taken_last}
-use Rattle.zab_world.proofs.TagRules.{lead_fact, follow_fact, hears_c_epoch, hears_new_epoch, hears_ack_epoch, hears_new_leader, hears_ack_leader, hears_propose, hears_ack, hears_commit}
-use Rattle.zab_world.proofs.TagCalls.{CarriesTag, Spent, SpentBy, spent_more, Owes, owes_nothing, submit_owes, request_owes}
+use Rattle.zab_runs.specs.declared.event.Event.{Event}
+use Rattle.zab_runs.specs.declared.event.Event.TheVariants.{Lead, Follow, Arrive, Submit, Expire, Crash, Restart}
+use Rattle.zab_runs.specs.declared.fault.WorldFault.{WorldFault}
+use Rattle.zab_runs.specs.Standings.{Standing, standing, new_server, new_servers}
+use Rattle.zab_runs.specs.Worlds.{World, Profile, Answer, new_world, is_server, server_at, running, resting, told, said, with_server, acts, receives, message_at, arrives, spends, submits, crashed, crashes, restarts, happens}
+use Rattle.zab_runs.specs.Runs.{after, history_list, history_of, history_after}
+use Rattle.zab_runs.specs.Laws.{IsTaggedOnce}
+use Rattle.zab_runs.proofs.ServerLists.{found, same_place, other_place, up_is, down_is}
+use Rattle.zab_tags.proofs.TagFacts.{Owners, nobody, IsOwned, AreOwned, BodyFact, MessageFact, SentFact, ServerFact, ActsFact, Grows, grows_refl, grows_trans, owned_grows, messages_grow, idles, by_test, cases_eq, all_append, all_get, same_some, taken_last}
+use Rattle.zab_tags.proofs.TagRules.{lead_fact, follow_fact, hears_c_epoch, hears_new_epoch, hears_ack_epoch, hears_new_leader, hears_ack_leader, hears_propose, hears_ack, hears_commit}
+use Rattle.zab_tags.proofs.TagCalls.{CarriesTag, Spent, SpentBy, spent_more, Owes, owes_nothing, submit_owes, request_owes}
 
 -- ---- what is known of a world
 

@@ -9,8 +9,8 @@ use Rattle.zab_broadcast.specs.declared.state.State.{State}
 use Rattle.zab_broadcast.specs.Calls.{Setting, is_taken}
 use Rattle.zab_broadcast.specs.Rules as rules
 use Rattle.zab_broadcast.specs.Rules.{next_zxid, took}
-use Rattle.zab_world.proofs.TagFacts.{Owners, at_key, IsOwned, Holds, ServerFact, ActsFact, Grows, grows_refl, owned_grows, role_grows, idles, by_test, eq_is, cases_eq, at_same, at_other, all_append, same_some, taken_more, taken_last}
-use Rattle.zab_world.proofs.TagRules.{settles_fact, tells_news_fact}
+use Rattle.zab_tags.proofs.TagFacts.{Owners, at_key, IsOwned, Holds, ServerFact, ActsFact, Grows, grows_refl, owned_grows, role_grows, idles, by_test, eq_is, cases_eq, at_same, at_other, all_append, same_some, taken_more, taken_last}
+use Rattle.zab_tags.proofs.TagRules.{settles_fact, tells_news_fact}
 
 -- what is made of a call carries the call's tag
 abbrev pub CarriesTag : {C : Type 0} → Setting C → Type 0
