@@ -1,10 +1,9 @@
-use crate::event::{Event, Moved};
-use crate::fault::WorldFault;
 use crate::steps::{is_server, take_step};
 use std::alloc::Global;
 use std::marker::Model;
 use zab_broadcast::{Primary, Server, Tags};
 use zab_epoch::{Entry, Messages, Quorums, Stable};
+use zab_runs::{Event, Moved, WorldFault};
 use zk_path::NoMemory;
 
 /// A server of a world, and whether it is up. One that is down is as it will be when it starts again.
@@ -16,7 +15,7 @@ pub(crate) struct Place<P: Primary> {
 
 /// It is seen as a standing.
 impl<P: Primary> Model for Place<P> {
-    ghost use Rattle.zab_world.specs.Standings.{Standing, standing};
+    ghost use Rattle.zab_runs.specs.Standings.{Standing, standing};
 
     ghost Value = { Standing };
 
@@ -25,8 +24,8 @@ impl<P: Primary> Model for Place<P> {
 
 impl<P: Primary> Place<P> {
     ghost use Rattle.std.specs.Prelude.{◌≡◌, false};
-    ghost use Rattle.zab_world.specs.Standings.{standing, new_server};
-    ghost use Rattle.zab_world.specs.Worlds.{crashed};
+    ghost use Rattle.zab_runs.specs.Standings.{standing, new_server};
+    ghost use Rattle.zab_runs.specs.Worlds.{crashed};
 
     /// A new server.
     pub(crate) fn new(alloc: Global, servers: usize, me: usize) -> Place<P>
@@ -60,7 +59,7 @@ pub(crate) struct Places<P: Primary> {
 /// They are seen as a list.
 impl<P: Primary> Model for Places<P> {
     ghost use Rattle.std.specs.Prelude.{List};
-    ghost use Rattle.zab_world.specs.Standings.{Standing};
+    ghost use Rattle.zab_runs.specs.Standings.{Standing};
 
     ghost Value = { List Standing };
 
@@ -69,14 +68,14 @@ impl<P: Primary> Model for Places<P> {
 
 impl<P: Primary> Places<P> {
     ghost use Rattle.std.specs.Prelude.{◌≡◌, ◌≢◌, IfOk, Err};
-    ghost use Rattle.zab_world.specs.declared.fault.WorldFault.TheVariants as faults;
-    ghost use Rattle.zab_world.specs.Standings.{new_servers};
+    ghost use Rattle.zab_runs.specs.declared.fault.WorldFault.TheVariants as faults;
+    ghost use Rattle.zab_runs.specs.Standings.{new_servers};
     ghost use Rattle.std.specs.Option.{option_copied};
-    ghost use Rattle.zab_world.specs.Worlds.{world, happens, profile_of, server_at};
-    ghost use Rattle.zab_world.specs.Runs.{delivered_list, kept};
+    ghost use Rattle.zab_runs.specs.Worlds.{world, happens, profile_of, server_at};
+    ghost use Rattle.zab_runs.specs.Runs.{delivered_list, kept};
 
     /// New servers, so many.
-    #[tactic(auto, using(crate::proofs::Numbering::new_servers_more))]
+    #[tactic(auto, using(zab_runs::proofs::Numbering::new_servers_more))]
     pub(crate) fn new(alloc: Global, servers: usize) -> Result<Places<P>, NoMemory>
         ensures { IfOk result (λ places. places ≡ new_servers servers servers) }
     {

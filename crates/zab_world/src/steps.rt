@@ -4,17 +4,16 @@ ghost use Rattle.zab_epoch.specs.declared.fault.RuleFault.TheVariants as rule_fa
 ghost use Rattle.zab_epoch.specs.declared.message.Message.{Message};
 ghost use Rattle.zab_broadcast.specs.Calls.{setting_of};
 ghost use Rattle.zab_broadcast.specs.Rules as rules;
-ghost use Rattle.zab_world.specs.declared.fault.WorldFault.TheVariants as faults;
-ghost use Rattle.zab_world.specs.Standings.{Standing};
-ghost use Rattle.zab_world.specs.Worlds.{world, is_server, running, resting, message_at, moved, told};
-ghost use Rattle.zab_world.specs.Worlds.{acts, receives, arrives, submits, follows, crashes, restarts, happens, profile_of};
+ghost use Rattle.zab_runs.specs.declared.fault.WorldFault.TheVariants as faults;
+ghost use Rattle.zab_runs.specs.Standings.{Standing};
+ghost use Rattle.zab_runs.specs.Worlds.{world, is_server, running, resting, message_at, moved, told};
+ghost use Rattle.zab_runs.specs.Worlds.{acts, receives, arrives, submits, follows, crashes, restarts, happens, profile_of};
 
-use crate::event::{Event, Moved};
-use crate::fault::WorldFault;
 use crate::place::Place;
 use std::alloc::Global;
 use zab_broadcast::{Primary, Server, Tags};
 use zab_epoch::{Body, Message, Messages, Quorums, RuleFault, Vote};
+use zab_runs::{Event, Moved, WorldFault};
 
 /// Whether a number is one of so many servers.
 pub(crate) fn is_server(servers: usize, number: usize) -> bool

@@ -1,13 +1,12 @@
 ghost use Rattle.std.specs.Prelude.{◌≡◌, ◌≢◌, true, false, Err};
-ghost use Rattle.zab_world.specs.declared.fault.WorldFault.TheVariants as faults;
+ghost use Rattle.zab_runs.specs.declared.fault.WorldFault.TheVariants as faults;
 
-use crate::event::{Event, Moved};
-use crate::fault::WorldFault;
 use crate::place::Places;
 use std::alloc::Global;
 use std::marker::Model;
 use zab_broadcast::{Primary, Tags};
 use zab_epoch::{Entry, Majority, Message, Messages, Quorums, Stable};
+use zab_runs::{Event, Moved, WorldFault};
 use zk_path::NoMemory;
 
 /// Servers and the messages between them, after some events.
@@ -26,8 +25,8 @@ pub struct World<P: Primary, Q: Quorums + Drop> {
 
 /// It is seen with its quorums, and its number of servers.
 impl<P: Primary, Q: Quorums + Drop> Model for World<P, Q> {
-    ghost use Rattle.zab_world.specs.Worlds.{world, profile_of};
-    ghost use Rattle.zab_world.specs.Runs.{Sight, IsOfRun};
+    ghost use Rattle.zab_runs.specs.Worlds.{world, profile_of};
+    ghost use Rattle.zab_runs.specs.Runs.{Sight, IsOfRun};
 
     ghost Value = { Sight Q P.Call };
 
@@ -44,7 +43,7 @@ impl<P: Primary, Q: Quorums + Drop> Model for World<P, Q> {
 
 impl<P: Primary> World<P, Majority> {
     ghost use Rattle.std.specs.Prelude.{◌≡◌, false, IfOk};
-    ghost use Rattle.zab_world.specs.Worlds.{new_world};
+    ghost use Rattle.zab_runs.specs.Worlds.{new_world};
 
     /// A new world of so many servers, all of them up, in which the quorums are the majorities.
     pub fn new(alloc: Global, servers: usize) -> Result<World<P, Majority>, NoMemory>
@@ -62,10 +61,11 @@ impl<P: Primary> World<P, Majority> {
 impl<P: Primary, Q: Quorums + Drop> World<P, Q> {
     ghost use Rattle.std.specs.Prelude.{◌≡◌, ◌≢◌, List, [], ◌∷◌, ◌++◌, true, false, IfOk, Err, Ok};
     ghost use Rattle.std.specs.Option.{option_copied};
-    ghost use Rattle.zab_world.specs.declared.event.Event.{Event};
-    ghost use Rattle.zab_world.specs.declared.fault.WorldFault.TheVariants as faults;
-    ghost use Rattle.zab_world.specs.Worlds.{new_world, happens, profile_of};
-    ghost use Rattle.zab_world.specs.Runs.{run, delivered_of, stable_of};
+    ghost use Rattle.zab_runs.specs.declared.event.Event.{Event};
+    ghost use Rattle.zab_runs.specs.declared.fault.WorldFault.TheVariants as faults;
+    ghost use Rattle.zab_runs.specs.Worlds.{new_world, happens, profile_of};
+    ghost use Rattle.zab_runs.specs.Runs.{delivered_of, stable_of};
+    ghost use Rattle.zab_runs.specs.Laws.{IsNextInRun};
 
     fn begin(alloc: Global, servers: usize, quorums: Q) -> Result<World<P, Q>, NoMemory>
         ensures { IfOk result (λ it. it ≡ record {
@@ -90,10 +90,9 @@ impl<P: Primary, Q: Quorums + Drop> World<P, Q> {
     pub fn step(&mut self, event: Event<P::Call>) -> Result<Moved, WorldFault>
         ensures acts { result ≢ Err faults.NoMemory → (self.new.world, result)
             ≡ happens (profile_of (Q.passes self.old.quorums) P.made_of P.tag_of P.closing_of) self.old.world event }
-        // It is one event of a run.
-        ensures run { result ≢ Err faults.NoMemory → (events : List (Event P.Call))
-            × ((self.old.world ≡ (run (profile_of (Q.passes self.old.quorums) P.made_of P.tag_of P.closing_of) self.old.servers events).0)
-            × (self.new.world ≡ (run (profile_of (Q.passes self.old.quorums) P.made_of P.tag_of P.closing_of) self.old.servers (events ++ event ∷ [])).0)) }
+        ensures run { result ≢ Err faults.NoMemory
+            → IsNextInRun (profile_of (Q.passes self.old.quorums) P.made_of P.tag_of P.closing_of) self.old.servers
+            self.old.world event self.new.world }
         ensures same { (self.new.quorums ≡ self.old.quorums) × (self.new.servers ≡ self.old.servers) }
         ensures fine { result ≢ Err faults.NoMemory → self.new.failed ≡ false }
         ensures fails { result ≡ Err faults.NoMemory → self.new.failed ≡ true }
@@ -147,8 +146,9 @@ impl<P: Primary, Q: Quorums + Drop> World<P, Q> {
 
 impl<P: Primary, Q: Quorums + Drop + Copy> World<P, Q> {
     ghost use Rattle.std.specs.Prelude.{◌≡◌, false, IfOk};
-    ghost use Rattle.zab_world.specs.Worlds.{profile_of};
-    ghost use Rattle.zab_world.specs.Runs.{run};
+    ghost use Rattle.zab_runs.specs.Worlds.{profile_of};
+    ghost use Rattle.zab_runs.specs.Runs.{run};
+    ghost use Rattle.zab_runs.specs.Laws.{IsTaggedOnce};
 
     /// A new world with this one's servers and quorums, after these events, and what each was answered.
     pub fn replay(
@@ -158,6 +158,8 @@ impl<P: Primary, Q: Quorums + Drop + Copy> World<P, Q> {
         requires { self.now.failed ≡ false }
         ensures run { IfOk result (λ told. (told.0.world, told.1.items)
             ≡ run (profile_of (Q.passes self.now.quorums) P.made_of P.tag_of P.closing_of) self.now.servers events.items) }
+        ensures tagged { IfOk result (λ _. IsTaggedOnce
+            (profile_of (Q.passes self.now.quorums) P.made_of P.tag_of P.closing_of) self.now.servers events.items) }
         ensures same { IfOk result (λ told. (told.0.quorums ≡ self.now.quorums)
             × ((told.0.servers ≡ self.now.servers) × (told.0.failed ≡ false))) }
     {

@@ -1,7 +1,8 @@
 use Rattle.std.proofs.Common.{◌≡◌, ◌≢◌, Err, List, ap, subst, ◌∙◌}
-use Rattle.zab_world.specs.declared.fault.WorldFault.TheVariants as faults
-use Rattle.zab_world.specs.Worlds.{Answer, profile_of, happens}
-use Rattle.zab_world.proofs.RunLaws.{run_more}
+use Rattle.zab_runs.specs.declared.fault.WorldFault.TheVariants as faults
+use Rattle.zab_runs.specs.Worlds.{Answer, profile_of, happens}
+use Rattle.zab_runs.proofs.RunLaws.{run_more}
+use Rattle.zab_runs.proofs.TagRuns.{tagged_once}
 use Rattle.zab_world.proofs.world.World.replay.Goals as goal
 
 pub loop-event-preserved : goal.loop-event-preserved
@@ -17,3 +18,8 @@ loop-event-preserved g c =
       servers = c.step-answer.ensures.same.1 ∙ c.loop-event.invariant.servers;
       told = ap (λ (l : List Answer). (c.step-answer.new.self.world, l)) c.in_ok-push.ensures.items ∙ more;
     }
+
+pub returns-clause-tagged : goal.returns-clause-tagged
+returns-clause-tagged g c =
+    tagged_once (profile_of (g.Q.Quorums.passes c.args.self.now.quorums) g.P.Primary.made_of g.P.Primary.tag_of g.P.Primary.closing_of)
+    g.met.P.Primary.made_tag c.args.self.now.servers c.args.events.items

@@ -1,7 +1,8 @@
 use Rattle.std.proofs.Common.{◌≢◌, Err, [], ◌∷◌, ◌++◌}
-use Rattle.zab_world.specs.declared.fault.WorldFault.TheVariants as faults
-use Rattle.zab_world.specs.Worlds.{profile_of, new_world}
-use Rattle.zab_world.proofs.RunLaws.{one_more}
+use Rattle.zab_runs.specs.declared.fault.WorldFault.TheVariants as faults
+use Rattle.zab_runs.specs.Worlds.{profile_of, new_world, world}
+use Rattle.zab_runs.proofs.RunLaws.{one_more}
+use Rattle.zab_runs.proofs.TagRuns.{tagged_once}
 use Rattle.zab_world.proofs.world.World.step.Goals as goal
 
 pub invariant_of-self : goal.invariant_of-self
@@ -10,16 +11,16 @@ invariant_of-self g c = λ fine.
     let reached = c.self.invariant c.if-self.false in
     let kept : c.step-answer.result ≢ Err faults.NoMemory = c.is_no_memory-self-inside.ensures.no fine in (
       reached.0 ++ c.args.event ∷ [],
-      one_more profile (new_world c.self.inside.servers) _ _ _ reached.0 c.args.event reached.1 (c.step-answer.ensures kept),
+      one_more profile (new_world c.self.inside.servers) (world c.self.inside.places c.self.inside.messages c.self.inside.tags) (world c.step-answer.new.self c.step-answer.new.messages c.step-answer.new.tags) c.step-answer.result reached.0 c.args.event reached.1 (c.step-answer.ensures kept),
     )
 
 pub returns-clause-run : goal.returns-clause-run
 returns-clause-run g c = rw (← c.self.view_is) (λ kept.
     let profile = profile_of (g.Q.Quorums.passes c.self.inside.quorums) g.P.Primary.made_of g.P.Primary.tag_of g.P.Primary.closing_of in
-    let reached = c.self.invariant c.if-self.false in (
-      reached.0,
-      (
-        reached.1,
-        one_more profile (new_world c.self.inside.servers) _ _ _ reached.0 c.args.event reached.1 (c.step-answer.ensures kept),
-      ),
-    ))
+    let reached = c.self.invariant c.if-self.false in
+    record {
+      events = reached.0;
+      reached = reached.1;
+      goes_on = one_more profile (new_world c.self.inside.servers) (world c.self.inside.places c.self.inside.messages c.self.inside.tags) (world c.step-answer.new.self c.step-answer.new.messages c.step-answer.new.tags) c.step-answer.result reached.0 c.args.event reached.1 (c.step-answer.ensures kept);
+      tagged = tagged_once profile g.met.P.Primary.made_tag c.self.inside.servers (reached.0 ++ c.args.event ∷ []);
+    })

@@ -9,13 +9,13 @@ use Rattle.zab_broadcast.specs.declared.state.State.{State}
 use Rattle.zab_broadcast.specs.Calls.{Setting, setting_of, is_taken}
 use Rattle.zab_broadcast.specs.Rules as rules
 use Rattle.zab_broadcast.specs.Rules.{Acts, silent, restored, is_serving}
-use Rattle.zab_world.specs.declared.event.Event.{Event}
-use Rattle.zab_world.specs.declared.event.Event.TheVariants.{Lead, Follow, Arrive, Submit, Expire, Crash, Restart}
-use Rattle.zab_world.specs.declared.event.Moved.{Moved}
-use Rattle.zab_world.specs.declared.fault.WorldFault.{WorldFault}
-use Rattle.zab_world.specs.declared.fault.WorldFault.TheVariants as faults
-use Rattle.zab_world.specs.Refusals.{world_fault_of}
-use Rattle.zab_world.specs.Standings.{Standing, standing, new_servers}
+use Rattle.zab_runs.specs.declared.event.Event.{Event}
+use Rattle.zab_runs.specs.declared.event.Event.TheVariants.{Lead, Follow, Arrive, Submit, Expire, Crash, Restart}
+use Rattle.zab_runs.specs.declared.event.Moved.{Moved}
+use Rattle.zab_runs.specs.declared.fault.WorldFault.{WorldFault}
+use Rattle.zab_runs.specs.declared.fault.WorldFault.TheVariants as faults
+use Rattle.zab_runs.specs.Refusals.{world_fault_of}
+use Rattle.zab_runs.specs.Standings.{Standing, standing, new_servers}
 
 -- the servers, from number 1 on; all messages ever sent, numbered from 1; the tags of all accepted calls
 pub record World (C : Type 0) : Type 0 where

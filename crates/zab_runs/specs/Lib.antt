@@ -1,6 +1,6 @@
 -- What the contracts of this crate cite.
+pub mod Laws
 pub mod Refusals
 pub mod Runs
 pub mod Standings
-pub mod Tags
 pub mod Worlds

@@ -1,0 +1,4 @@
+pub mod Numbering
+pub mod RunLaws
+pub mod ServerLists
+pub mod TagRuns

@@ -1,0 +1,13 @@
+//! Worlds of Zab servers and the messages between them, what each event does in one, and what holds of every run. Types and
+//! laws; the code that makes the events happen is in `zab_world`.
+//!
+//! Junqueira, Reed, Serafini: "Zab: High-performance broadcast for primary-backup systems", DSN 2011.
+#![tactic(auto)]
+
+mod event;
+mod fault;
+mod laws;
+
+pub use event::{Event, Moved};
+pub use fault::WorldFault;
+pub use laws::{one_entry_for_a_tag, stable_part_outlasts_crashes};
