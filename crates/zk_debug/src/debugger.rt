@@ -1,7 +1,6 @@
-ghost use Rattle.std.specs.Prelude.{◌≡◌, ◌+◌, ◌<◌, ◌≤◌, ℤ, true, false, length, take, option_map, IfOk, IfErr, OnOk, OnErr, IsTrue};
+ghost use Rattle.std.specs.Prelude.{◌≡◌, ◌+◌, ◌<◌, ◌≤◌, ℤ, true, false, length, take, IfOk, IfErr, OnOk, OnErr, IsTrue};
 ghost use Rattle.std.specs.FinMap as finite;
 ghost use Rattle.std.specs.Option.{option_copied};
-ghost use Rattle.zk_table.specs.States.{stat_at};
 ghost use Rattle.zk_log.specs.Logs.{Rises};
 ghost use Rattle.zk_debug.specs.declared.fault.DebugFault.TheVariants as faults;
 ghost use Rattle.zk_debug.specs.Debugging.{state_at, machine_at, result_at, zxid_at, hit_at, moved, broken, up_to, Moves, IsRunTo, IsRunBackTo, RefusesOn, RefusesBack, RefusesAny, RefusesSet};
@@ -13,7 +12,6 @@ use crate::stop::Stop;
 use crate::walk::Walk;
 use std::alloc::Global;
 use std::marker::Model;
-use zk_acl::Stat;
 use zk_log::Loaded;
 use zk_machine::Machine;
 use zk_path::{NoMemory, Path};
@@ -79,10 +77,9 @@ impl Debugger {
         Ok(self.walk.machine())
     }
 
-    /// The node of a path at the place, and what a client is told of it.
-    pub fn node(&self, path: &Path) -> Result<Option<(&Node, Stat)>, DebugFault>
-        ensures node { IfOk result (λ found. option_map (λ found. found.0.now) found ≡ finite.get (state_at self.now.txns self.now.place).nodes path.now) }
-        ensures stat { IfOk result (λ found. option_map (λ found. found.1) found ≡ stat_at (state_at self.now.txns self.now.place).nodes path.now) }
+    /// The node of a path at the place.
+    pub fn node(&self, path: &Path) -> Result<Option<&Node>, DebugFault>
+        ensures node { IfOk result (λ node. option_copied node ≡ finite.get (state_at self.now.txns self.now.place).nodes path.now) }
         ensures ran { OnOk result (self.now.failed ≡ false) }
         ensures refused { IfErr result (λ fault. (fault ≡ faults.Failed) × (self.now.failed ≡ true)) }
     {
@@ -90,10 +87,7 @@ impl Debugger {
         let Ok(tree) = self.walk.machine().tree() else {
             unreachable!()
         };
-        match tree.get(path) {
-            Some(node) => Ok(Some((node, node.stat(tree.child_count(path))))),
-            None => Ok(None),
-        }
+        Ok(tree.get(path))
     }
 
     /// What the transaction that leads to the place answered; at the start there is none.

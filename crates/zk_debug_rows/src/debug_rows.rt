@@ -1,9 +1,11 @@
 //! Moves over listings, and what is shown where they end.
 use std::test::Fail;
+use zk_acl::Stat;
 use zk_debug::{Breakpoint, DebugFault, Debugger, Kind, Stop};
 use zk_listing::{assemble, push_node_line, push_result_line};
 use zk_log::{Ending, Loaded, Txns};
 use zk_path::Path;
+use zk_table::Node;
 
 /// A node that comes and goes in one transaction, and a create that is refused.
 const WITH_A_MULTI: &str = "0000000100000001 0100000000000001 0 1000 createSession 30000\n\
@@ -36,9 +38,15 @@ enum Move {
 /// A move, and what it answers: the place and the lowest number that it matches, or a refusal.
 type Moved = (Move, Result<(usize, Option<u32>), DebugFault>);
 
-/// What is shown at a place: its zxid, the line of the last result and those of `/` and `/a`, and how many nodes and
-/// sessions there are.
-type Shown = (i64, [&'static str; 3], usize, usize);
+/// What is shown at a place.
+struct Shown {
+    zxid: i64,
+    last: &'static str,
+    root: &'static str,
+    a: &'static str,
+    paths: usize,
+    sessions: usize,
+}
 
 /// What is looked for.
 #[derive(Clone, Copy)]
@@ -52,56 +60,46 @@ enum Sought {
 
 /// What is shown at the places of the listing with a multi.
 const PLACES: [Shown; 5] = [
-    (
-        0,
-        [
-            "none",
-            "\"/\" x 1 31 \"world\" \"anyone\" 0000000000000000 0000000000000000 0 0 0 -1 0 0000000000000000 0 1 0000000000000000",
-            "none",
-        ],
-        3,
-        0,
-    ),
-    (
-        0x1_0000_0001,
-        [
-            "result 0000000100000001 0 - -",
-            "\"/\" x 1 31 \"world\" \"anyone\" 0000000000000000 0000000000000000 0 0 0 -1 0 0000000000000000 0 1 0000000000000000",
-            "none",
-        ],
-        3,
-        1,
-    ),
-    (
-        0x1_0000_0002,
-        [
-            "result 0000000100000002 0 \"/a\" -",
-            "\"/\" x 1 31 \"world\" \"anyone\" 0000000000000000 0000000000000000 0 0 0 0 0 0000000000000000 0 2 0000000100000002",
-            "\"/a\" x6869 1 31 \"world\" \"anyone\" 0000000100000002 0000000100000002 2000 2000 0 0 0 0000000000000000 2 0 0000000100000002",
-        ],
-        4,
-        1,
-    ),
-    (
-        0x1_0000_0004,
-        [
-            "result 0000000100000004 0 - - ; 0 \"/t\" - ; 0 \"/t\" -",
-            "\"/\" x 1 31 \"world\" \"anyone\" 0000000000000000 0000000000000000 0 0 0 2 0 0000000000000000 0 2 0000000100000004",
-            "\"/a\" x6869 1 31 \"world\" \"anyone\" 0000000100000002 0000000100000002 2000 2000 0 0 0 0000000000000000 2 0 0000000100000002",
-        ],
-        4,
-        1,
-    ),
-    (
-        0x1_0000_0005,
-        [
-            "result 0000000100000005 -110 \"/a\" -",
-            "\"/\" x 1 31 \"world\" \"anyone\" 0000000000000000 0000000000000000 0 0 0 2 0 0000000000000000 0 2 0000000100000004",
-            "\"/a\" x6869 1 31 \"world\" \"anyone\" 0000000100000002 0000000100000002 2000 2000 0 0 0 0000000000000000 2 0 0000000100000002",
-        ],
-        4,
-        1,
-    ),
+    Shown {
+        zxid: 0,
+        last: "none",
+        root: "\"/\" x 1 31 \"world\" \"anyone\" 0000000000000000 0000000000000000 0 0 0 -1 0 0000000000000000 0 1 0000000000000000",
+        a: "none",
+        paths: 3,
+        sessions: 0,
+    },
+    Shown {
+        zxid: 0x1_0000_0001,
+        last: "result 0000000100000001 0 - -",
+        root: "\"/\" x 1 31 \"world\" \"anyone\" 0000000000000000 0000000000000000 0 0 0 -1 0 0000000000000000 0 1 0000000000000000",
+        a: "none",
+        paths: 3,
+        sessions: 1,
+    },
+    Shown {
+        zxid: 0x1_0000_0002,
+        last: "result 0000000100000002 0 \"/a\" -",
+        root: "\"/\" x 1 31 \"world\" \"anyone\" 0000000000000000 0000000000000000 0 0 0 0 0 0000000000000000 0 2 0000000100000002",
+        a: "\"/a\" x6869 1 31 \"world\" \"anyone\" 0000000100000002 0000000100000002 2000 2000 0 0 0 0000000000000000 2 0 0000000100000002",
+        paths: 4,
+        sessions: 1,
+    },
+    Shown {
+        zxid: 0x1_0000_0004,
+        last: "result 0000000100000004 0 - - ; 0 \"/t\" - ; 0 \"/t\" -",
+        root: "\"/\" x 1 31 \"world\" \"anyone\" 0000000000000000 0000000000000000 0 0 0 2 0 0000000000000000 0 2 0000000100000004",
+        a: "\"/a\" x6869 1 31 \"world\" \"anyone\" 0000000100000002 0000000100000002 2000 2000 0 0 0 0000000000000000 2 0 0000000100000002",
+        paths: 4,
+        sessions: 1,
+    },
+    Shown {
+        zxid: 0x1_0000_0005,
+        last: "result 0000000100000005 -110 \"/a\" -",
+        root: "\"/\" x 1 31 \"world\" \"anyone\" 0000000000000000 0000000000000000 0 0 0 2 0 0000000000000000 0 2 0000000100000004",
+        a: "\"/a\" x6869 1 31 \"world\" \"anyone\" 0000000100000002 0000000100000002 2000 2000 0 0 0 0000000000000000 2 0 0000000100000002",
+        paths: 4,
+        sessions: 1,
+    },
 ];
 
 /// Moves over that listing, with a breakpoint on `/t` and one at the multi.
@@ -159,7 +157,7 @@ fn debugger_over(rt: &HostRuntime, listing: &str) -> Result<Debugger, Fail> {
 fn breakpoint(rt: &HostRuntime, sought: Sought) -> Result<Breakpoint, Fail> {
     Ok(match sought {
         Sought::At(zxid) => Breakpoint::At(zxid),
-        Sought::Path(path) => Breakpoint::Path(Path::read(rt.alloc(), path)?),
+        Sought::Path(path) => Breakpoint::Path(path_of(rt, path)?),
         Sought::Session(session) => Breakpoint::Session(session),
         Sought::Kind(kind) => Breakpoint::Kind(kind),
         Sought::Error => Breakpoint::Error,
@@ -186,37 +184,51 @@ fn last_line(rt: &HostRuntime, debugger: &Debugger) -> Result<String, Fail> {
     Ok(line)
 }
 
+fn path_of(rt: &HostRuntime, text: &str) -> Result<Path, Fail> {
+    Ok(Path::read(rt.alloc(), text)?)
+}
+
+/// What a client is told of the node at a path.
+fn stat_of(debugger: &Debugger, path: &Path, node: &Node) -> Result<Stat, Fail> {
+    let tree = debugger.tree()?.tree()?;
+    Ok(node.stat(tree.child_count(path)))
+}
+
 /// The line of the node at a path, or `none`.
-fn node_line(rt: &HostRuntime, debugger: &Debugger, path: &str) -> Result<String, Fail> {
-    let path = Path::read(rt.alloc(), path)?;
+fn node_line(rt: &HostRuntime, debugger: &Debugger, path: &Path) -> Result<String, Fail> {
     let mut line = String::new(rt.alloc());
-    match debugger.node(&path)? {
-        Some((node, stat)) => push_node_line(&mut line, &path, node, &stat)?,
+    match debugger.node(path)? {
+        Some(node) => push_node_line(&mut line, path, node, &stat_of(debugger, path, node)?)?,
         None => line.push_str("none")?,
     }
     Ok(line)
 }
 
 /// Whether these lines are shown.
-fn are_lines(rt: &HostRuntime, debugger: &Debugger, lines: &[&str; 3]) -> Result<bool, Fail> {
+fn are_lines(rt: &HostRuntime, debugger: &Debugger, shown: &Shown) -> Result<bool, Fail> {
     let last = last_line(rt, debugger)?;
-    let root = node_line(rt, debugger, "/")?;
-    let a = node_line(rt, debugger, "/a")?;
-    Ok([last.as_str(), root.as_str(), a.as_str()] == *lines)
+    let root = node_line(rt, debugger, &path_of(rt, "/")?)?;
+    let a = node_line(rt, debugger, &path_of(rt, "/a")?)?;
+    Ok(last.as_str() == shown.last && root.as_str() == shown.root && a.as_str() == shown.a)
+}
+
+/// Whether there are so many nodes and sessions.
+fn are_counted(debugger: &Debugger, shown: &Shown) -> Result<bool, Fail> {
+    let machine = debugger.tree()?;
+    let paths = machine.tree()?.paths()?.len();
+    let sessions = machine.sessions()?.len();
+    Ok(paths == shown.paths && sessions == shown.sessions)
 }
 
 /// Whether the place shows what it should.
 fn is_shown(rt: &HostRuntime, debugger: &Debugger, places: &[Shown]) -> Result<bool, Fail> {
-    let Some((zxid, lines, paths, sessions)) = places.get(debugger.place()) else {
+    let Some(shown) = places.get(debugger.place()) else {
         return Ok(false);
     };
-    let machine = debugger.tree()?;
-    let counts = (
-        debugger.zxid(),
-        machine.tree()?.paths()?.len(),
-        machine.sessions()?.len(),
-    );
-    Ok(are_lines(rt, debugger, lines)? && counts == (*zxid, *paths, *sessions))
+    if debugger.zxid() != shown.zxid || !are_counted(debugger, shown)? {
+        return Ok(false);
+    }
+    are_lines(rt, debugger, shown)
 }
 
 /// Whether each move answers what it should, and shows it.
@@ -235,22 +247,19 @@ fn are_moved(
     Ok(true)
 }
 
-/// Where a breakpoint is met first above the start, and last below the end.
+/// Where a breakpoint is met first above the start and last below the end, and whether it is told there.
 fn meetings(
-    rt: &HostRuntime,
     debugger: &mut Debugger,
-    sought: Sought,
-) -> Result<(usize, usize), Fail> {
+    breakpoint: Breakpoint,
+) -> Result<(usize, usize, bool), DebugFault> {
     debugger.reset()?;
-    let number = debugger.set(breakpoint(rt, sought)?)?;
+    let number = debugger.set(breakpoint)?;
     let first = debugger.run()?;
     debugger.goto(i64::MAX)?;
     let last = debugger.run_back()?;
     debugger.clear(number)?;
-    if first.hit != Some(number) || last.hit != Some(number) {
-        return Err(Fail::from("it hit another one"));
-    }
-    Ok((first.place, last.place))
+    let are_hit = first.hit == Some(number) && last.hit == Some(number);
+    Ok((first.place, last.place, are_hit))
 }
 
 /// Whether each is met where it should be.
@@ -260,7 +269,8 @@ fn are_met(
     rows: &[(Sought, usize, usize)],
 ) -> Result<bool, Fail> {
     for (sought, first, last) in rows {
-        if meetings(rt, debugger, *sought)? != (*first, *last) {
+        let breakpoint = breakpoint(rt, *sought)?;
+        if meetings(debugger, breakpoint)? != (*first, *last, true) {
             return Ok(false);
         }
     }
