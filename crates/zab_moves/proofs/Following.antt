@@ -61,8 +61,8 @@ commit_owes {C} k g state from epoch count kept within role reached =
         }))
       (λ is. owes_nothing k g state (Ok []) kept within role tt)
 
-pub propose_owes : {C : Type 0} (k : laws.Setting Entry) (g : laws.Ghost Entry) (state : State) (from epoch index : ℕ) (entry : Entry) → laws.Shares k → laws.IsKept k g state.peer.me (core_of state) → state.delivered ≤ length state.peer.stable.history → RoleFact k g state state.peer.role → IsProposed g from epoch index entry → OwesOf {C = C} k g state (propose state from epoch index entry)
-propose_owes {C} k g state from epoch index entry share kept within role said =
+pub propose_owes : {C : Type 0} (k : laws.Setting Entry) (g : laws.Ghost Entry) (state : State) (from epoch index : ℕ) (entry : Entry) → 0 < state.peer.me → laws.Shares k → laws.IsKept k g state.peer.me (core_of state) → state.delivered ≤ length state.peer.stable.history → RoleFact k g state state.peer.role → IsProposed g from epoch index entry → OwesOf {C = C} k g state (propose state from epoch index entry)
+propose_owes {C} k g state from epoch index entry pos0 share kept within role said =
     by_test (OwesOf {C = C} k g state) (follows state.peer.role from && ((epoch == state.peer.stable.promised) && ((epoch == state.peer.stable.current) && (index == length state.peer.stable.history + 1)))) _ _
       (λ is.
         (let a = both_true (follows state.peer.role from) ((epoch == state.peer.stable.promised) && ((epoch == state.peer.stable.current) && (index == length state.peer.stable.history + 1))) is in
@@ -92,7 +92,7 @@ propose_owes {C} k g state from epoch index entry share kept within role said =
         ghost = laws.new_ghost (Adopt state.peer.me now new) (core_of state) g;
         keeps = subst (λ (d : List Entry). laws.Keeps k g (laws.new_ghost (Adopt state.peer.me now new) (core_of state) g) state.peer.me (record { promised = state.peer.stable.promised; current = now; history = new; delivered = d })) (sym (take-append-le state.delivered h (entry ∷ []) within)) keeps;
         role = follower k _ _ state.peer.role from following;
-        sent = (record { history = new; is = subst (λ e. laws.held_with g state.peer.me now new state.peer.me e ≡ Some new) (sym c) (two_same g.held state.peer.me now (Some new)); long = omega (arith, length-append h (entry ∷ [])) }, tt);
+        sent = ((pos0, record { history = new; is = subst (λ e. laws.held_with g state.peer.me now new state.peer.me e ≡ Some new) (sym c) (two_same g.held state.peer.me now (Some new)); long = omega (arith, length-append h (entry ∷ [])) }), tt);
         me = refl;
         within = omega (arith, length-append h (entry ∷ []));
         more = subst (IsPrefix (told_of state)) (sym (take-append-le state.delivered h (entry ∷ []) within)) (prefix_refl (told_of state));

@@ -41,8 +41,8 @@ front_of d own history within p =
     let least : min d (length history) ≡ length (take d own) = omega (arith, long, low) in
     sym (take_front (take d own) p.rest) ∙ ap (λ l. take (length (take d own)) l) p.is ∙ ap (λ n. take n history) (sym least)
 
-pub new_leader_owes : {C : Type 0} (k : laws.Setting Entry) (g : laws.Ghost Entry) (state : State) (from epoch : ℕ) (history : List Entry) → laws.Shares k → laws.IsKept k g state.peer.me (core_of state) → state.delivered ≤ length state.peer.stable.history → RoleFact k g state state.peer.role → laws.IsOfLeader g epoch history → OwesOf {C = C} k g state (rules.new_leader state from epoch history)
-new_leader_owes {C} k g state from epoch history share kept within role of =
+pub new_leader_owes : {C : Type 0} (k : laws.Setting Entry) (g : laws.Ghost Entry) (state : State) (from epoch : ℕ) (history : List Entry) → 0 < state.peer.me → laws.Shares k → laws.IsKept k g state.peer.me (core_of state) → state.delivered ≤ length state.peer.stable.history → RoleFact k g state state.peer.role → laws.IsOfLeader g epoch history → OwesOf {C = C} k g state (rules.new_leader state from epoch history)
+new_leader_owes {C} k g state from epoch history pos0 share kept within role of =
     by_test (OwesOf {C = C} k g state) (follows state.peer.role from) (joined state (epoch_rules.new_leader state.peer from epoch history)) (rules.silent state)
       (λ following. by_test (λ (acts : epoch_rules.Acts C). OwesOf {C = C} k g state (joined state acts)) (follows state.peer.role from && (epoch == state.peer.stable.promised)) _ _
         (λ is.
@@ -54,7 +54,7 @@ new_leader_owes {C} k g state from epoch history share kept within role of =
               let same : state.peer.stable.current ≡ epoch = omega arith in
               record {
                 ghost = g; keeps = same_core; role = tt;
-                sent = (record { history = state.peer.stable.history; is = subst (λ e. g.held state.peer.me e ≡ Some state.peer.stable.history) same kept.sound.held_now; long = omega arith }, tt);
+                sent = ((pos0, record { history = state.peer.stable.history; is = subst (λ e. g.held state.peer.me e ≡ Some state.peer.stable.history) same kept.sound.held_now; long = omega arith }), tt);
                 me = refl; within = omega arith; more = same_told;
               }))))
         (λ is. record { ghost = g; keeps = same_core; role = follower k g (with_peer state state.peer state.has) state.peer.role from following; sent = tt; me = refl; within = omega arith; more = same_told }))
@@ -88,7 +88,7 @@ new_leader_owes {C} k g state from epoch history share kept within role of =
         ghost = y;
         keeps = subst (λ (d : List Entry). laws.Keeps k g y me (record { promised = state.peer.stable.promised; current = epoch; history = history; delivered = d })) list keeps;
         role = tt;
-        sent = (record { history = history; is = two_same g.held me epoch (Some history); long = omega arith }, tt);
+        sent = ((pos0, record { history = history; is = two_same g.held me epoch (Some history); long = omega arith }), tt);
         me = refl;
         within = omega arith;
         more = subst (IsPrefix (told_of state)) list (prefix_refl (told_of state));

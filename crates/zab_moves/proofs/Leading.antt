@@ -231,7 +231,7 @@ number_of epoch made zxid e = by_cases (nat_lt epoch 2147483648 && nat_lt made 4
         record { is = omega (arith, ints); small = omega arith }
     by_cases false test e = absurd cc
 
-length_grows : (g y : laws.Ghost Entry) → laws.Grows g y → (t epoch count : ℕ) → HasLength g t epoch count → HasLength y t epoch count
+pub length_grows : (g y : laws.Ghost Entry) → laws.Grows g y → (t epoch count : ℕ) → HasLength g t epoch count → HasLength y t epoch count
 length_grows g y grows t epoch count h =
     let q = grows.held t epoch h.history h.is in
     let long : count ≤ length h.history = h.long in

@@ -1,7 +1,10 @@
 pub mod Beginning
 pub mod Choosing
 pub mod Common
+pub mod Electing
 pub mod Following
+pub mod Growing
+pub mod Hearing
 pub mod Joining
 pub mod Leading
 pub mod Telling

@@ -1,5 +1,5 @@
 -- What messages and roles say of a run.
-use Rattle.std.specs.Prelude.{◌≡◌, ℕ, ◌+◌, ◌-◌, ◌<◌, ◌≤◌, Bool, true, List, [], ◌∷◌, ◌++◌, length, take, max, Option, Some, None, Result, Ok, Err, slice_get}
+use Rattle.std.specs.Prelude.{◌≡◌, ℕ, ℤ, ◌+◌, ◌-◌, ◌<◌, ◌≤◌, Bool, true, List, [], ◌∷◌, ◌++◌, length, take, max, Option, Some, None, Result, Ok, Err, slice_get}
 use Rattle.std.specs.List.{AllByRecursion}
 use Rattle.zab_epoch.specs.declared.fault.RuleFault.{RuleFault}
 use Rattle.zab_epoch.specs.declared.history.Entry.{Entry}
@@ -13,6 +13,13 @@ use Rattle.zab_broadcast.specs.declared.state.State.{State}
 use Rattle.zab_broadcast.specs.Rules.{Acts}
 use Rattle.zab_laws.specs.Prefixes.{IsPrefix}
 use Rattle.zab_laws.specs.Cores as laws
+
+-- what the laws are given: which sets are quorums, and entries by their zxids
+abbrev pub zxid_key : Entry → ℤ
+zxid_key entry = entry.txn.zxid
+
+abbrev pub laws_of : (List Bool → Bool) → laws.Setting Entry
+laws_of passes = record { passes = passes; key = zxid_key }
 
 -- the four numbers and lists of a server, with so many delivered
 abbrev pub core_with : State → ℕ → laws.Core Entry
@@ -47,11 +54,11 @@ pub record IsProposed (g : laws.Ghost Entry) (from epoch index : ℕ) (entry : E
   pub place : index ≡ length before + 1
 
 abbrev pub BodyFact : {C : Type 0} → laws.Setting Entry → laws.Ghost Entry → ℕ → ℕ → Body C → Type 0
-BodyFact k g from to (AckEpoch epoch vote current history) = vote ≡ true → g.votes from epoch ≡ Some (record { leader = to; current = current; history = history })
+BodyFact k g from to (AckEpoch epoch vote current history) = (0 < from) × (vote ≡ true → g.votes from epoch ≡ Some (record { leader = to; current = current; history = history }))
 BodyFact k g from to (NewLeader epoch history) = laws.IsOfLeader g epoch history
-BodyFact k g from to (AckLeader epoch count) = HasLength g from epoch count
+BodyFact k g from to (AckLeader epoch count) = (0 < from) × HasLength g from epoch count
 BodyFact k g from to (Propose epoch index entry) = IsProposed g from epoch index entry
-BodyFact k g from to (Ack epoch count) = HasLength g from epoch count
+BodyFact k g from to (Ack epoch count) = (0 < from) × HasLength g from epoch count
 BodyFact k g from to (Commit epoch count) = IsReached k g epoch count
 BodyFact k g from to _ = Unit {0}
 
