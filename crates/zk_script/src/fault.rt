@@ -27,3 +27,14 @@ impl From<ListCause> for CommandFault {
         }
     }
 }
+
+/// Why a script ended before its end.
+#[derive(Clone, Copy, Debug, PartialEq, Eq, Error)]
+pub enum ScriptFault {
+    /// The line of this number, counted from 1, says no command.
+    #[error("script {0}")]
+    Malformed(u64),
+    /// Memory was refused.
+    #[error("no memory")]
+    NoMemory,
+}
