@@ -2,23 +2,11 @@ ghost use Rattle.std.specs.Prelude.{◌≡◌, ◌+◌, ◌-◌, ◌<◌, ◌^�
 ghost use Rattle.zk_cli.specs.Acting.{Acts};
 ghost use Rattle.zk_log.specs.Devices.{reads_of, read_failures_of, write_failures_of};
 
-use crate::asm::asm;
-use crate::reporting::{Report, tell_log};
 use std::alloc::Global;
 use std::io::{Read, Write};
 use zk_log::{Sink, Source};
+use zk_orders::{Order, Report, asm, tell_log};
 use zk_path::NoMemory;
-
-/// What the program is told to do.
-#[derive(Clone, Copy, Debug, PartialEq, Eq)]
-pub enum Order {
-    /// Shows the tree of a log up to a transaction, or at its last one.
-    Show { upto: Option<i64> },
-    /// Lists the transactions of a log.
-    List,
-    /// Makes the log, with dbid 0, that a listing spells.
-    Asm,
-}
 
 /// Does what an order asks for, and answers the exit status: 0, or 1 for a refused input or a failed output, with one
 /// line on `faults`.

@@ -2,29 +2,17 @@
 #![tactic(auto)]
 
 mod act;
-mod asm;
-mod command;
-mod fault_lines;
-mod lines;
-mod list;
-mod report;
-mod reporting;
-mod show;
-mod telling;
 #[cfg(test)]
 mod tests;
-mod text;
-mod usage;
 
-use act::{Order, act};
-use clap::Error;
-use command::{CommandFault, Job, read_command_line};
+use act::act;
 use std::io::{Read, Write};
 use std::process::ExitCode;
 use std::{env, fs, io};
-use usage::refusal_of_bytes;
 use zk_log::{Sink, Source};
+use zk_orders::{CommandFault, Job, Order, read_command_line};
 use zk_path::NoMemory;
+use zk_usage::{Refusal, refusal_of_bytes};
 
 fn main(rt: HostRuntime) -> ExitCode {
     match run(&rt) {
@@ -48,16 +36,21 @@ fn run(rt: &HostRuntime) -> Result<u8, NoMemory> {
         .collect::<Vec<_>>(rt.alloc())?;
     match read_command_line(rt.alloc(), texts.as_slice()) {
         Ok(job) => open_and_act(rt, &job),
-        Err(CommandFault::Refused(error)) => Ok(print(rt, &error)),
+        Err(CommandFault::Refused(refusal)) => Ok(print(rt, &refusal)),
         Err(CommandFault::NoMemory) => Err(NoMemory),
     }
 }
 
-/// Prints what clap says of a command line. Answers the exit status: 0 for a help or a version, 2 for a refusal.
-fn print(rt: &HostRuntime, error: &Error) -> u8 {
+/// Prints what is said of a command line. Answers the exit status: 0 for a help or a version, 2 for a refusal.
+fn print(rt: &HostRuntime, refusal: &Refusal) -> u8 {
     // Where the text can't be printed there is nobody left to tell.
-    let _ = error.print(rt);
-    if error.use_stderr() { 2 } else { 0 }
+    if refusal.is_fault() {
+        let _ = rt.eprint(refusal.text.as_str());
+        2
+    } else {
+        let _ = rt.print(refusal.text.as_str());
+        0
+    }
 }
 
 /// Opens the input and then the output, and acts. Answers the exit status.

@@ -1,15 +1,15 @@
-use crate::act::{Order, act};
-use crate::asm::AsmFault;
-use crate::command::{CommandFault, read_command_line};
-use crate::fault_lines::{asm_line, log_line};
-use crate::text::{TextFault, read_text};
-use clap::error::ErrorKind;
+use crate::act::act;
 use std::fmt::Display;
 use std::process::Abort;
 use std::test::Fail;
 use zk_jute::JuteFault;
 use zk_listing::{ListCause, ListFault};
 use zk_log::{DripIn, DripOut, LogFault, Sink, Source};
+use zk_orders::{
+    AsmFault, CommandFault, Order, TextFault, asm_line, log_line, read_command_line, read_text,
+};
+use zk_path::NoMemory;
+use zk_usage::ErrorKind;
 
 /// The header of a log with dbid 0.
 const HEADER: &str = "5a4b4c47000000020000000000000000";
@@ -18,8 +18,13 @@ const HEADER: &str = "5a4b4c47000000020000000000000000";
 const OPEN: &str =
     "0000000023a4058800000024010000000000000100000000000000010000000100000000000003e8fffffff60000753042";
 
-const CREATE: &str =
-    "000000009d9707220000004c010000000000000100000001000000010000000200000000000007d000000001000000022f61000000026869000000010000001f00000005776f726c6400000006616e796f6e65000000000142";
+/// The second entry's checksum, the rest of it but its last byte, and that byte.
+const CREATE_SUM: &str = "000000009d970722";
+
+const CREATE_RECORD: &str =
+    "0000004c010000000000000100000001000000010000000200000000000007d000000001000000022f61000000026869000000010000001f00000005776f726c6400000006616e796f6e650000000001";
+
+const LAST_BYTE: &str = "42";
 
 const CLOSE: &str =
     "000000000e8104be0000002001000000000000010000000200000001000000030000000000000bb8fffffff542";
@@ -38,6 +43,12 @@ const LOW_SESSION: &str =
 /// A node whose path and identities have characters to escape, with null content.
 const QUOTES: &str =
     "0000000049b91c510000005e0000000000000000000000000000000000000001fffffffffffffffb00000001000000032f225cffffffff000000020000001f00000005776f726c6400000006616e796f6e65ffffffff0000000361226200000004017fc3a900ffffffff42";
+
+/// The last line where a log ends with an entry.
+const WHOLE: &str = "end whole\n";
+
+/// The first line of the start state.
+const NO_TXN: &str = "zxid 0000000000000000\n";
 
 /// The lines of nodes that nothing changed.
 const NEW_ROOT: &str =
@@ -71,10 +82,9 @@ const CLOSE_LINE: &str = "0000000100000003 0100000000000001 2 3000 closeSession\
 /// A line whose zxid is not above 0.
 const ZERO_LINE: &str = "0000000000000000 0100000000000001 0 1000 createSession 30000\n";
 
-/// The bytes that some texts spell in hexadecimal digits.
-fn log_of(rt: &(impl Abort + AllocGlobal), parts: &[&str]) -> Result<Vec<u8>, Fail> {
-    Ok(hex::decode(rt.alloc(), joined(rt, parts)?.as_str())?)
-}
+/// An order, the parts of what it reads, the parts of what it writes, and what it tells. A log is spelled in hexadecimal
+/// digits.
+type Row<'a> = (Order, &'a [&'a str], &'a [&'a str], &'a str);
 
 /// These texts one behind the other.
 fn joined(rt: &(impl Abort + AllocGlobal), parts: &[&str]) -> Result<String, Fail> {
@@ -91,7 +101,7 @@ fn check(
     order: Order,
     file: DripIn,
     output: DripOut,
-    expected: (u8, &[u8], &str),
+    expected: (&[u8], &str),
 ) -> Result<(), Fail> {
     let mut file = Source::new(file);
     let mut script = Source::new(DripIn::new(b"", 1, None));
@@ -105,165 +115,285 @@ fn check(
         &mut output,
         &mut faults,
     )?;
-    assert_eq!(rt; status, expected.0);
-    assert_eq!(rt; output.into_inner().bytes(), expected.1);
-    assert_eq!(rt; faults.into_inner().bytes(), expected.2.as_bytes());
+    let (written, told) = expected;
+    let expected_status = if told.is_empty() { 0 } else { 1 };
+    assert_eq!(rt; status, expected_status);
+    assert_eq!(rt; output.into_inner().bytes(), written);
+    assert_eq!(rt; faults.into_inner().bytes(), told.as_bytes());
     Ok(())
 }
 
-/// Acts on an input that is read without a failure, and writes without one.
-fn check_input(
+/// Acts, where the read and the write of these numbers fail.
+fn check_failing(
     rt: &(impl Abort + AllocGlobal),
-    order: Order,
-    input: &[u8],
-    expected: (u8, &[u8], &str),
+    row: &Row,
+    good_reads: Option<u64>,
+    good_writes: Option<u64>,
 ) -> Result<(), Fail> {
-    let output = DripOut::new(rt.alloc(), 5, None);
-    check(rt, order, DripIn::new(input, 7, None), output, expected)
+    let (order, input, output, told) = *row;
+    let input = joined(rt, input)?;
+    let written = joined(rt, output)?;
+    let sink = DripOut::new(rt.alloc(), 4, good_writes);
+    if order == Order::Asm {
+        let log = hex::decode(rt.alloc(), written.as_str())?;
+        let source = DripIn::new(input.as_bytes(), 7, good_reads);
+        check(rt, order, source, sink, (&log, told))
+    } else {
+        let log = hex::decode(rt.alloc(), input.as_str())?;
+        let source = DripIn::new(&log, 7, good_reads);
+        check(rt, order, source, sink, (written.as_bytes(), told))
+    }
 }
 
-/// Shows the tree of a log.
-fn check_log(
-    rt: &(impl Abort + AllocGlobal),
-    log: &[u8],
-    upto: Option<i64>,
-    report: &[&str],
-) -> Result<(), Fail> {
-    let report = joined(rt, report)?;
-    check_input(rt, Order::Show { upto }, log, (0, report.as_bytes(), ""))
-}
-
-/// Shows the tree of a log that is refused.
-fn check_refused(rt: &(impl Abort + AllocGlobal), log: &[u8], fault: &str) -> Result<(), Fail> {
-    check_input(rt, Order::Show { upto: None }, log, (1, b"", fault))
-}
-
-/// Lists a log, and makes the log of its listing.
-fn check_listing(rt: &(impl Abort + AllocGlobal), log: &[u8], lines: &[&str]) -> Result<(), Fail> {
-    let listing = joined(rt, lines)?;
-    check_input(rt, Order::List, log, (0, listing.as_bytes(), ""))?;
-    check_input(rt, Order::Asm, listing.as_bytes(), (0, log, ""))
-}
-
-/// Makes a log of a text that is refused.
-fn check_text(rt: &(impl Abort + AllocGlobal), lines: &[&str], fault: &str) -> Result<(), Fail> {
-    let text = joined(rt, lines)?;
-    check_input(rt, Order::Asm, text.as_bytes(), (1, b"", fault))
+/// Acts for each row, where nothing fails.
+fn check_all(rt: &(impl Abort + AllocGlobal), rows: &[Row]) -> Result<(), Fail> {
+    for row in rows {
+        check_failing(rt, row, None, None)?;
+    }
+    Ok(())
 }
 
 #[test]
 fn first_log_shows_its_tree(rt: HostRuntime) -> Result<(), Fail> {
-    let log = log_of(&rt, &[HEADER, OPEN, CREATE, CLOSE])?;
-    assert_eq!(rt; log.len(), 199);
-    let last = [LAST_TREE, ZOOKEEPER, QUOTA, "end whole\n"];
-    check_log(&rt, &log, None, &last)?;
-    let head = log_of(&rt, &[HEADER, OPEN, CREATE])?;
-    let second = [SECOND_TREE, ZOOKEEPER, QUOTA, "end whole\n"];
-    check_log(&rt, &head, None, &second)?;
-    check_log(&rt, &log, Some(0x1_0000_0002), &second)?;
-    let first = [FIRST_TREE, NEW_ROOT, ZOOKEEPER, QUOTA, "end whole\n"];
-    check_log(&rt, &log, Some(0x1_0000_0001), &first)?;
-    let start = [
-        "zxid 0000000000000000\n",
-        NEW_ROOT,
-        ZOOKEEPER,
-        QUOTA,
-        "end whole\n",
+    let log = [HEADER, OPEN, CREATE_SUM, CREATE_RECORD, LAST_BYTE, CLOSE];
+    assert_eq!(rt; joined(&rt, log.as_slice())?.len(), 2 * 199);
+    let head = [HEADER, OPEN, CREATE_SUM, CREATE_RECORD, LAST_BYTE];
+    let second = [SECOND_TREE, ZOOKEEPER, QUOTA, WHOLE];
+    let rows = [
+        (
+            Order::Show { upto: None },
+            log.as_slice(),
+            [LAST_TREE, ZOOKEEPER, QUOTA, WHOLE].as_slice(),
+            "",
+        ),
+        (
+            Order::Show { upto: None },
+            head.as_slice(),
+            second.as_slice(),
+            "",
+        ),
+        (
+            Order::Show {
+                upto: Some(0x1_0000_0002),
+            },
+            log.as_slice(),
+            second.as_slice(),
+            "",
+        ),
+        (
+            Order::Show {
+                upto: Some(0x1_0000_0001),
+            },
+            log.as_slice(),
+            [FIRST_TREE, NEW_ROOT, ZOOKEEPER, QUOTA, WHOLE].as_slice(),
+            "",
+        ),
+        (
+            Order::Show {
+                upto: Some(i64::MIN),
+            },
+            log.as_slice(),
+            [NO_TXN, NEW_ROOT, ZOOKEEPER, QUOTA, WHOLE].as_slice(),
+            "",
+        ),
     ];
-    check_log(&rt, &log, Some(i64::MIN), &start)
+    check_all(&rt, rows.as_slice())
 }
 
 #[test]
 fn torn_padded_and_damaged_logs(rt: HostRuntime) -> Result<(), Fail> {
-    let mut torn = log_of(&rt, &[HEADER, OPEN, CREATE])?;
-    torn.truncate(153);
-    let report = [FIRST_TREE, NEW_ROOT, ZOOKEEPER, QUOTA, "end torn 65\n"];
-    check_log(&rt, &torn, None, &report)?;
-    let padded = log_of(&rt, &[HEADER, OPEN, CREATE, "000000000000000000000000"])?;
-    check_log(
-        &rt,
-        &padded,
-        None,
-        &[SECOND_TREE, ZOOKEEPER, QUOTA, "end padding\n"],
-    )?;
-    let mut damaged = log_of(&rt, &[HEADER, OPEN, CREATE])?;
-    assert_eq!(rt; damaged.len(), 154);
-    damaged[72] = 0;
-    check_refused(&rt, &damaged, "zk: G2 65\n")?;
-    torn.truncate(15);
-    check_refused(&rt, &torn, "zk: G1\n")?;
-    let twice = log_of(&rt, &[HEADER, OPEN, CREATE, CREATE])?;
-    check_refused(&rt, &twice, "zk: G4 154\n")?;
-    let unknown = log_of(&rt, &[HEADER, OPEN, CREATE, NO_KIND])?;
-    check_refused(&rt, &unknown, "zk: G3 154\n")
-}
-
-#[test]
-fn sessions_stand_in_the_order_of_their_digits(rt: HostRuntime) -> Result<(), Fail> {
-    let log = log_of(&rt, &[HEADER, HIGH_SESSION, LOW_SESSION])?;
-    let report = [
-        "zxid 0000000000000002\nsession 0000000000000001 6000\nsession 8000000000000001 5000\n",
-        NEW_ROOT,
-        ZOOKEEPER,
-        QUOTA,
-        "end whole\n",
+    let last = Order::Show { upto: None };
+    let rows = [
+        (
+            last,
+            [HEADER, OPEN, CREATE_SUM, CREATE_RECORD].as_slice(),
+            [FIRST_TREE, NEW_ROOT, ZOOKEEPER, QUOTA, "end torn 65\n"].as_slice(),
+            "",
+        ),
+        (
+            last,
+            [
+                HEADER,
+                OPEN,
+                CREATE_SUM,
+                CREATE_RECORD,
+                LAST_BYTE,
+                "000000000000000000000000",
+            ]
+            .as_slice(),
+            [SECOND_TREE, ZOOKEEPER, QUOTA, "end padding\n"].as_slice(),
+            "",
+        ),
+        // the last byte of the second entry's checksum
+        (
+            last,
+            [HEADER, OPEN, "000000009d970700", CREATE_RECORD, LAST_BYTE].as_slice(),
+            [].as_slice(),
+            "zk: G2 65\n",
+        ),
+        // a header without its last byte
+        (
+            last,
+            ["5a4b4c470000000200000000000000"].as_slice(),
+            [].as_slice(),
+            "zk: G1\n",
+        ),
+        (
+            last,
+            [
+                HEADER,
+                OPEN,
+                CREATE_SUM,
+                CREATE_RECORD,
+                LAST_BYTE,
+                CREATE_SUM,
+                CREATE_RECORD,
+                LAST_BYTE,
+            ]
+            .as_slice(),
+            [].as_slice(),
+            "zk: G4 154\n",
+        ),
+        (
+            last,
+            [HEADER, OPEN, CREATE_SUM, CREATE_RECORD, LAST_BYTE, NO_KIND].as_slice(),
+            [].as_slice(),
+            "zk: G3 154\n",
+        ),
     ];
-    check_log(&rt, &log, None, &report)
+    check_all(&rt, rows.as_slice())
 }
 
 #[test]
-fn texts_are_escaped_and_null_content_is_a_minus(rt: HostRuntime) -> Result<(), Fail> {
-    let log = log_of(&rt, &[HEADER, QUOTES])?;
-    let report = [
-        "zxid 0000000000000001\n",
-        "\"/\" x 1 31 \"world\" \"anyone\" 0000000000000000 0000000000000000 0 0 0 0 0 0000000000000000 0 2 0000000000000001\n",
-        "\"/\\\"\\\\\" - 2 31 \"world\" \"anyone\" -1 \"a\\\"b\" \"\\u{1}\\u{7f}\u{e9}\" 0000000000000001 0000000000000001 -5 -5 0 0 0 0000000000000000 0 0 0000000000000001\n",
-        ZOOKEEPER,
-        QUOTA,
-        "end whole\n",
+fn sessions_stand_in_order_and_texts_are_escaped(rt: HostRuntime) -> Result<(), Fail> {
+    let rows = [
+        (
+            Order::Show { upto: None },
+            [HEADER, HIGH_SESSION, LOW_SESSION].as_slice(),
+            [
+                "zxid 0000000000000002\nsession 0000000000000001 6000\nsession 8000000000000001 5000\n",
+                NEW_ROOT,
+                ZOOKEEPER,
+                QUOTA,
+                WHOLE,
+            ]
+            .as_slice(),
+            "",
+        ),
+        (
+            Order::Show { upto: None },
+            [HEADER, QUOTES].as_slice(),
+            [
+                "zxid 0000000000000001\n",
+                "\"/\" x 1 31 \"world\" \"anyone\" 0000000000000000 0000000000000000 0 0 0 0 0 0000000000000000 0 2 0000000000000001\n",
+                "\"/\\\"\\\\\" - 2 31 \"world\" \"anyone\" -1 \"a\\\"b\" \"\\u{1}\\u{7f}\u{e9}\" 0000000000000001 0000000000000001 -5 -5 0 0 0 0000000000000000 0 0 0000000000000001\n",
+                ZOOKEEPER,
+                QUOTA,
+                WHOLE,
+            ]
+            .as_slice(),
+            "",
+        ),
     ];
-    check_log(&rt, &log, None, &report)
+    check_all(&rt, rows.as_slice())
 }
 
 #[test]
-fn failing_devices_are_told(rt: HostRuntime) -> Result<(), Fail> {
-    let log = log_of(&rt, &[HEADER, OPEN, CREATE])?;
-    let show = Order::Show { upto: None };
-    let failing = DripOut::new(rt.alloc(), 5, Some(3));
-    let told = (1, b"zxid 0000000100".as_slice(), "zk: write\n");
-    check(&rt, show, DripIn::new(&log, 7, None), failing, told)?;
-    let output = DripOut::new(rt.alloc(), 5, None);
-    let unread = (1, b"".as_slice(), "zk: G6\n");
-    check(&rt, show, DripIn::new(&log, 7, Some(4)), output, unread)
-}
-
-#[test]
-fn first_log_lists_and_assembles(rt: HostRuntime) -> Result<(), Fail> {
-    let log = log_of(&rt, &[HEADER, OPEN, CREATE, CLOSE])?;
-    check_listing(&rt, &log, &[OPEN_LINE, CREATE_LINE, CLOSE_LINE])?;
-    let empty = log_of(&rt, &[HEADER])?;
-    check_listing(&rt, &empty, &[])
+fn logs_list_and_assemble(rt: HostRuntime) -> Result<(), Fail> {
+    let log = [HEADER, OPEN, CREATE_SUM, CREATE_RECORD, LAST_BYTE, CLOSE];
+    let listing = [OPEN_LINE, CREATE_LINE, CLOSE_LINE];
+    let rows = [
+        (Order::List, log.as_slice(), listing.as_slice(), ""),
+        (Order::Asm, listing.as_slice(), log.as_slice(), ""),
+        (Order::List, [HEADER].as_slice(), [].as_slice(), ""),
+        (Order::Asm, [].as_slice(), [HEADER].as_slice(), ""),
+    ];
+    check_all(&rt, rows.as_slice())
 }
 
 #[test]
 fn refused_listings_leave_the_output_empty(rt: HostRuntime) -> Result<(), Fail> {
-    check_text(&rt, &[OPEN_LINE, "+1\n"], "zk: L2 2\n")?;
-    check_text(&rt, &[CREATE_LINE, OPEN_LINE], "zk: order 2\n")?;
-    check_text(&rt, &[OPEN_LINE, OPEN_LINE, "+1\n"], "zk: L2 3\n")?;
-    check_text(&rt, &[OPEN_LINE, OPEN_LINE], "zk: order 2\n")?;
-    check_text(&rt, &[ZERO_LINE], "zk: order 1\n")?;
-    check_input(&rt, Order::Asm, b"0\xff", (1, b"", "zk: utf8\n"))
+    let rows = [
+        (
+            Order::Asm,
+            [OPEN_LINE, "+1\n"].as_slice(),
+            [].as_slice(),
+            "zk: L2 2\n",
+        ),
+        (
+            Order::Asm,
+            [CREATE_LINE, OPEN_LINE].as_slice(),
+            [].as_slice(),
+            "zk: order 2\n",
+        ),
+        (
+            Order::Asm,
+            [OPEN_LINE, OPEN_LINE, "+1\n"].as_slice(),
+            [].as_slice(),
+            "zk: L2 3\n",
+        ),
+        (
+            Order::Asm,
+            [OPEN_LINE, OPEN_LINE].as_slice(),
+            [].as_slice(),
+            "zk: order 2\n",
+        ),
+        (
+            Order::Asm,
+            [ZERO_LINE].as_slice(),
+            [].as_slice(),
+            "zk: order 1\n",
+        ),
+    ];
+    check_all(&rt, rows.as_slice())?;
+    let output = DripOut::new(rt.alloc(), 4, None);
+    let input = DripIn::new(b"0\xff", 7, None);
+    check(&rt, Order::Asm, input, output, (b"", "zk: utf8\n"))
 }
 
 #[test]
-fn failing_devices_of_asm_are_told(rt: HostRuntime) -> Result<(), Fail> {
-    let output = DripOut::new(rt.alloc(), 5, None);
-    let text = DripIn::new(OPEN_LINE.as_bytes(), 7, Some(4));
-    check(&rt, Order::Asm, text, output, (1, b"", "zk: read\n"))?;
-    let output = DripOut::new(rt.alloc(), 4, Some(2));
-    let text = DripIn::new(OPEN_LINE.as_bytes(), 7, None);
-    let told = (1, b"ZKLG\0\0\0\x02".as_slice(), "zk: write\n");
-    check(&rt, Order::Asm, text, output, told)
+fn failing_devices_are_told(rt: HostRuntime) -> Result<(), Fail> {
+    let log = [HEADER, OPEN, CREATE_SUM, CREATE_RECORD, LAST_BYTE];
+    let last = Order::Show { upto: None };
+    for (order, input, output, told, good_reads, good_writes) in [
+        // three writes of four bytes
+        (
+            last,
+            log.as_slice(),
+            ["zxid 0000000"].as_slice(),
+            "zk: write\n",
+            None,
+            Some(3),
+        ),
+        (
+            last,
+            log.as_slice(),
+            [].as_slice(),
+            "zk: G6\n",
+            Some(4),
+            None,
+        ),
+        (
+            Order::Asm,
+            [OPEN_LINE].as_slice(),
+            [].as_slice(),
+            "zk: read\n",
+            Some(4),
+            None,
+        ),
+        // two writes of four bytes
+        (
+            Order::Asm,
+            [OPEN_LINE].as_slice(),
+            ["5a4b4c4700000002"].as_slice(),
+            "zk: write\n",
+            None,
+            Some(2),
+        ),
+    ] {
+        check_failing(&rt, &(order, input, output, told), good_reads, good_writes)?;
+    }
+    Ok(())
 }
 
 /// Reads a command line that names a job.
@@ -284,7 +414,7 @@ fn check_no_job(
     kind: ErrorKind,
 ) -> Result<(), Fail> {
     let found = match read_command_line(rt.alloc(), words) {
-        Err(CommandFault::Refused(error)) => Some(error.kind()),
+        Err(CommandFault::Refused(error)) => Some(error.kind),
         _ => None,
     };
     assert_eq!(rt; found, Some(kind));
@@ -295,10 +425,10 @@ fn check_no_job(
 fn check_line(
     rt: &(impl Abort + AllocGlobal),
     fault: &impl Display,
-    line: &String,
+    line: Result<String, NoMemory>,
 ) -> Result<(), Fail> {
     let text = format!(in rt.alloc(); "zk: {fault}\n")?;
-    assert_eq!(rt; line.as_str(), text.as_str());
+    assert_eq!(rt; line?.as_str(), text.as_str());
     Ok(())
 }
 
@@ -314,7 +444,7 @@ fn lines_of_faults_are_their_texts(rt: HostRuntime) -> Result<(), Fail> {
         LogFault::Endless,
         LogFault::NoMemory,
     ] {
-        check_line(&rt, &fault, &log_line(rt.alloc(), fault)?)?;
+        check_line(&rt, &fault, log_line(rt.alloc(), fault))?;
     }
     for fault in [
         AsmFault::Read,
@@ -322,23 +452,23 @@ fn lines_of_faults_are_their_texts(rt: HostRuntime) -> Result<(), Fail> {
         AsmFault::Order(2),
         AsmFault::Length(2),
         AsmFault::NoMemory,
+        refused(ListCause::Fields),
+        refused(ListCause::Number),
+        refused(ListCause::Quote),
+        refused(ListCause::Hex),
+        refused(ListCause::Word),
+        refused(ListCause::Path),
+        refused(ListCause::NoNewline),
+        refused(ListCause::NoMemory),
     ] {
-        check_line(&rt, &fault, &asm_line(rt.alloc(), fault)?)?;
-    }
-    for cause in [
-        ListCause::Fields,
-        ListCause::Number,
-        ListCause::Quote,
-        ListCause::Hex,
-        ListCause::Word,
-        ListCause::Path,
-        ListCause::NoNewline,
-        ListCause::NoMemory,
-    ] {
-        let fault = AsmFault::Listing(ListFault { line: 2, cause });
-        check_line(&rt, &fault, &asm_line(rt.alloc(), fault)?)?;
+        check_line(&rt, &fault, asm_line(rt.alloc(), fault))?;
     }
     Ok(())
+}
+
+/// The fault of a text whose second line is refused.
+fn refused(cause: ListCause) -> AsmFault {
+    AsmFault::Listing(ListFault { line: 2, cause })
 }
 
 #[test]
@@ -363,36 +493,73 @@ fn command_lines_name_jobs(rt: HostRuntime) -> Result<(), Fail> {
     let least = Order::Show {
         upto: Some(i64::MIN),
     };
-    let line = ["zk", "show", "a.log", "8000000000000000"];
-    check_job(&rt, line.as_slice(), (least, "a.log", "@"))?;
-    for line in [
-        ["zk", "show", "--", "@", "last"],
-        ["zk", "show", "@", "--", "last"],
-        ["other", "show", "@", "last", "--"],
+    for (words, job) in [
+        (
+            ["zk", "show", "a.log", "8000000000000000"].as_slice(),
+            (least, "a.log", "@"),
+        ),
+        (
+            ["zk", "show", "--", "@", "last"].as_slice(),
+            (last, "@", "@"),
+        ),
+        (
+            ["zk", "show", "@", "--", "last"].as_slice(),
+            (last, "@", "@"),
+        ),
+        (
+            ["other", "show", "@", "last", "--"].as_slice(),
+            (last, "@", "@"),
+        ),
+        (["zk", "list", "-"].as_slice(), (Order::List, "-", "@")),
+        (
+            ["zk", "asm", "a.txt", "--", "--"].as_slice(),
+            (Order::Asm, "a.txt", "--"),
+        ),
     ] {
-        check_job(&rt, line.as_slice(), (last, "@", "@"))?;
+        check_job(&rt, words, job)?;
     }
-    check_job(&rt, ["zk", "list", "-"].as_slice(), (Order::List, "-", "@"))?;
-    let line = ["zk", "asm", "a.txt", "--", "--"];
-    check_job(&rt, line.as_slice(), (Order::Asm, "a.txt", "--"))
+    Ok(())
 }
 
 #[test]
 fn clap_refuses_what_names_no_job(rt: HostRuntime) -> Result<(), Fail> {
-    for zxid in ["0", "+000000000000001", "000000010000000A", "Last"] {
-        let line = ["zk", "show", "@", zxid];
-        check_no_job(&rt, line.as_slice(), ErrorKind::ValueValidation)?;
-    }
-    for (line, kind) in [
-        (["zk", "show", "--help", "a"], ErrorKind::DisplayHelp),
-        (["zk", "--version", "show", "a"], ErrorKind::DisplayVersion),
-        (["zk", "list", "-x", "a"], ErrorKind::UnknownArgument),
-        (["zk", "list", "a", "b"], ErrorKind::UnknownArgument),
-        (["zk", "--", "list", "a"], ErrorKind::UnknownArgument),
-        (["zk", "asm", "a", "--"], ErrorKind::MissingRequiredArgument),
-        (["zk", "tree", "a", "b"], ErrorKind::InvalidSubcommand),
+    let zxid = ErrorKind::ValueValidation;
+    for (words, kind) in [
+        (["zk", "show", "@", "0"].as_slice(), zxid),
+        (["zk", "show", "@", "+000000000000001"].as_slice(), zxid),
+        (["zk", "show", "@", "000000010000000A"].as_slice(), zxid),
+        (["zk", "show", "@", "Last"].as_slice(), zxid),
+        (
+            ["zk", "show", "--help", "a"].as_slice(),
+            ErrorKind::DisplayHelp,
+        ),
+        (
+            ["zk", "--version", "show", "a"].as_slice(),
+            ErrorKind::DisplayVersion,
+        ),
+        (
+            ["zk", "list", "-x", "a"].as_slice(),
+            ErrorKind::UnknownArgument,
+        ),
+        (
+            ["zk", "list", "a", "b"].as_slice(),
+            ErrorKind::UnknownArgument,
+        ),
+        (
+            ["zk", "--", "list", "a"].as_slice(),
+            ErrorKind::UnknownArgument,
+        ),
+        (
+            ["zk", "asm", "a", "--"].as_slice(),
+            ErrorKind::MissingRequiredArgument,
+        ),
+        (
+            ["zk", "tree", "a", "b"].as_slice(),
+            ErrorKind::InvalidSubcommand,
+        ),
+        (["zk"].as_slice(), ErrorKind::MissingSubcommand),
     ] {
-        check_no_job(&rt, line.as_slice(), kind)?;
+        check_no_job(&rt, words, kind)?;
     }
-    check_no_job(&rt, ["zk"].as_slice(), ErrorKind::MissingSubcommand)
+    Ok(())
 }

@@ -1,7 +1,0 @@
-pub mod AssemblingLaws
-pub mod DigitsLaws
-pub mod LinesLaws
-pub mod ListedLaws
-pub mod NamesLaws
-pub mod PageLaws
-pub mod WordsLaws

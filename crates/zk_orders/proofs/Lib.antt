@@ -1,0 +1,8 @@
+pub mod AssemblingLaws
+pub mod DigitsLaws
+pub mod LinesLaws
+pub mod ListedLaws
+pub mod NamesLaws
+pub mod NodeTexts
+pub mod PageLaws
+pub mod WordsLaws

@@ -1,0 +1,80 @@
+-- Words name at most one order, with one input and one output.
+use Rattle.std.proofs.Common.{◌≡◌, ℕ, ◌*◌, ◌<◌, ◌^◌, ℤ, pos, negsuc, List, [], ◌∷◌, length, Option, Some, None, Ok, FitsSigned, refl, sym, ap, ◌∙◌, subst, codes, arith, to_z, of_z, w64}
+use Rattle.std.proofs.lemmas.Int.{to_z-of_z}
+use Rattle.std.specs.Int.{to_be_bytes, cast_unsigned}
+use Rattle.hex.proofs.HexLemmas.{length-encode_with}
+use Rattle.hex.specs.Hex.{encode_lower, lower_digits, decode_sized}
+use Rattle.zk_listing.specs.Spelling.{sixteen_digits, id_digits}
+use Rattle.zk_orders.specs.Commands.{IsUpto, Names, NamesBy, NamesOnly, upto_text, values_of}
+use Rattle.zk_orders.specs.declared.command.Order.{Order}
+use Rattle.zk_orders.specs.declared.command.Order.TheVariants as orders
+use Rattle.zk_orders.specs.declared.command.Job.{Job}
+use Rattle.zk_orders.proofs.DigitsLaws.{digits_read, same_bits}
+
+-- ---- numbers of transactions
+
+bits_below : (z : ℤ) → FitsSigned w64 z → of_z w64 z < 2 ^ 64
+bits_below (pos n) fits = let small : n < 2 ^ 63 = fits.sfits in omega arith
+bits_below (negsuc n) fits = omega arith
+
+one_number : (z y : ℤ) → FitsSigned w64 z → FitsSigned w64 y → id_digits z ≡ id_digits y → z ≡ y
+one_number z y p q e =
+    let n = of_z w64 z in
+    let m = of_z w64 y in
+    let word = sixteen_digits n in
+    let bytes = to_be_bytes w64 n in
+    let read : decode_sized word 8 ≡ Ok bytes = digits_read word n refl in
+    let bits : n ≡ m = sym (same_bits word bytes n (bits_below z p) read refl) ∙ same_bits word bytes m (bits_below y q) read e in
+    sym (to_z-of_z w64 z p) ∙ ap (to_z w64) bits ∙ to_z-of_z w64 y q
+
+no_number : (z : ℤ) → codes "last" ≡ id_digits z → ⊥
+unfolding sixteen_digits
+no_number z e =
+    let bytes = to_be_bytes w64 (cast_unsigned w64 z) in
+    let long : length (encode_lower bytes) ≡ 2 * length bytes = length-encode_with lower_digits bytes in
+    let short : 4 ≡ length (encode_lower bytes) = ap length e in
+    let eight : length bytes ≡ 8 = refl in
+    omega (arith, long, short, eight)
+
+one_upto : (u v : Option ℤ) → IsUpto u → IsUpto v → upto_text u ≡ upto_text v → u ≡ v
+one_upto None None p q e = refl
+one_upto None (Some y) p q e = absurd (no_number y e)
+one_upto (Some z) None p q e = absurd (no_number z (sym e))
+one_upto (Some z) (Some y) p q e = ap Some (one_number z y p q e)
+
+-- ---- orders
+
+abbrev IsSame : Order → List ℕ → List ℕ → Order → List ℕ → List ℕ → Type 0
+IsSame order input output order' input' output' = (order ≡ order') × (input ≡ input') × (output ≡ output')
+
+same_by : (name : List ℕ) (values : List (List ℕ)) (o o' : Order) (i i' t t' : List ℕ) → NamesBy name values o i t → NamesBy name values o' i' t' → IsSame o i t o' i' t'
+same_by name values (orders.Show u) (orders.Show v) i i' t t' p q =
+    let both : i ∷ upto_text u ∷ [] ≡ i' ∷ upto_text v ∷ [] = sym p.1 ∙ q.1 in
+    let input : i ≡ i' = cc both in
+    let text : upto_text u ≡ upto_text v = cc both in
+    (ap orders.Show (one_upto u v p.2 q.2 text), input, p.3 ∙ sym q.3)
+same_by name values orders.List orders.List i i' t t' p q =
+    let both : i ∷ [] ≡ i' ∷ [] = sym p.1 ∙ q.1 in
+    (refl, cc both, p.2 ∙ sym q.2)
+same_by name values orders.Asm orders.Asm i i' t t' p q =
+    let both : i ∷ t ∷ [] ≡ i' ∷ t' ∷ [] = sym p.1 ∙ q.1 in
+    (refl, cc both, cc both)
+same_by name values (orders.Show u) orders.List i i' t t' p q = absurd (let e : codes "show" ≡ codes "list" = sym p.0 ∙ q.0 in cc)
+same_by name values (orders.Show u) orders.Asm i i' t t' p q = absurd (let e : codes "show" ≡ codes "asm" = sym p.0 ∙ q.0 in cc)
+same_by name values orders.List (orders.Show v) i i' t t' p q = absurd (let e : codes "list" ≡ codes "show" = sym p.0 ∙ q.0 in cc)
+same_by name values orders.List orders.Asm i i' t t' p q = absurd (let e : codes "list" ≡ codes "asm" = sym p.0 ∙ q.0 in cc)
+same_by name values orders.Asm (orders.Show v) i i' t t' p q = absurd (let e : codes "asm" ≡ codes "show" = sym p.0 ∙ q.0 in cc)
+same_by name values orders.Asm orders.List i i' t t' p q = absurd (let e : codes "asm" ≡ codes "list" = sym p.0 ∙ q.0 in cc)
+
+same_named : (words : List (List ℕ)) (o o' : Order) (i i' t t' : List ℕ) → Names words o i t → Names words o' i' t' → IsSame o i t o' i' t'
+same_named words o o' i i' t t' p q =
+    let both : p.program ∷ p.name ∷ p.rest ≡ q.program ∷ q.name ∷ q.rest = sym p.spelled ∙ q.spelled in
+    let name : q.name ≡ p.name = cc both in
+    let rest : q.rest ≡ p.rest = cc both in
+    let found : Some q.values ≡ Some p.values = sym q.given ∙ ap values_of rest ∙ p.given in
+    let values : q.values ≡ p.values = cc found in
+    same_by p.name p.values o o' i i' t t' p.named
+    (subst (λ (n : List ℕ). NamesBy n p.values o' i' t') name (subst (λ (v : List (List ℕ)). NamesBy q.name v o' i' t') values q.named))
+
+pub names_only : (words : List (List ℕ)) (job : Job) → Names words job.order job.input.now job.output.now → NamesOnly words job
+names_only words job p = record { names = p; only = λ o i t q. same_named words o job.order i job.input.now t job.output.now q p }

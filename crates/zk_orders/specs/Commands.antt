@@ -1,0 +1,102 @@
+-- What the words of a command line name.
+use Rattle.std.specs.Prelude.{◌≡◌, ◌≢◌, ℕ, ℤ, ◌<◌, ◌^◌, ◌==◌, Bool, false, if◌then◌else◌, List, [], ◌∷◌, Option, Some, None, Result, Ok, Err, FitsSigned, codes}
+use Rattle.std.specs.Int.{w64}
+use Rattle.std.specs.Str.{bytes_eq}
+use Rattle.zk_listing.specs.Spelling.{sixteen_digits, id_digits}
+use Rattle.zk_orders.specs.declared.command.Order.{Order}
+use Rattle.zk_orders.specs.declared.command.Order.TheVariants as orders
+use Rattle.zk_orders.specs.declared.command.CommandFault.{CommandFault}
+use Rattle.zk_orders.specs.declared.command.CommandFault.TheVariants as faults
+use Rattle.zk_orders.specs.declared.command.Job.{Job}
+
+-- ---- up to which transaction
+
+-- the 64 bits that a word spells in sixteen digits, or none where it spells no bits
+abbrev pub ReadsDigits : List ℕ → Option ℕ → Type 0
+ReadsDigits word (Some bits) = word ≡ sixteen_digits bits
+ReadsDigits word None = (bits : ℕ) → bits < 2 ^ 64 → word ≢ sixteen_digits bits
+
+-- up to which transaction others count: its number, or "last"
+abbrev pub upto_text : Option ℤ → List ℕ
+upto_text None = codes "last"
+upto_text (Some zxid) = id_digits zxid
+
+-- a number of a transaction, or none
+abbrev pub IsUpto : Option ℤ → Type 0
+IsUpto None = Unit {0}
+IsUpto (Some zxid) = FitsSigned w64 zxid
+
+-- up to which transaction a word says that others count, or none where it says no such thing
+abbrev pub ReadsUpto : List ℕ → Option (Option ℤ) → Type 0
+ReadsUpto word (Some upto) = word ≡ upto_text upto
+ReadsUpto word None = (upto : Option ℤ) → IsUpto upto → word ≢ upto_text upto
+
+-- ---- the values behind an order's name
+
+-- an option, as "-h" or "--help"; "-" alone is a value
+abbrev pub is_option : List ℕ → Bool
+is_option (first ∷ second ∷ rest) = first == 45
+is_option word = false
+
+abbrev pub with_value : List ℕ → Option (List (List ℕ)) → Option (List (List ℕ))
+with_value word None = None
+with_value word (Some values) = Some (word ∷ values)
+
+-- Words give themselves as values, unless one is an option. The first "--" is left out, and whatever stands behind it is
+-- a value.
+abbrev pub values_of : List (List ℕ) → Option (List (List ℕ))
+values_of [] = Some []
+values_of (word ∷ words) = if bytes_eq word (codes "--") then Some words else (if is_option word then None else with_value word (values_of words))
+
+-- ---- a command line
+
+-- an order's name and its values name an order, its input and its output; "@" is a standard stream
+abbrev pub NamesBy : List ℕ → List (List ℕ) → Order → List ℕ → List ℕ → Type 0
+NamesBy name values (orders.Show upto) input output = (name ≡ codes "show") × (values ≡ input ∷ upto_text upto ∷ []) × IsUpto upto × (output ≡ codes "@")
+NamesBy name values orders.List input output = (name ≡ codes "list") × (values ≡ input ∷ []) × (output ≡ codes "@")
+NamesBy name values orders.Asm input output = (name ≡ codes "asm") × (values ≡ input ∷ output ∷ [])
+
+-- the words are the program's name, an order's, and words that give its values
+pub record Names (words : List (List ℕ)) (order : Order) (input output : List ℕ) : Type 0 where
+  pub program : List ℕ
+  pub name : List ℕ
+  pub rest : List (List ℕ)
+  pub values : List (List ℕ)
+  pub spelled : words ≡ program ∷ name ∷ rest
+  pub given : values_of rest ≡ Some values
+  pub named : NamesBy name values order input output
+
+abbrev pub NamesNothing : List (List ℕ) → Type 0
+NamesNothing words = (order : Order) (input output : List ℕ) → ¬ Names words order input output
+
+-- a job is what the words name
+abbrev pub ReadsJob : List (List ℕ) → Option Job → Type 0
+ReadsJob words (Some job) = Names words job.order job.input.now job.output.now
+ReadsJob words None = NamesNothing words
+
+-- the words name this job, and no other
+pub record NamesOnly (words : List (List ℕ)) (job : Job) : Type 0 where
+  pub names : Names words job.order job.input.now job.output.now
+  pub only : (order : Order) (input output : List ℕ) → Names words order input output → (order ≡ job.order) × (input ≡ job.input.now) × (output ≡ job.output.now)
+
+abbrev pub ReadsCommandLine : List (List ℕ) → Result Job CommandFault → Type 0
+ReadsCommandLine words (Ok job) = NamesOnly words job
+ReadsCommandLine words (Err (faults.Refused error)) = NamesNothing words
+ReadsCommandLine words (Err faults.NoMemory) = Unit {0}
+
+-- ---- its parts
+
+-- a job is what an order's name and its values name
+abbrev pub ReadsJobBy : List ℕ → List (List ℕ) → Option Job → Type 0
+ReadsJobBy name values (Some job) = NamesBy name values job.order job.input.now job.output.now
+ReadsJobBy name values None = (order : Order) (input output : List ℕ) → ¬ NamesBy name values order input output
+
+-- a list's only element
+abbrev pub IsOnly : List (List ℕ) → Option (List ℕ) → Type 0
+IsOnly values (Some value) = values ≡ value ∷ []
+IsOnly values None = (value : List ℕ) → values ≢ value ∷ []
+
+-- a list's only two elements
+abbrev pub AreOnly : List (List ℕ) → Option (List ℕ × List ℕ) → Type 0
+AreOnly values (Some both) = values ≡ both.0 ∷ both.1 ∷ []
+AreOnly values None = (first second : List ℕ) → values ≢ first ∷ second ∷ []

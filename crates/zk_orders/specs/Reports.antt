@@ -1,0 +1,40 @@
+-- The lines of reports on a tree.
+use Rattle.std.specs.Prelude.{ℕ, ℤ, List, [], ◌∷◌, ◌++◌, Option, Some, None, codes}
+use Rattle.std.specs.Fmt.{signed_decimal}
+use Rattle.std.specs.FinMap.{get, entries}
+use Rattle.std.specs.List.{flat_map}
+use Rattle.zk_listing.specs.Reports.{node_line}
+use Rattle.zk_listing.specs.Spelling.{sixteen_digits, id_digits}
+use Rattle.zk_table.specs.declared.node.Node.{Node}
+use Rattle.zk_table.specs.States.{NodeMap, State, stat_of}
+
+-- a line, with the newline that ends it
+abbrev pub line : List ℕ → List ℕ
+line text = text ++ 10 ∷ []
+
+-- the last transaction
+unfoldable pub zxid_line : ℤ → List ℕ
+zxid_line zxid = codes "zxid " ++ id_digits zxid
+
+-- an open session, by its 64 bits, and its timeout in milliseconds
+unfoldable pub session_line : ℕ × ℤ → List ℕ
+session_line session = codes "session " ++ sixteen_digits session.0 ++ 32 ∷ signed_decimal session.1
+
+-- a node of a tree
+abbrev pub tree_node_line : NodeMap → List ℕ × Node → List ℕ
+tree_node_line nodes entry = node_line entry.0 entry.1 (stat_of nodes entry.0 entry.1)
+
+-- the line of the node at a path, if there is one
+abbrev pub line_of_found : NodeMap → List ℕ → Option Node → List ℕ
+line_of_found nodes path None = []
+line_of_found nodes path (Some node) = line (tree_node_line nodes (path, node))
+
+abbrev pub line_at : NodeMap → List ℕ → List ℕ
+line_at nodes path = line_of_found nodes path (get nodes path)
+
+-- the last transaction, the open sessions in order, and the nodes in the order of their paths
+unfoldable pub tree_report : State → List ℕ
+tree_report state =
+    line (zxid_line state.last)
+    ++ flat_map (λ session. line (session_line session)) (entries state.sessions)
+    ++ flat_map (λ entry. line (tree_node_line state.nodes entry)) (entries state.nodes)

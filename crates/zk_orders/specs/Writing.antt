@@ -1,0 +1,35 @@
+-- What writing a text line by line does to a Sink, whose writer may hold known bytes.
+use Rattle.std.specs.Prelude.{◌≡◌, ℕ, ◌+◌, List, ◌++◌, Option, Result, Ok, Err}
+use Rattle.std.specs.Io.KnownBytes.{Keeps, Appends}
+use Rattle.zk_log.specs.Devices.{writer_of, write_failures_of, AppendsSome}
+use Rattle.zk_log.specs.declared.sink.Sink.{Sink}
+use Rattle.zk_orders.specs.declared.lines.LineFault.{LineFault}
+use Rattle.zk_orders.specs.declared.lines.LineFault.TheVariants as faults
+
+-- no byte came to the writer, and nothing failed
+pub record LeavesSink {W : Type 0} (contents : W → Option (List ℕ)) (old new : Sink W) : Type 0 where
+  pub bytes : Keeps (contents (writer_of old)) (contents (writer_of new))
+  pub failures : write_failures_of new ≡ write_failures_of old
+
+-- the whole text came to the writer, and nothing failed
+pub record Wrote {W : Type 0} (contents : W → Option (List ℕ)) (old new : Sink W) (text : List ℕ) : Type 0 where
+  pub bytes : Appends (contents (writer_of old)) (contents (writer_of new)) text
+  pub failures : write_failures_of new ≡ write_failures_of old
+
+-- the writer failed, once: a front of the text came to it, and not all of it
+pub record BrokeOff {W : Type 0} (contents : W → Option (List ℕ)) (old new : Sink W) (text : List ℕ) : Type 0 where
+  pub bytes : AppendsSome (contents (writer_of old)) (contents (writer_of new)) text
+  pub failures : write_failures_of new ≡ write_failures_of old + 1
+
+-- a front of the text came to the writer, and nothing failed
+pub record WrotePart {W : Type 0} (contents : W → Option (List ℕ)) (old new : Sink W) (text : List ℕ) : Type 0 where
+  pub front : List ℕ
+  pub rest : List ℕ
+  pub whole : text ≡ front ++ rest
+  pub wrote : Wrote contents old new front
+
+-- how writing a text ended
+abbrev pub Writes : {W : Type 0} → (W → Option (List ℕ)) → Sink W → List ℕ → Result (Unit {0}) LineFault → Sink W → Type 0
+Writes contents old text (Ok done) new = Wrote contents old new text
+Writes contents old text (Err faults.Write) new = BrokeOff contents old new text
+Writes contents old text (Err faults.NoMemory) new = WrotePart contents old new text

@@ -1,0 +1,70 @@
+ghost use Rattle.std.specs.Prelude.{◌≡◌, IfOk};
+ghost use Rattle.std.specs.String.{string_bytes};
+ghost use Rattle.zk_orders.specs.FaultLines.{line_of_log_fault, line_of_list_fault, line_of_asm_fault, number_of_cause};
+
+use crate::assembling::AsmFault;
+use std::alloc::Global;
+use zk_listing::{ListCause, ListFault};
+use zk_log::LogFault;
+use zk_path::NoMemory;
+
+/// The line that tells why a log was refused: the fault's number, and the offset of its entry.
+pub fn log_line(alloc: Global, fault: LogFault) -> Result<String, NoMemory>
+    ensures { IfOk result (λ line. string_bytes line ≡ line_of_log_fault fault) }
+{
+    let mut line = String::new(alloc);
+    match fault {
+        LogFault::Header => line.push_str("zk: G1\n")?,
+        LogFault::Checksum(at) => write!(line, "zk: G2 {at}\n")?,
+        LogFault::Record(at, _) => write!(line, "zk: G3 {at}\n")?,
+        LogFault::Order(at) => write!(line, "zk: G4 {at}\n")?,
+        LogFault::TooLong(at) => write!(line, "zk: G5 {at}\n")?,
+        LogFault::Read => line.push_str("zk: G6\n")?,
+        LogFault::Endless => line.push_str("zk: G7\n")?,
+        LogFault::NoMemory => line.push_str("zk: G8\n")?,
+    }
+    Ok(line)
+}
+
+/// The line that tells why a text was refused: the fault's number or word, and the number of its line.
+pub fn asm_line(alloc: Global, fault: AsmFault) -> Result<String, NoMemory>
+    ensures { IfOk result (λ line. string_bytes line ≡ line_of_asm_fault fault) }
+{
+    let mut line = String::new(alloc);
+    match fault {
+        AsmFault::Read => line.push_str("zk: read\n")?,
+        AsmFault::Utf8 => line.push_str("zk: utf8\n")?,
+        AsmFault::Listing(fault) => return list_line(alloc, fault),
+        AsmFault::Order(at) => write!(line, "zk: order {at}\n")?,
+        AsmFault::Length(at) => write!(line, "zk: length {at}\n")?,
+        AsmFault::NoMemory => line.push_str("zk: memory\n")?,
+    }
+    Ok(line)
+}
+
+/// The line that tells why a text is no listing.
+fn list_line(alloc: Global, fault: ListFault) -> Result<String, NoMemory>
+    ensures { IfOk result (λ line. string_bytes line ≡ line_of_list_fault fault) }
+{
+    let mut line = String::new(alloc);
+    let number = number_of_cause(fault.cause);
+    let at = fault.line;
+    write!(line, "zk: {number} {at}\n")?;
+    Ok(line)
+}
+
+/// The number of what is wrong with a line.
+fn number_of_cause(cause: ListCause) -> &'static str
+    ensures { result.now ≡ number_of_cause cause }
+{
+    match cause {
+        ListCause::Fields => "L1",
+        ListCause::Number => "L2",
+        ListCause::Quote => "L3",
+        ListCause::Hex => "L4",
+        ListCause::Word => "L5",
+        ListCause::Path => "L6",
+        ListCause::NoNewline => "L7",
+        ListCause::NoMemory => "L8",
+    }
+}

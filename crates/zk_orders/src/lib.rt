@@ -1,0 +1,21 @@
+//! The orders of the program `zk`: which words name one, and what it reads and writes, over any readers and writers.
+//!
+//! They stand below `zk_cli`, since the proof of a program goes through all that it reaches each time.
+#![tactic(auto)]
+
+mod assembling;
+mod command;
+mod fault_lines;
+mod lines;
+mod list;
+mod reporting;
+mod show;
+mod state_lines;
+mod telling;
+mod text;
+
+pub use assembling::{AsmFault, asm};
+pub use command::{CommandFault, Job, Order, read_command_line};
+pub use fault_lines::{asm_line, log_line};
+pub use reporting::{Report, tell_log};
+pub use text::{TextFault, read_text};

@@ -1,0 +1,50 @@
+ghost use Rattle.std.specs.Prelude.{◌-◌, ◌<◌, ◌^◌};
+ghost use Rattle.zk_orders.specs.FaultLines.{line_of_log_fault, line_of_asm_fault};
+ghost use Rattle.zk_orders.specs.Telling.{Told, TellsFault};
+ghost use Rattle.zk_log.specs.Devices.{write_failures_of};
+
+use crate::assembling::AsmFault;
+use crate::fault_lines::{asm_line, log_line};
+use std::alloc::Global;
+use std::io::Write;
+use zk_log::{LogFault, Sink};
+use zk_path::NoMemory;
+
+/// The most reads of an input.
+pub(crate) const TURNS: u32 = 1_048_576;
+
+/// Tells why a log was refused. Answers the exit status.
+pub(crate) fn tell_log_fault<E: Write>(
+    alloc: Global,
+    fault: LogFault,
+    faults: &mut Sink<E>,
+) -> Result<u8, NoMemory>
+    requires { write_failures_of faults.old < 2 ^ 64 - 1 }
+    ensures { TellsFault E.contents (line_of_log_fault fault) faults.old faults.new result }
+{
+    let line = log_line(alloc, fault)?;
+    tell(faults, line.as_str());
+    Ok(1)
+}
+
+/// Tells why a text was refused. Answers the exit status.
+pub(crate) fn tell_asm_fault<E: Write>(
+    alloc: Global,
+    fault: AsmFault,
+    faults: &mut Sink<E>,
+) -> Result<u8, NoMemory>
+    requires { write_failures_of faults.old < 2 ^ 64 - 1 }
+    ensures { TellsFault E.contents (line_of_asm_fault fault) faults.old faults.new result }
+{
+    let line = asm_line(alloc, fault)?;
+    tell(faults, line.as_str());
+    Ok(1)
+}
+
+/// Writes a line for the user. Where that fails there is nobody left to tell.
+pub(crate) fn tell<E: Write>(faults: &mut Sink<E>, line: &str)
+    requires failures { write_failures_of faults.old < 2 ^ 64 - 1 }
+    ensures { Told E.contents faults.old faults.new line.now }
+{
+    let _ = faults.write_all(line.as_bytes());
+}

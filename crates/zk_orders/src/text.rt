@@ -1,0 +1,82 @@
+ghost use Rattle.std.specs.Prelude.{◌≡◌, ◌+◌, ◌-◌, ◌<◌, ◌≤◌, ◌^◌, length, IfOk};
+ghost use Rattle.std.specs.String.{string_bytes};
+ghost use Rattle.zk_orders.specs.Reading.{ReadsAll, TellsRead};
+ghost use Rattle.zk_orders.specs.declared.text.TextFault.TheVariants as faults;
+ghost use Rattle.zk_log.specs.Devices.{reader_of, reads_of, read_failures_of};
+
+use std::alloc::{AllocError, Global};
+use std::io::Read;
+use zk_log::Source;
+
+/// The most bytes of a read.
+const PIECE: usize = 65_536;
+
+/// Why a text could not be read.
+#[derive(Clone, Copy, Debug, PartialEq, Eq)]
+pub enum TextFault {
+    /// A read failed, or all turns were used before the end.
+    Read,
+    /// The bytes are not in UTF-8.
+    Utf8,
+    /// Memory was refused.
+    NoMemory,
+}
+
+impl From<AllocError> for TextFault {
+    ghost from_gives = { λ _ fault. fault ≡ faults.NoMemory };
+
+    fn from(_refused: AllocError) -> TextFault {
+        TextFault::NoMemory
+    }
+}
+
+/// Reads a text to its end, by at most `turns` reads of at most 65,536 bytes.
+pub fn read_text<F: Read>(
+    alloc: Global,
+    source: &mut Source<F>,
+    turns: u32,
+) -> Result<String, TextFault>
+    requires reads { reads_of source.old + turns < 2 ^ 64 }
+    requires failures { read_failures_of source.old < 2 ^ 64 - 1 }
+    ensures text { ReadsAll string_bytes (F.remaining (reader_of source.old)) result }
+    ensures tells { TellsRead source.old turns result source.new }
+    ensures reads { reads_of source.new ≤ reads_of source.old + turns }
+{
+    let mut piece = new_piece(alloc)?;
+    let bytes = read_bytes(alloc, source, piece.as_mut_slice(), turns)?;
+    String::from_utf8(bytes).map_err(|_| TextFault::Utf8)
+}
+
+/// Room for what one read takes.
+fn new_piece(alloc: Global) -> Result<Vec<u8>, AllocError>
+    ensures { IfOk result (λ piece. 0 < length piece.items) }
+{
+    vec![in alloc; 0; PIECE]
+}
+
+/// Reads bytes to their end, by pieces.
+fn read_bytes<F: Read>(
+    alloc: Global,
+    source: &mut Source<F>,
+    piece: &mut [u8],
+    turns: u32,
+) -> Result<Vec<u8>, TextFault>
+    requires some { 0 < length piece.old }
+    requires reads { reads_of source.old + turns < 2 ^ 64 }
+    requires failures { read_failures_of source.old < 2 ^ 64 - 1 }
+    ensures bytes { ReadsAll (λ bytes. bytes.items) (F.remaining (reader_of source.old)) result }
+    ensures tells { TellsRead source.old turns result source.new }
+    ensures reads { reads_of source.new ≤ reads_of source.old + turns }
+{
+    let mut bytes = Vec::new(alloc);
+    let mut left = turns;
+    'reads: while left > 0 {
+        left -= 1;
+        match source.read(piece) {
+            Err(_) => return Err(TextFault::Read),
+            Ok(0) => return Ok(bytes),
+            Ok(count) => bytes.extend_from_slice(&piece[..count])?,
+        }
+    }
+    Err(TextFault::Read)
+}
