@@ -228,14 +228,14 @@ fn torn_padded_and_damaged_logs(rt: HostRuntime) -> Result<(), Fail> {
         (
             last,
             [HEADER, OPEN, "000000009d970700", CREATE_RECORD, LAST_BYTE].as_slice(),
-            [].as_slice(),
+            [""].as_slice(),
             "zk: G2 65\n",
         ),
         // a header without its last byte
         (
             last,
             ["5a4b4c470000000200000000000000"].as_slice(),
-            [].as_slice(),
+            [""].as_slice(),
             "zk: G1\n",
         ),
         (
@@ -251,13 +251,13 @@ fn torn_padded_and_damaged_logs(rt: HostRuntime) -> Result<(), Fail> {
                 LAST_BYTE,
             ]
             .as_slice(),
-            [].as_slice(),
+            [""].as_slice(),
             "zk: G4 154\n",
         ),
         (
             last,
             [HEADER, OPEN, CREATE_SUM, CREATE_RECORD, LAST_BYTE, NO_KIND].as_slice(),
-            [].as_slice(),
+            [""].as_slice(),
             "zk: G3 154\n",
         ),
     ];
@@ -305,8 +305,8 @@ fn logs_list_and_assemble(rt: HostRuntime) -> Result<(), Fail> {
     let rows = [
         (Order::List, log.as_slice(), listing.as_slice(), ""),
         (Order::Asm, listing.as_slice(), log.as_slice(), ""),
-        (Order::List, [HEADER].as_slice(), [].as_slice(), ""),
-        (Order::Asm, [].as_slice(), [HEADER].as_slice(), ""),
+        (Order::List, [HEADER].as_slice(), [""].as_slice(), ""),
+        (Order::Asm, [""].as_slice(), [HEADER].as_slice(), ""),
     ];
     check_all(&rt, rows.as_slice())
 }
@@ -317,31 +317,31 @@ fn refused_listings_leave_the_output_empty(rt: HostRuntime) -> Result<(), Fail> 
         (
             Order::Asm,
             [OPEN_LINE, "+1\n"].as_slice(),
-            [].as_slice(),
+            [""].as_slice(),
             "zk: L2 2\n",
         ),
         (
             Order::Asm,
             [CREATE_LINE, OPEN_LINE].as_slice(),
-            [].as_slice(),
+            [""].as_slice(),
             "zk: order 2\n",
         ),
         (
             Order::Asm,
             [OPEN_LINE, OPEN_LINE, "+1\n"].as_slice(),
-            [].as_slice(),
+            [""].as_slice(),
             "zk: L2 3\n",
         ),
         (
             Order::Asm,
             [OPEN_LINE, OPEN_LINE].as_slice(),
-            [].as_slice(),
+            [""].as_slice(),
             "zk: order 2\n",
         ),
         (
             Order::Asm,
             [ZERO_LINE].as_slice(),
-            [].as_slice(),
+            [""].as_slice(),
             "zk: order 1\n",
         ),
     ];
@@ -368,7 +368,7 @@ fn failing_devices_are_told(rt: HostRuntime) -> Result<(), Fail> {
         (
             last,
             log.as_slice(),
-            [].as_slice(),
+            [""].as_slice(),
             "zk: G6\n",
             Some(4),
             None,
@@ -376,7 +376,7 @@ fn failing_devices_are_told(rt: HostRuntime) -> Result<(), Fail> {
         (
             Order::Asm,
             [OPEN_LINE].as_slice(),
-            [].as_slice(),
+            [""].as_slice(),
             "zk: read\n",
             Some(4),
             None,
