@@ -1,37 +1,39 @@
-ghost use Rattle.std.specs.Prelude.{◌≡◌, ◌+◌, ◌-◌, ◌<◌, ◌^◌};
+ghost use Rattle.std.specs.Prelude.{◌+◌, ◌-◌, ◌<◌, ◌^◌};
 ghost use Rattle.zk_cli.specs.Acting.{Acts};
 ghost use Rattle.zk_log.specs.Devices.{reads_of, read_failures_of, write_failures_of};
 
 use std::alloc::Global;
 use std::io::{Read, Write};
 use zk_log::{Sink, Source};
-use zk_orders::{Order, Report, asm, tell_log};
+use zk_orders::{Order, Report, asm, debug, tell_log};
 use zk_path::NoMemory;
 
 /// Does what an order asks for, and answers the exit status: 0, or 1 for a refused input or a failed output, with one
 /// line on `faults`.
 ///
-/// `file` is the log, and for [`Order::Asm`] the listing. `script` is for orders that read a second input; the present
-/// ones leave it.
+/// `file` is the log, and for [`Order::Asm`] the listing. `script` is the script of [`Order::Debug`]; the others leave
+/// it.
 pub fn act<F: Read, S: Read, O: Write, E: Write>(
     alloc: Global,
     order: &Order,
     file: &mut Source<F>,
-    _script: &mut Source<S>,
+    script: &mut Source<S>,
     output: &mut Sink<O>,
     faults: &mut Sink<E>,
 ) -> Result<u8, NoMemory>
     requires reads { reads_of file.old + 1048576 < 2 ^ 64 }
     requires read_failures { read_failures_of file.old < 2 ^ 64 - 1 }
+    requires script_reads { reads_of script.old + 1048576 < 2 ^ 64 }
+    requires script_failures { read_failures_of script.old < 2 ^ 64 - 1 }
     requires output { write_failures_of output.old < 2 ^ 64 - 1 }
     requires faults { write_failures_of faults.old < 2 ^ 64 - 1 }
-    ensures acts { Acts F.remaining O.contents E.contents order.now file.old file.new
-        output.old output.new faults.old faults.new result }
-    ensures script { _script.new ≡ _script.old }
+    ensures { Acts F.remaining S.remaining O.contents E.contents order.now file.old file.new
+        script.old script.new output.old output.new faults.old faults.new result }
 {
     match order {
         Order::Show { upto } => tell_log(alloc, Report::Tree { upto: *upto }, file, output, faults),
         Order::List => tell_log(alloc, Report::Listing, file, output, faults),
         Order::Asm => asm(alloc, file, output, faults),
+        Order::Debug => debug(alloc, file, script, output, faults),
     }
 }

@@ -3,6 +3,8 @@
 
 mod act;
 #[cfg(test)]
+mod debug_tests;
+#[cfg(test)]
 mod tests;
 
 use act::act;
@@ -53,37 +55,57 @@ fn print(rt: &HostRuntime, refusal: &Refusal) -> u8 {
     }
 }
 
-/// Opens the input and then the output, and acts. Answers the exit status.
+/// Opens the inputs and then the output, and acts. Answers the exit status.
 fn open_and_act(rt: &HostRuntime, job: &Job) -> Result<u8, NoMemory> {
     if job.input == "@" {
-        return open_output(rt, job, rt.reader());
+        return open_script(rt, job, rt.reader());
     }
     match fs::open(rt, job.input) {
-        Ok(file) => open_output(rt, job, file),
+        Ok(file) => open_script(rt, job, file),
         Err(_) => Ok(refuse(rt, "read")),
     }
 }
 
-/// Opens the output of an open input, and acts. Answers the exit status.
-fn open_output<F: Read + Drop>(rt: &HostRuntime, job: &Job, file: F) -> Result<u8, NoMemory> {
+/// Opens the script of an open input, if the order has one, and then the output, and acts. Answers the exit status.
+fn open_script<F: Read + Drop>(rt: &HostRuntime, job: &Job, file: F) -> Result<u8, NoMemory> {
+    let Some(script) = job.script else {
+        return open_output(rt, job, file, io::empty());
+    };
+    if script == "@" {
+        return open_output(rt, job, file, rt.reader());
+    }
+    match fs::open(rt, script) {
+        Ok(script) => open_output(rt, job, file, script),
+        Err(_) => Ok(refuse(rt, "read")),
+    }
+}
+
+/// Opens the output of open inputs, and acts. Answers the exit status.
+fn open_output<F: Read + Drop, S: Read + Drop>(
+    rt: &HostRuntime,
+    job: &Job,
+    file: F,
+    script: S,
+) -> Result<u8, NoMemory> {
     if job.output == "@" {
-        return act_on(rt, &job.order, file, io::writer(rt));
+        return act_on(rt, &job.order, file, script, io::writer(rt));
     }
     match fs::create(rt, job.output) {
-        Ok(output) => act_on(rt, &job.order, file, output),
+        Ok(output) => act_on(rt, &job.order, file, script, output),
         Err(_) => Ok(refuse(rt, "write")),
     }
 }
 
-/// Acts on an open input and output, with the standard error. Answers the exit status.
-fn act_on<F: Read + Drop, O: Write + Drop>(
+/// Acts on open inputs and an open output, with the standard error. Answers the exit status.
+fn act_on<F: Read + Drop, S: Read + Drop, O: Write + Drop>(
     rt: &HostRuntime,
     order: &Order,
     file: F,
+    script: S,
     output: O,
 ) -> Result<u8, NoMemory> {
     let mut file = Source::new(file);
-    let mut script = Source::new(io::empty());
+    let mut script = Source::new(script);
     let mut output = Sink::new(output);
     let mut faults = Sink::new(rt.stderr());
     act(

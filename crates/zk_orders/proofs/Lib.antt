@@ -3,6 +3,6 @@ pub mod DigitsLaws
 pub mod LinesLaws
 pub mod ListedLaws
 pub mod NamesLaws
-pub mod NodeTexts
 pub mod PageLaws
+pub mod TextLaws
 pub mod WordsLaws

@@ -5,7 +5,7 @@ use Rattle.std.specs.Int.{to_be_bytes, cast_unsigned}
 use Rattle.hex.proofs.HexLemmas.{length-encode_with}
 use Rattle.hex.specs.Hex.{encode_lower, lower_digits, decode_sized}
 use Rattle.zk_listing.specs.Spelling.{sixteen_digits, id_digits}
-use Rattle.zk_orders.specs.Commands.{IsUpto, Names, NamesBy, NamesOnly, upto_text, values_of}
+use Rattle.zk_orders.specs.Commands.{IsUpto, Names, NamesBy, NamesOnly, script_of, upto_text, values_of}
 use Rattle.zk_orders.specs.declared.command.Order.{Order}
 use Rattle.zk_orders.specs.declared.command.Order.TheVariants as orders
 use Rattle.zk_orders.specs.declared.command.Job.{Job}
@@ -44,37 +44,55 @@ one_upto (Some z) (Some y) p q e = ap Some (one_number z y p q e)
 
 -- ---- orders
 
-abbrev IsSame : Order → List ℕ → List ℕ → Order → List ℕ → List ℕ → Type 0
-IsSame order input output order' input' output' = (order ≡ order') × (input ≡ input') × (output ≡ output')
+abbrev IsSame : Order → List ℕ → Option (List ℕ) → List ℕ → Order → List ℕ → Option (List ℕ) → List ℕ → Type 0
+IsSame order input script output order' input' script' output' = (order ≡ order') × (input ≡ input') × (script ≡ script') × (output ≡ output')
 
-same_by : (name : List ℕ) (values : List (List ℕ)) (o o' : Order) (i i' t t' : List ℕ) → NamesBy name values o i t → NamesBy name values o' i' t' → IsSame o i t o' i' t'
-same_by name values (orders.Show u) (orders.Show v) i i' t t' p q =
+same_by : (name : List ℕ) (values : List (List ℕ)) (o o' : Order) (i i' : List ℕ) (s s' : Option (List ℕ)) (t t' : List ℕ) → NamesBy name values o i s t → NamesBy name values o' i' s' t' → IsSame o i s t o' i' s' t'
+same_by name values (orders.Show u) (orders.Show v) i i' s s' t t' p q =
     let both : i ∷ upto_text u ∷ [] ≡ i' ∷ upto_text v ∷ [] = sym p.1 ∙ q.1 in
     let input : i ≡ i' = cc both in
     let text : upto_text u ≡ upto_text v = cc both in
-    (ap orders.Show (one_upto u v p.2 q.2 text), input, p.3 ∙ sym q.3)
-same_by name values orders.List orders.List i i' t t' p q =
+    (ap orders.Show (one_upto u v p.2 q.2 text), input, p.3 ∙ sym q.3, p.4 ∙ sym q.4)
+same_by name values orders.List orders.List i i' s s' t t' p q =
     let both : i ∷ [] ≡ i' ∷ [] = sym p.1 ∙ q.1 in
-    (refl, cc both, p.2 ∙ sym q.2)
-same_by name values orders.Asm orders.Asm i i' t t' p q =
+    (refl, cc both, p.2 ∙ sym q.2, p.3 ∙ sym q.3)
+same_by name values orders.Asm orders.Asm i i' s s' t t' p q =
     let both : i ∷ t ∷ [] ≡ i' ∷ t' ∷ [] = sym p.1 ∙ q.1 in
-    (refl, cc both, cc both)
-same_by name values (orders.Show u) orders.List i i' t t' p q = absurd (let e : codes "show" ≡ codes "list" = sym p.0 ∙ q.0 in cc)
-same_by name values (orders.Show u) orders.Asm i i' t t' p q = absurd (let e : codes "show" ≡ codes "asm" = sym p.0 ∙ q.0 in cc)
-same_by name values orders.List (orders.Show v) i i' t t' p q = absurd (let e : codes "list" ≡ codes "show" = sym p.0 ∙ q.0 in cc)
-same_by name values orders.List orders.Asm i i' t t' p q = absurd (let e : codes "list" ≡ codes "asm" = sym p.0 ∙ q.0 in cc)
-same_by name values orders.Asm (orders.Show v) i i' t t' p q = absurd (let e : codes "asm" ≡ codes "show" = sym p.0 ∙ q.0 in cc)
-same_by name values orders.Asm orders.List i i' t t' p q = absurd (let e : codes "asm" ≡ codes "list" = sym p.0 ∙ q.0 in cc)
+    (refl, cc both, p.2 ∙ sym q.2, cc both)
+same_by name values orders.Debug orders.Debug i i' (Some s) (Some s') t t' p q =
+    let both : i ∷ s ∷ [] ≡ i' ∷ s' ∷ [] = sym p.1 ∙ q.1 in
+    let script : s ≡ s' = cc both in
+    (refl, cc both, ap Some script, p.3 ∙ sym q.3)
+same_by name values (orders.Show u) orders.List i i' s s' t t' p q = absurd (let e : codes "show" ≡ codes "list" = sym p.0 ∙ q.0 in cc)
+same_by name values (orders.Show u) orders.Asm i i' s s' t t' p q = absurd (let e : codes "show" ≡ codes "asm" = sym p.0 ∙ q.0 in cc)
+same_by name values (orders.Show u) orders.Debug i i' s None t t' p q = absurd q
+same_by name values (orders.Show u) orders.Debug i i' s (Some s') t t' p q = absurd (let e : codes "show" ≡ codes "debug" = sym p.0 ∙ q.0 in cc)
+same_by name values orders.List (orders.Show v) i i' s s' t t' p q = absurd (let e : codes "list" ≡ codes "show" = sym p.0 ∙ q.0 in cc)
+same_by name values orders.List orders.Asm i i' s s' t t' p q = absurd (let e : codes "list" ≡ codes "asm" = sym p.0 ∙ q.0 in cc)
+same_by name values orders.List orders.Debug i i' s None t t' p q = absurd q
+same_by name values orders.List orders.Debug i i' s (Some s') t t' p q = absurd (let e : codes "list" ≡ codes "debug" = sym p.0 ∙ q.0 in cc)
+same_by name values orders.Asm (orders.Show v) i i' s s' t t' p q = absurd (let e : codes "asm" ≡ codes "show" = sym p.0 ∙ q.0 in cc)
+same_by name values orders.Asm orders.List i i' s s' t t' p q = absurd (let e : codes "asm" ≡ codes "list" = sym p.0 ∙ q.0 in cc)
+same_by name values orders.Asm orders.Debug i i' s None t t' p q = absurd q
+same_by name values orders.Asm orders.Debug i i' s (Some s') t t' p q = absurd (let e : codes "asm" ≡ codes "debug" = sym p.0 ∙ q.0 in cc)
+same_by name values orders.Debug (orders.Show v) i i' None s' t t' p q = absurd p
+same_by name values orders.Debug (orders.Show v) i i' (Some s) s' t t' p q = absurd (let e : codes "debug" ≡ codes "show" = sym p.0 ∙ q.0 in cc)
+same_by name values orders.Debug orders.List i i' None s' t t' p q = absurd p
+same_by name values orders.Debug orders.List i i' (Some s) s' t t' p q = absurd (let e : codes "debug" ≡ codes "list" = sym p.0 ∙ q.0 in cc)
+same_by name values orders.Debug orders.Asm i i' None s' t t' p q = absurd p
+same_by name values orders.Debug orders.Asm i i' (Some s) s' t t' p q = absurd (let e : codes "debug" ≡ codes "asm" = sym p.0 ∙ q.0 in cc)
+same_by name values orders.Debug orders.Debug i i' None s' t t' p q = absurd p
+same_by name values orders.Debug orders.Debug i i' (Some s) None t t' p q = absurd q
 
-same_named : (words : List (List ℕ)) (o o' : Order) (i i' t t' : List ℕ) → Names words o i t → Names words o' i' t' → IsSame o i t o' i' t'
-same_named words o o' i i' t t' p q =
+same_named : (words : List (List ℕ)) (o o' : Order) (i i' : List ℕ) (s s' : Option (List ℕ)) (t t' : List ℕ) → Names words o i s t → Names words o' i' s' t' → IsSame o i s t o' i' s' t'
+same_named words o o' i i' s s' t t' p q =
     let both : p.program ∷ p.name ∷ p.rest ≡ q.program ∷ q.name ∷ q.rest = sym p.spelled ∙ q.spelled in
     let name : q.name ≡ p.name = cc both in
     let rest : q.rest ≡ p.rest = cc both in
     let found : Some q.values ≡ Some p.values = sym q.given ∙ ap values_of rest ∙ p.given in
     let values : q.values ≡ p.values = cc found in
-    same_by p.name p.values o o' i i' t t' p.named
-    (subst (λ (n : List ℕ). NamesBy n p.values o' i' t') name (subst (λ (v : List (List ℕ)). NamesBy q.name v o' i' t') values q.named))
+    same_by p.name p.values o o' i i' s s' t t' p.named
+    (subst (λ (n : List ℕ). NamesBy n p.values o' i' s' t') name (subst (λ (v : List (List ℕ)). NamesBy q.name v o' i' s' t') values q.named))
 
-pub names_only : (words : List (List ℕ)) (job : Job) → Names words job.order job.input.now job.output.now → NamesOnly words job
-names_only words job p = record { names = p; only = λ o i t q. same_named words o job.order i job.input.now t job.output.now q p }
+pub names_only : (words : List (List ℕ)) (job : Job) → Names words job.order job.input.now (script_of job) job.output.now → NamesOnly words job
+names_only words job p = record { names = p; only = λ o i s t q. same_named words o job.order i job.input.now s (script_of job) t job.output.now q p }

@@ -1,5 +1,5 @@
 -- What the words of a command line name.
-use Rattle.std.specs.Prelude.{◌≡◌, ◌≢◌, ℕ, ℤ, ◌<◌, ◌^◌, ◌==◌, Bool, false, if◌then◌else◌, List, [], ◌∷◌, Option, Some, None, Result, Ok, Err, FitsSigned, codes}
+use Rattle.std.specs.Prelude.{◌≡◌, ◌≢◌, ℕ, ℤ, ◌<◌, ◌^◌, ◌==◌, ◌&&◌, Bool, true, false, if◌then◌else◌, List, [], ◌∷◌, Option, Some, None, Result, Ok, Err, FitsSigned, codes, option_map}
 use Rattle.std.specs.Int.{w64}
 use Rattle.std.specs.Str.{bytes_eq}
 use Rattle.zk_listing.specs.Spelling.{sixteen_digits, id_digits}
@@ -50,34 +50,44 @@ values_of (word ∷ words) = if bytes_eq word (codes "--") then Some words else 
 
 -- ---- a command line
 
--- an order's name and its values name an order, its input and its output; "@" is a standard stream
-abbrev pub NamesBy : List ℕ → List (List ℕ) → Order → List ℕ → List ℕ → Type 0
-NamesBy name values (orders.Show upto) input output = (name ≡ codes "show") × (values ≡ input ∷ upto_text upto ∷ []) × IsUpto upto × (output ≡ codes "@")
-NamesBy name values orders.List input output = (name ≡ codes "list") × (values ≡ input ∷ []) × (output ≡ codes "@")
-NamesBy name values orders.Asm input output = (name ≡ codes "asm") × (values ≡ input ∷ output ∷ [])
+-- standard input can be read once
+abbrev pub both_standard : List ℕ → List ℕ → Bool
+both_standard input script = bytes_eq input (codes "@") && bytes_eq script (codes "@")
+
+-- An order's name and its values name an order, its input, the script of a debugger, and its output; "@" is a standard
+-- stream.
+abbrev pub NamesBy : List ℕ → List (List ℕ) → Order → List ℕ → Option (List ℕ) → List ℕ → Type 0
+NamesBy name values (orders.Show upto) input script output = (name ≡ codes "show") × (values ≡ input ∷ upto_text upto ∷ []) × IsUpto upto × (script ≡ None) × (output ≡ codes "@")
+NamesBy name values orders.List input script output = (name ≡ codes "list") × (values ≡ input ∷ []) × (script ≡ None) × (output ≡ codes "@")
+NamesBy name values orders.Asm input script output = (name ≡ codes "asm") × (values ≡ input ∷ output ∷ []) × (script ≡ None)
+NamesBy name values orders.Debug input None output = ⊥
+NamesBy name values orders.Debug input (Some script) output = (name ≡ codes "debug") × (values ≡ input ∷ script ∷ []) × (both_standard input script ≡ false) × (output ≡ codes "@")
 
 -- the words are the program's name, an order's, and words that give its values
-pub record Names (words : List (List ℕ)) (order : Order) (input output : List ℕ) : Type 0 where
+pub record Names (words : List (List ℕ)) (order : Order) (input : List ℕ) (script : Option (List ℕ)) (output : List ℕ) : Type 0 where
   pub program : List ℕ
   pub name : List ℕ
   pub rest : List (List ℕ)
   pub values : List (List ℕ)
   pub spelled : words ≡ program ∷ name ∷ rest
   pub given : values_of rest ≡ Some values
-  pub named : NamesBy name values order input output
+  pub named : NamesBy name values order input script output
 
 abbrev pub NamesNothing : List (List ℕ) → Type 0
-NamesNothing words = (order : Order) (input output : List ℕ) → ¬ Names words order input output
+NamesNothing words = (order : Order) (input : List ℕ) (script : Option (List ℕ)) (output : List ℕ) → ¬ Names words order input script output
+
+abbrev pub script_of : Job → Option (List ℕ)
+script_of job = option_map (λ script. script.now) job.script
 
 -- a job is what the words name
 abbrev pub ReadsJob : List (List ℕ) → Option Job → Type 0
-ReadsJob words (Some job) = Names words job.order job.input.now job.output.now
+ReadsJob words (Some job) = Names words job.order job.input.now (script_of job) job.output.now
 ReadsJob words None = NamesNothing words
 
 -- the words name this job, and no other
 pub record NamesOnly (words : List (List ℕ)) (job : Job) : Type 0 where
-  pub names : Names words job.order job.input.now job.output.now
-  pub only : (order : Order) (input output : List ℕ) → Names words order input output → (order ≡ job.order) × (input ≡ job.input.now) × (output ≡ job.output.now)
+  pub names : Names words job.order job.input.now (script_of job) job.output.now
+  pub only : (order : Order) (input : List ℕ) (script : Option (List ℕ)) (output : List ℕ) → Names words order input script output → (order ≡ job.order) × (input ≡ job.input.now) × (script ≡ script_of job) × (output ≡ job.output.now)
 
 abbrev pub ReadsCommandLine : List (List ℕ) → Result Job CommandFault → Type 0
 ReadsCommandLine words (Ok job) = NamesOnly words job
@@ -88,8 +98,12 @@ ReadsCommandLine words (Err faults.NoMemory) = Unit {0}
 
 -- a job is what an order's name and its values name
 abbrev pub ReadsJobBy : List ℕ → List (List ℕ) → Option Job → Type 0
-ReadsJobBy name values (Some job) = NamesBy name values job.order job.input.now job.output.now
-ReadsJobBy name values None = (order : Order) (input output : List ℕ) → ¬ NamesBy name values order input output
+ReadsJobBy name values (Some job) = NamesBy name values job.order job.input.now (script_of job) job.output.now
+ReadsJobBy name values None = (order : Order) (input : List ℕ) (script : Option (List ℕ)) (output : List ℕ) → ¬ NamesBy name values order input script output
+
+abbrev pub ReadsDebug : List ℕ → List ℕ → Option Job → Type 0
+ReadsDebug input script None = both_standard input script ≡ true
+ReadsDebug input script (Some job) = (both_standard input script ≡ false) × (job.order ≡ orders.Debug) × (job.input.now ≡ input) × (script_of job ≡ Some script) × (job.output.now ≡ codes "@")
 
 -- a list's only element
 abbrev pub IsOnly : List (List ℕ) → Option (List ℕ) → Type 0

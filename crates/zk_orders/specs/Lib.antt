@@ -1,8 +1,8 @@
 pub mod Assembling
 pub mod Commands
+pub mod Debugs
 pub mod FaultLines
 pub mod Reading
-pub mod Reports
 pub mod Showing
 pub mod Telling
 pub mod Writing

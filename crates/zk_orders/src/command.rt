@@ -1,5 +1,5 @@
 ghost use Rattle.std.specs.Prelude.{◌≡◌, IfOk, map, option_map};
-ghost use Rattle.zk_orders.specs.Commands.{AreOnly, IsOnly, ReadsCommandLine, ReadsDigits, ReadsJob, ReadsJobBy, ReadsUpto, is_option, values_of};
+ghost use Rattle.zk_orders.specs.Commands.{AreOnly, IsOnly, ReadsCommandLine, ReadsDebug, ReadsDigits, ReadsJob, ReadsJobBy, ReadsUpto, is_option, values_of};
 
 use hex::FromHex;
 use std::alloc::Global;
@@ -17,6 +17,8 @@ pub enum Order {
     List,
     /// Makes the log, with dbid 0, that a listing spells.
     Asm,
+    /// Answers the lines of a debug script over a log.
+    Debug,
 }
 
 /// What a command line asks for: an order, and the names that it gives.
@@ -25,6 +27,8 @@ pub struct Job<'a> {
     pub order: Order,
     /// The log, or the listing of [`Order::Asm`]: a path, or `@` for standard input.
     pub input: &'a str,
+    /// The script of [`Order::Debug`]: a path, or `@` for standard input. No other order has one.
+    pub script: Option<&'a str>,
     /// What is written: a path, or `@` for standard output.
     pub output: &'a str,
 }
@@ -81,6 +85,7 @@ fn job_by<'a>(alloc: Global, name: &str, values: &[&'a str]) -> Result<Option<Jo
         return Ok(only(values).map(|input| Job {
             order: Order::List,
             input,
+            script: None,
             output: "@",
         }));
     }
@@ -91,8 +96,12 @@ fn job_by<'a>(alloc: Global, name: &str, values: &[&'a str]) -> Result<Option<Jo
         return Ok(Some(Job {
             order: Order::Asm,
             input: first,
+            script: None,
             output: second,
         }));
+    }
+    if name == "debug" {
+        return Ok(debug_job(first, second));
     }
     if name != "show" {
         return Ok(None);
@@ -101,10 +110,26 @@ fn job_by<'a>(alloc: Global, name: &str, values: &[&'a str]) -> Result<Option<Jo
         Some(upto) => Ok(Some(Job {
             order: Order::Show { upto },
             input: first,
+            script: None,
             output: "@",
         })),
         None => Ok(None),
     }
+}
+
+/// The job of a debug script over a log; none where both are to be standard input.
+fn debug_job<'a>(input: &'a str, script: &'a str) -> Option<Job<'a>>
+    ensures { ReadsDebug input.now script.now result }
+{
+    if input == "@" && script == "@" {
+        return None;
+    }
+    Some(Job {
+        order: Order::Debug,
+        input,
+        script: Some(script),
+        output: "@",
+    })
 }
 
 /// A list's only element.

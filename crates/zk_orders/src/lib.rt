@@ -5,17 +5,18 @@
 
 mod assembling;
 mod command;
+mod debugging;
 mod fault_lines;
 mod lines;
 mod list;
 mod reporting;
 mod show;
-mod state_lines;
 mod telling;
 mod text;
 
 pub use assembling::{AsmFault, asm};
 pub use command::{CommandFault, Job, Order, read_command_line};
-pub use fault_lines::{asm_line, log_line};
+pub use debugging::debug;
+pub use fault_lines::{asm_line, log_line, script_line};
 pub use reporting::{Report, tell_log};
 pub use text::{TextFault, read_text};

@@ -1,6 +1,6 @@
 ghost use Rattle.std.specs.Prelude.{◌≡◌, ◌-◌, ◌<◌, ◌^◌};
 ghost use Rattle.std.specs.String.{string_bytes};
-ghost use Rattle.zk_orders.specs.Reports.{line};
+ghost use Rattle.zk_script.specs.Reports.{line};
 ghost use Rattle.zk_orders.specs.Writing.{Writes};
 ghost use Rattle.zk_orders.specs.declared.lines.LineFault.TheVariants as faults;
 ghost use Rattle.zk_log.specs.Devices.{write_failures_of};

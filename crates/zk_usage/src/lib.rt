@@ -44,12 +44,19 @@ impl fmt::Display for Refusal {
 pub fn refusal_of<'a>(alloc: Global, words: &'a [&'a str]) -> Result<Refusal, AllocError> {
     match command(alloc)?.try_get_matches_from(words) {
         Err(error) => refusal_by(alloc, &error),
-        // Of the words that clap takes, a ZXID alone is refused.
+        // Of the words that clap takes, a ZXID and a second @ alone are refused.
         Ok(_) => {
-            let error = show_command(alloc)?.bin_name("zk show")?.error(
-                ErrorKind::ValueValidation,
-                "ZXID is neither sixteen lower-case hexadecimal digits nor `last`",
-            )?;
+            let error = if words.get(1) == Some(&"debug") {
+                debug_command(alloc)?.bin_name("zk debug")?.error(
+                    ErrorKind::ArgumentConflict,
+                    "FILE and SCRIPT cannot both be standard input",
+                )?
+            } else {
+                show_command(alloc)?.bin_name("zk show")?.error(
+                    ErrorKind::ValueValidation,
+                    "ZXID is neither sixteen lower-case hexadecimal digits nor `last`",
+                )?
+            };
             refusal_by(alloc, &error)
         }
     }
@@ -84,7 +91,8 @@ fn command<'a>(alloc: Global) -> Result<Command<'a>, AllocError> {
         .subcommand_required(true)
         .subcommand(show_command(alloc)?)?
         .subcommand(list)?
-        .subcommand(asm_command(alloc)?)
+        .subcommand(asm_command(alloc)?)?
+        .subcommand(debug_command(alloc)?)
 }
 
 /// The grammar of `zk show`.
@@ -110,6 +118,17 @@ fn asm_command<'a>(alloc: Global) -> Result<Command<'a>, AllocError> {
         .about("Makes the log, with dbid 0, that a listing spells")
         .arg(text)?
         .arg(file)
+}
+
+/// The grammar of `zk debug`.
+fn debug_command<'a>(alloc: Global) -> Result<Command<'a>, AllocError> {
+    let script = Arg::new(alloc, "SCRIPT")
+        .required(true)
+        .help("The script: a path, or @ for standard input");
+    Command::new(alloc, "debug")
+        .about("Answers the lines of a debug script over a log")
+        .arg(log_arg(alloc))?
+        .arg(script)
 }
 
 /// The argument that names a log to read.

@@ -1,7 +1,7 @@
 use Rattle.std.proofs.Common.{◌≡◌, ℕ, List, subst, ◌∙◌}
 use Rattle.std.proofs.lemmas.Result.{err_from_is_err_and}
 use Rattle.zk_log.specs.Devices.{writer_of, AppendsSome}
-use Rattle.zk_orders.specs.Reports.{line}
+use Rattle.zk_script.specs.Reports.{line}
 use Rattle.std.specs.String.{string_bytes}
 use lib.Utf8.{encode}
 use Rattle.zk_orders.proofs.lines.write_line.Goals as goal

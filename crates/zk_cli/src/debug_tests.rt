@@ -1,0 +1,203 @@
+//! The order `debug`, on logs that listings spell.
+use crate::act::act;
+use std::process::Abort;
+use std::test::Fail;
+use zk_log::{DripIn, DripOut, Sink, Source};
+use zk_orders::{CommandFault, Order, read_command_line, script_line};
+use zk_script::ScriptFault;
+use zk_usage::ErrorKind;
+
+/// A multi whose parts make and take away a node, and a create that is refused.
+const LISTING: &str = "0000000100000001 0100000000000001 0 1000 createSession 30000
+0000000100000002 0100000000000001 1 2000 create \"/a\" x6869 1 31 \"world\" \"anyone\" p 1
+0000000100000004 0100000000000001 2 3000 multi ; create \"/t\" - 1 31 \"world\" \"anyone\" p 2 ; delete \"/t\"
+0000000100000005 0100000000000001 3 4000 create \"/a\" x 1 31 \"world\" \"anyone\" p 3
+";
+
+const SCRIPT: &str = "break path \"/t\"
+break at 0000000100000004
+run
+last
+step
+last
+node \"/\"
+step
+goto 0000000100000003
+node \"/\"
+runback
+back
+clear 3
+";
+
+const ANSWERS: &str = "break 1
+break 2
+place 3 0000000100000004 hit 1
+result 0000000100000004 0 - - ; 0 \"/t\" - ; 0 \"/t\" -
+place 4 0000000100000005
+result 0000000100000005 -110 \"/a\" -
+\"/\" x 1 31 \"world\" \"anyone\" 0000000000000000 0000000000000000 0 0 0 2 0 0000000000000000 0 2 0000000100000004
+B1
+place 2 0000000100000002
+\"/\" x 1 31 \"world\" \"anyone\" 0000000000000000 0000000000000000 0 0 0 0 0 0000000000000000 0 2 0000000100000002
+place 0 0000000000000000
+B2
+B3
+";
+
+/// Moves with breakpoints of the other kinds, what is none, and the tree at a place.
+const OTHER_SCRIPT: &str = "last
+break kind multi
+break error
+break session 0100000000000001
+clear 3
+run
+run
+reset
+node \"/a\"
+goto 0000000100000002
+tree
+clear 1
+runback";
+
+const OTHER_ANSWERS: &str = "none
+break 1
+break 2
+break 3
+ok
+place 3 0000000100000004 hit 1
+place 4 0000000100000005 hit 2
+place 0 0000000000000000
+none
+place 2 0000000100000002
+zxid 0000000100000002
+session 0100000000000001 30000
+\"/\" x 1 31 \"world\" \"anyone\" 0000000000000000 0000000000000000 0 0 0 0 0 0000000000000000 0 2 0000000100000002
+\"/a\" x6869 1 31 \"world\" \"anyone\" 0000000100000002 0000000100000002 2000 2000 0 0 0 0000000000000000 2 0 0000000100000002
+\"/zookeeper\" x 1 31 \"world\" \"anyone\" 0000000000000000 0000000000000000 0 0 0 -1 0 0000000000000000 0 1 0000000000000000
+\"/zookeeper/quota\" x 1 31 \"world\" \"anyone\" 0000000000000000 0000000000000000 0 0 0 0 0 0000000000000000 0 0 0000000000000000
+ok
+place 0 0000000000000000
+";
+
+/// Acts on a file and a script, and answers the status, what is written and what is told.
+fn acted(
+    rt: &(impl Abort + AllocGlobal),
+    order: Order,
+    file: DripIn,
+    script: DripIn,
+    output: DripOut,
+) -> Result<(u8, DripOut, DripOut), Fail> {
+    let mut file = Source::new(file);
+    let mut script = Source::new(script);
+    let mut output = Sink::new(output);
+    let mut faults = Sink::new(DripOut::new(rt.alloc(), 64, None));
+    let status = act(
+        rt.alloc(),
+        &order,
+        &mut file,
+        &mut script,
+        &mut output,
+        &mut faults,
+    )?;
+    Ok((status, output.into_inner(), faults.into_inner()))
+}
+
+/// Runs a script over the listing's log, where the read of this number and the write of that one fail.
+fn check(
+    rt: &(impl Abort + AllocGlobal),
+    script: &[u8],
+    answers: &str,
+    told: &str,
+    good_calls: (Option<u64>, Option<u64>),
+) -> Result<(), Fail> {
+    let listing = DripIn::new(LISTING.as_bytes(), 4096, None);
+    let made = acted(
+        rt,
+        Order::Asm,
+        listing,
+        DripIn::new(b"", 1, None),
+        DripOut::new(rt.alloc(), 4096, None),
+    )?;
+    let (status, output, faults) = acted(
+        rt,
+        Order::Debug,
+        DripIn::new(made.1.bytes(), 7, None),
+        DripIn::new(script, 5, good_calls.0),
+        DripOut::new(rt.alloc(), 64, good_calls.1),
+    )?;
+    let expected = if told.is_empty() { 0 } else { 1 };
+    assert_eq!(rt; status, expected);
+    assert_eq!(rt; output.bytes(), answers.as_bytes());
+    assert_eq!(rt; faults.bytes(), told.as_bytes());
+    Ok(())
+}
+
+#[test]
+fn debug_script_over_a_multi(rt: HostRuntime) -> Result<(), Fail> {
+    for (script, answers, told, good_calls) in [
+        (SCRIPT.as_bytes(), ANSWERS, "", (None, None)),
+        (OTHER_SCRIPT.as_bytes(), OTHER_ANSWERS, "", (None, None)),
+        (b"".as_slice(), "", "", (None, None)),
+        (
+            b"clear 1\nstop\nback\n".as_slice(),
+            "B3\n",
+            "zk: script 2\n",
+            (None, None),
+        ),
+        (b"\n".as_slice(), "", "zk: script 1\n", (None, None)),
+        (b"back\n\xff".as_slice(), "", "zk: utf8\n", (None, None)),
+        (
+            b"back\nback\n".as_slice(),
+            "",
+            "zk: read\n",
+            (Some(2), None),
+        ),
+        (
+            b"tree\n".as_slice(),
+            "zxid 0000000000000000\n\"/\" x 1 31 \"world\" \"anyone\" 00000000000000",
+            "zk: write\n",
+            (None, Some(1)),
+        ),
+    ] {
+        check(&rt, script, answers, told, good_calls)?;
+    }
+    Ok(())
+}
+
+#[test]
+fn lines_of_scripts_are_told_by_their_numbers(rt: HostRuntime) -> Result<(), Fail> {
+    let fault = ScriptFault::Malformed(12);
+    let text = format!(in rt.alloc(); "zk: {fault}\n")?;
+    assert_eq!(rt; script_line(rt.alloc(), 12)?.as_str(), text.as_str());
+    Ok(())
+}
+
+#[test]
+fn debug_reads_standard_input_once(rt: HostRuntime) -> Result<(), Fail> {
+    for (words, expected) in [
+        (
+            ["zk", "debug", "a.log", "@"].as_slice(),
+            Ok((Order::Debug, "a.log", Some("@"), "@")),
+        ),
+        (
+            ["zk", "debug", "@", "--", "-s"].as_slice(),
+            Ok((Order::Debug, "@", Some("-s"), "@")),
+        ),
+        (
+            ["zk", "debug", "@", "@"].as_slice(),
+            Err(ErrorKind::ArgumentConflict),
+        ),
+        (
+            ["zk", "debug", "a.log"].as_slice(),
+            Err(ErrorKind::MissingRequiredArgument),
+        ),
+    ] {
+        let found = match read_command_line(rt.alloc(), words) {
+            Ok(job) => Ok((job.order, job.input, job.script, job.output)),
+            Err(CommandFault::Refused(refusal)) => Err(refusal.kind),
+            Err(CommandFault::NoMemory) => Err(ErrorKind::OutOfMemory),
+        };
+        assert_eq!(rt; found, expected);
+    }
+    Ok(())
+}

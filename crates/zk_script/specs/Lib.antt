@@ -1,0 +1,5 @@
+pub mod Commands
+pub mod Reading
+pub mod Reports
+pub mod Answers
+pub mod Scripts

@@ -1,0 +1,101 @@
+//! The report of a tree.
+ghost use Rattle.std.specs.Prelude.{◌≡◌, ◌++◌, false, OnOk};
+ghost use Rattle.std.specs.FinMap as finite;
+ghost use Rattle.std.specs.List.{flat_map};
+ghost use Rattle.std.specs.String.{string_bytes};
+ghost use Rattle.zk_script.specs.Reports.{line, line_at, zxid_line, session_line, tree_report};
+
+use zk_listing::{push_digits, push_id, push_node_line};
+use zk_machine::Machine;
+use zk_path::{NoMemory, Path};
+use zk_tree::Tree;
+
+/// Appends the report of a machine's state: its last transaction, its open sessions and its nodes.
+#[tactic(auto, unfolding(crate::specs::Reports::tree_report))]
+pub(crate) fn push_tree(page: &mut String, machine: &Machine) -> Result<(), NoMemory>
+    requires { machine.now.failed ≡ false }
+    ensures { OnOk result
+        (string_bytes page.new ≡ string_bytes page.old ++ tree_report machine.now.state) }
+{
+    let Ok(tree) = machine.tree() else {
+        unreachable!()
+    };
+    let paths = tree.paths()?;
+    push_head(page, machine)?;
+    push_nodes(page, tree, paths.as_slice())
+}
+
+/// Appends the lines of the last transaction and of the open sessions.
+pub fn push_head(page: &mut String, machine: &Machine) -> Result<(), NoMemory>
+    requires { machine.now.failed ≡ false }
+    ensures { OnOk result (string_bytes page.new ≡ string_bytes page.old
+        ++ (line (zxid_line machine.now.state.last)
+        ++ flat_map (λ session. line (session_line session)) (finite.entries machine.now.state.sessions))) }
+{
+    let Ok(last) = machine.last() else {
+        unreachable!()
+    };
+    let Ok(sessions) = machine.sessions() else {
+        unreachable!()
+    };
+    push_zxid_line(page, last)?;
+    push_sessions(page, sessions)
+}
+
+/// Appends the line of a tree's last transaction.
+#[tactic(auto, unfolding(crate::specs::Reports::zxid_line))]
+fn push_zxid_line(page: &mut String, zxid: i64) -> Result<(), NoMemory>
+    ensures { OnOk result (string_bytes page.new ≡ string_bytes page.old ++ line (zxid_line zxid)) }
+{
+    page.push_str("zxid ")?;
+    push_id(page, zxid)?;
+    page.push('\n')?;
+    Ok(())
+}
+
+/// Appends the lines of the open sessions.
+fn push_sessions(page: &mut String, sessions: &[(u64, i32)]) -> Result<(), NoMemory>
+    ensures { OnOk result (string_bytes page.new ≡ string_bytes page.old
+        ++ flat_map (λ session. line (session_line session)) sessions.now) }
+{
+    for session in sessions {
+        push_session_line(page, session)?;
+    }
+    Ok(())
+}
+
+/// Appends the line of an open session, by its 64 bits, and its timeout in milliseconds.
+#[tactic(auto, unfolding(crate::specs::Reports::session_line))]
+fn push_session_line(page: &mut String, session: &(u64, i32)) -> Result<(), NoMemory>
+    ensures { OnOk result
+        (string_bytes page.new ≡ string_bytes page.old ++ line (session_line session.now)) }
+{
+    let (id, timeout) = session;
+    page.push_str("session ")?;
+    push_digits(page, *id)?;
+    write!(page, " {timeout}\n")?;
+    Ok(())
+}
+
+/// Appends the lines of the nodes at these paths.
+fn push_nodes(page: &mut String, tree: &Tree, paths: &[Path]) -> Result<(), NoMemory>
+    ensures { OnOk result
+        (string_bytes page.new ≡ string_bytes page.old ++ flat_map (line_at tree.now) paths.now) }
+{
+    for path in paths {
+        push_line_at(page, tree, path)?;
+    }
+    Ok(())
+}
+
+/// Appends the line of the node at a path, if there is one.
+pub fn push_line_at(page: &mut String, tree: &Tree, path: &Path) -> Result<(), NoMemory>
+    ensures { OnOk result (string_bytes page.new ≡ string_bytes page.old ++ line_at tree.now path.now) }
+{
+    let Some(node) = tree.get(path) else {
+        return Ok(());
+    };
+    push_node_line(page, path, node, &node.stat(tree.child_count(path)))?;
+    page.push('\n')?;
+    Ok(())
+}

@@ -1,0 +1,121 @@
+//! Lines that say a command, and lines that say none.
+use std::process::Abort;
+use std::test::Fail;
+use zk_debug::Debugger;
+use zk_log::{Ending, Loaded, Txns};
+use zk_machine::Machine;
+use zk_path::Path;
+use zk_script::{
+    CommandFault, ScriptFault, push_head, push_line_at, read_command, run_command, run_script,
+};
+
+/// The start of a log without transactions.
+fn at_the_start(rt: &(impl Abort + AllocGlobal)) -> Result<Debugger, Fail> {
+    let loaded = Loaded {
+        dbid: 0,
+        txns: Txns::new(Vec::new(rt.alloc())),
+        ending: Ending::Whole,
+    };
+    Ok(Debugger::new(rt.alloc(), loaded)?)
+}
+
+#[test]
+fn each_command_has_a_line(rt: HostRuntime) -> Result<(), Fail> {
+    let mut debugger = at_the_start(&rt)?;
+    for (line, expected) in [
+        ("step", "B1\n"),
+        ("back", "B2\n"),
+        ("run", "B1\n"),
+        ("runback", "B2\n"),
+        ("goto 8000000000000000", "place 0 0000000000000000\n"),
+        ("node \"/none\"", "none\n"),
+        ("last", "none\n"),
+        ("break at 00000000000000ff", "break 1\n"),
+        ("break path \"/a \\\"b\\\\\"", "break 2\n"),
+        ("break session ffffffffffffffff", "break 3\n"),
+        ("break kind createSession", "break 4\n"),
+        ("break kind setACL", "break 5\n"),
+        ("break error", "break 6\n"),
+        ("clear 6", "ok\n"),
+        ("clear 6", "B3\n"),
+        ("clear 4294967295", "B3\n"),
+        ("clear 0", "B3\n"),
+        ("reset", "place 0 0000000000000000\n"),
+        (
+            "tree",
+            "zxid 0000000000000000\n\
+            \"/\" x 1 31 \"world\" \"anyone\" 0000000000000000 0000000000000000 0 0 0 -1 0 0000000000000000 0 1 0000000000000000\n\
+            \"/zookeeper\" x 1 31 \"world\" \"anyone\" 0000000000000000 0000000000000000 0 0 0 -1 0 0000000000000000 0 1 0000000000000000\n\
+            \"/zookeeper/quota\" x 1 31 \"world\" \"anyone\" 0000000000000000 0000000000000000 0 0 0 0 0 0000000000000000 0 0 0000000000000000\n",
+        ),
+    ] {
+        let mut answers = String::new(rt.alloc());
+        let command = read_command(rt.alloc(), line)?;
+        run_command(&mut debugger, command, &mut answers)?;
+        assert_eq!(rt; answers.as_str(), expected);
+    }
+    Ok(())
+}
+
+#[test]
+fn other_lines_say_nothing(rt: HostRuntime) -> Result<(), Fail> {
+    for line in [
+        "",
+        " step",
+        "step ",
+        "step\r",
+        "Step",
+        "stop",
+        "step 1",
+        "goto",
+        "goto 1",
+        "goto 000000010000000A",
+        "goto  0000000100000001",
+        "goto 0000000100000001 ",
+        "node /",
+        "node \"/a/\"",
+        "node \"/a\"b",
+        "tree \"/\"",
+        "break",
+        "break at",
+        "break errors",
+        "break kind check",
+        "break kind open",
+        "break path \"a\"",
+        "clear",
+        "clear -1",
+        "clear +1",
+        "clear 01",
+        "clear 4294967296",
+        "run back",
+    ] {
+        let read = read_command(rt.alloc(), line);
+        assert_eq!(rt; read.err(), Some(CommandFault::Malformed));
+    }
+    let mut debugger = at_the_start(&rt)?;
+    let mut answers = String::new(rt.alloc());
+    let ran = run_script(
+        rt.alloc(),
+        &mut debugger,
+        "back\nlast\n\nlast",
+        &mut answers,
+    );
+    assert_eq!(rt; ran, Err(ScriptFault::Malformed(3)));
+    assert_eq!(rt; answers.as_str(), "B2\nnone\n");
+    Ok(())
+}
+
+#[test]
+fn a_page_takes_a_head_and_nodes(rt: HostRuntime) -> Result<(), Fail> {
+    let machine = Machine::new(rt.alloc())?;
+    let path = Path::read(rt.alloc(), "/zookeeper/quota")?;
+    let mut page = String::new(rt.alloc());
+    push_head(&mut page, &machine)?;
+    push_line_at(&mut page, machine.tree()?, &path)?;
+    assert_eq!(rt;
+        page.as_str(),
+        "zxid 0000000000000000\n\
+        \"/zookeeper/quota\" x 1 31 \"world\" \"anyone\" 0000000000000000 0000000000000000 0 0 0 0 0 0000000000000000 0 0 0000000000000000\n"
+    );
+    Ok(())
+}
