@@ -22,3 +22,7 @@ echo "The whole first log as text, one line for each transaction:"
 echo
 echo "A log of that text, with the session opened for a minute, and its tree:"
 sed 's/createSession 30000/createSession 60000/; $d' examples/first_log.listing | "$zk" asm @ @ | "$zk" show @ last
+
+echo
+echo "A lock that a closed session took away, found by a breakpoint on its path, with the tree before and after:"
+"$zk" asm examples/lock.listing @ | "$zk" debug @ examples/lock.script

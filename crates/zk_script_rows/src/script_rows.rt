@@ -13,7 +13,7 @@ use zk_script::{
 fn at_the_start(rt: &(impl Abort + AllocGlobal)) -> Result<Debugger, Fail> {
     let loaded = Loaded {
         dbid: 0,
-        txns: Txns::new(Vec::new(rt.alloc())),
+        txns: Txns::from_vec(Vec::new(rt.alloc())),
         ending: Ending::Whole,
     };
     Ok(Debugger::new(rt.alloc(), loaded)?)

@@ -1,11 +1,11 @@
-use Rattle.std.proofs.Common.{rules}
+use Rattle.std.proofs.Common.{refl, rules}
 use Rattle.zk_cli.proofs.act.act.Goals as goal
 
-pub returns-in-Show-clause-acts : goal.returns-in-Show-clause-acts
-returns-in-Show-clause-acts g c = search rules
+pub returns-in-Show : goal.returns-in-Show
+returns-in-Show g c = (search rules, refl)
 
-pub returns-in-List-clause-acts : goal.returns-in-List-clause-acts
-returns-in-List-clause-acts g c = search rules
+pub returns-in-List : goal.returns-in-List
+returns-in-List g c = (search rules, refl)
 
-pub returns-in-Asm-clause-acts : goal.returns-in-Asm-clause-acts
-returns-in-Asm-clause-acts g c = search rules
+pub returns-in-Asm : goal.returns-in-Asm
+returns-in-Asm g c = (search rules, refl)
