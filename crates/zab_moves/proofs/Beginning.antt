@@ -37,8 +37,8 @@ to_each : (C : Type 0) (k : laws.Setting Entry) (g : laws.Ghost Entry) (me at ep
 to_each C k g me at epoch history [] of = tt
 to_each C k g me at epoch history (mark ∷ marks) of =
     all_append (MessageFact {C = C} k g) (cond (mark && not (at == me)) (message me at (NewLeader epoch history) ∷ []) []) (to_others me (at + 1) (NewLeader epoch history) marks)
-      (by_test (AllByRecursion (MessageFact {C = C} k g)) (mark && not (at == me)) (message me at (NewLeader epoch history) ∷ []) [] (λ e. (of, tt)) (λ e. tt))
-      (to_each C k g me (at + 1) epoch history marks of)
+    (by_test (AllByRecursion (MessageFact {C = C} k g)) (mark && not (at == me)) (message me at (NewLeader epoch history) ∷ []) [] (λ e. (of, tt)) (λ e. tt))
+    (to_each C k g me (at + 1) epoch history marks of)
 
 pub begins_owes : {C : Type 0} (k : laws.Setting Entry) (g : laws.Ghost Entry) (state : State) (joiners : List Bool) (start : List Entry) → laws.Shares k → laws.IsKept k g state.peer.me (core_of state) → state.delivered ≤ length state.peer.stable.history → 0 < state.peer.me → state.peer.stable.current < state.peer.stable.promised → laws.IsElected k g state.peer.stable.promised state.peer.me start → OwesOf {C = C} k g state (begun state (epoch_rules.begins state.peer joiners start))
 begins_owes {C} k g state joiners start share kept within pos0 below elected =
@@ -52,7 +52,7 @@ begins_owes {C} k g state joiners start share kept within pos0 below elected =
     let is : y.began epoch ≡ Some began = at_same g.began epoch (Some began) in
     let held : y.held me epoch ≡ Some start = two_same g.held me epoch (Some start) in
     let has : HasFact y epoch (put (silent_servers state.peer.servers) me (length start)) =
-      put_has y epoch me (length start) (silent_servers state.peer.servers) (none_has y epoch state.peer.servers) pos0 (record { history = start; is = held; long = omega arith }) in
+    put_has y epoch me (length start) (silent_servers state.peer.servers) (none_has y epoch state.peer.servers) pos0 (record { history = start; is = held; long = omega arith }) in
     let of : laws.IsOfLeader y epoch start = record { began = began; is = is; starts = prefix_refl start; longest = start; longest_is = held; within = prefix_refl start } in
     record {
       ghost = y;

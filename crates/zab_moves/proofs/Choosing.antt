@@ -30,19 +30,20 @@ none_voted g q epoch n i v e = absurd (never n i v e)
 
 pub put_voted : (g : laws.Ghost Entry) (q epoch from : ℕ) (votes : List (Option Vote)) (said : Vote) → VotesFact g q epoch votes → 0 < from → g.votes from epoch ≡ Some (record { leader = q; current = said.current; history = said.history }) → VotesFact g q epoch (put votes from said)
 put_voted g q epoch from votes said fact pos0 new i v e = elim (set_cases votes (from - 1) i (Some said) (Some v) e) [
-    inl p ↦
+  | inl p ↦
       (let at : i + 1 ≡ from = (let z : i ≡ from - 1 = p.0 in omega arith) in
-       let value : v ≡ said = same_some v said p.1 in
-       subst (λ t. g.votes t epoch ≡ Some (record { leader = q; current = v.current; history = v.history })) (sym at)
-         (subst (λ (w : Vote). g.votes from epoch ≡ Some (record { leader = q; current = w.current; history = w.history })) (sym value) new))
-  | inr old ↦ fact i v old ]
+      let value : v ≡ said = same_some v said p.1 in
+      subst (λ t. g.votes t epoch ≡ Some (record { leader = q; current = v.current; history = v.history })) (sym at)
+      (subst (λ (w : Vote). g.votes from epoch ≡ Some (record { leader = q; current = w.current; history = w.history })) (sym value) new))
+  | inr old ↦ fact i v old
+]
 
 told_epoch : (C : Type 0) (k : laws.Setting Entry) (g : laws.Ghost Entry) (me at epoch : ℕ) (marks : List Bool) → AllByRecursion (MessageFact {C = C} k g) (to_others me at (NewEpoch epoch) marks)
 told_epoch C k g me at epoch [] = tt
 told_epoch C k g me at epoch (mark ∷ marks) =
     all_append (MessageFact {C = C} k g) (cond (mark && not (at == me)) (message me at (NewEpoch epoch) ∷ []) []) (to_others me (at + 1) (NewEpoch epoch) marks)
-      (by_test (AllByRecursion (MessageFact {C = C} k g)) (mark && not (at == me)) (message me at (NewEpoch epoch) ∷ []) [] (λ e. (tt, tt)) (λ e. tt))
-      (told_epoch C k g me (at + 1) epoch marks)
+    (by_test (AllByRecursion (MessageFact {C = C} k g)) (mark && not (at == me)) (message me at (NewEpoch epoch) ∷ []) [] (λ e. (tt, tt)) (λ e. tt))
+    (told_epoch C k g me (at + 1) epoch marks)
 
 -- a leader promises to itself, and votes itself
 pub chooses_owes : {C : Type 0} (k : laws.Setting Entry) (g : laws.Ghost Entry) (state : State) (heard : List Bool) (next : Option ℕ) → laws.IsKept k g state.peer.me (core_of state) → state.delivered ≤ length state.peer.stable.history → 0 < state.peer.me → ((epoch : ℕ) → next ≡ Some epoch → state.peer.stable.promised < epoch) → OwesOf {C = C} k g state (by_peer state (epoch_rules.chooses state.peer heard next))
@@ -67,7 +68,7 @@ chooses_owes {C} k g state heard (Some epoch) kept within pos0 above =
       role = record {
         below = omega arith;
         votes_are = put_voted y me epoch me (silent_servers state.peer.servers) own (none_voted y me epoch state.peer.servers) pos0
-          (two_now g me epoch (record { leader = me; current = state.peer.stable.current; history = state.peer.stable.history }));
+            (two_now g me epoch (record { leader = me; current = state.peer.stable.current; history = state.peer.stable.history }));
       };
       sent = told_epoch C k y me 1 epoch heard;
       me = refl;

@@ -42,29 +42,32 @@ pub chosen_of : (k : laws.Setting Entry) (g : laws.Ghost Entry) (s epoch count n
 chosen_of k g s epoch count n h facts r held above low =
     let o = facts.of_leader s epoch h held above in
     record {
-      marks = r.marks; quorum = r.quorum;
+      marks = r.marks;
+      quorum = r.quorum;
       each = λ t m. (let a = r.each t m in
-        let p = facts.of_leader t epoch a.history a.is above in
-        let long : count ≤ length a.history = a.long in
-        let one : p.longest ≡ o.longest = same_longest g epoch a.history h p o in
-        record {
-          history = a.history; is = a.is;
-          begins = prefix_by_length (take n h) a.history o.longest
-            (prefix_trans (take n h) h o.longest (prefix_take n h) o.within)
-            (subst (IsPrefix a.history) one p.within)
-            (omega (arith, length-take n h));
-        });
+          let p = facts.of_leader t epoch a.history a.is above in
+          let long : count ≤ length a.history = a.long in
+          let one : p.longest ≡ o.longest = same_longest g epoch a.history h p o in
+          record {
+            history = a.history;
+            is = a.is;
+            begins = prefix_by_length (take n h) a.history o.longest
+                (prefix_trans (take n h) h o.longest (prefix_take n h) o.within)
+                (subst (IsPrefix a.history) one p.within)
+                (omega (arith, length-take n h));
+          });
     }
 
 -- delivering as many as that, if more than before
 pub delivers_more : (k : laws.Setting Entry) (g : laws.Ghost Entry) (state : State) (s count : ℕ) → laws.IsKept k g s (core_of state) → 0 < state.peer.stable.current → (state.delivered < count → laws.IsChosen k g state.peer.stable.current (take count state.peer.stable.history)) → laws.Keeps k g g s (core_with state (max state.delivered count))
 delivers_more k g state s count kept above chosen = elim (split state.delivered count) [
-    inl less ↦
+  | inl less ↦
       (let m : count ≡ max state.delivered count = omega arith in
-       subst (λ n. laws.Keeps k g g s (core_with state n)) m (keeps_deliver k g (core_of state) s count kept (above, chosen less)))
+      subst (λ n. laws.Keeps k g g s (core_with state n)) m (keeps_deliver k g (core_of state) s count kept (above, chosen less)))
   | inr more ↦
       (let m : state.delivered ≡ max state.delivered count = omega arith in
-       subst (λ n. laws.Keeps k g g s (core_with state n)) m (stays k g s (core_of state) kept)) ]
+      subst (λ n. laws.Keeps k g g s (core_with state n)) m (stays k g s (core_of state) kept))
+]
 
 -- ---- the commit count
 
@@ -84,14 +87,17 @@ reached_slot count (slot ∷ has) (suc i) e = reached_slot count has i e
 
 pub has_reached : (k : laws.Setting Entry) (g : laws.Ghost Entry) (epoch count : ℕ) (began : laws.Began Entry) (has : List (Option ℕ)) → g.began epoch ≡ Some began → HasFact g epoch has → k.passes (reached count has) ≡ true → IsReached k g epoch count
 has_reached k g epoch count began has is fact quorum = record {
-    began = began; is = is; marks = reached count has; quorum = quorum;
-    each = λ t m. (let slot = reached_slot count has (t - 1) m.1 in
+  began = began;
+  is = is;
+  marks = reached count has;
+  quorum = quorum;
+  each = λ t m. (let slot = reached_slot count has (t - 1) m.1 in
       let low : count ≤ slot.0 = slot.2 in
       let at : t - 1 + 1 ≡ t = (let p : 0 < t = m.0 in omega arith) in
       let h = fact (t - 1) slot.0 slot.1 in
       let long : slot.0 ≤ length h.history = h.long in
       record { history = h.history; is = subst (λ u. g.held u epoch ≡ Some h.history) at h.is; long = omega arith });
-  }
+}
 
 -- delivering more leaves what was delivered at the front
 take_more : (d n : ℕ) (list : List Entry) → d ≤ n → IsPrefix (take d list) (take n list)

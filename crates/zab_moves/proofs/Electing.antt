@@ -50,8 +50,9 @@ record Better (vote best : Vote) (with : Vote) : Type 0 where
 
 better_of : (vote best : Vote) → Better vote best (cond (is_better vote best) vote best)
 better_of vote best = elim (is_better vote best) as (λ b. is_better vote best ≡ b → Better vote best (cond b vote best)) [
-    true ↦ λ e. record { one = inl refl; vote_most = at_most_self vote; best_most = test_true vote.current best.current (last_zxid vote.history) (last_zxid best.history) e }
-  | false ↦ λ e. record { one = inr refl; vote_most = test_false vote.current best.current (last_zxid vote.history) (last_zxid best.history) e; best_most = at_most_self best } ] refl
+  | true ↦ λ e. record { one = inl refl; vote_most = at_most_self vote; best_most = test_true vote.current best.current (last_zxid vote.history) (last_zxid best.history) e }
+  | false ↦ λ e. record { one = inr refl; vote_most = test_false vote.current best.current (last_zxid vote.history) (last_zxid best.history) e; best_most = at_most_self best }
+] refl
 
 -- the best of a vote and a list of them: it is one of them, and none is better
 record IsBest (first : Option Vote) (votes : List (Option Vote)) (best : Vote) : Type 0 where
@@ -65,19 +66,19 @@ same_some a b e = cc
 is_best : (first : Option Vote) (votes : List (Option Vote)) (best : Vote) → best_of first votes ≡ Some best → IsBest first votes best
 is_best first [] best e = record { from = inl e; first_most = λ v f. subst (AtMost v) (same_some v best (sym f ∙ e)) (at_most_self v); most = λ t v f. absurd cc }
 is_best first (None ∷ votes) best e = let r = is_best first votes best e in record {
-    from = elim r.from [ inl f ↦ inl f | inr w ↦ inr (suc w.0, w.1) ];
-    first_most = r.first_most;
-    most = λ t v f. at t v f r.most;
-  }
+  from = elim r.from [ inl f ↦ inl f | inr w ↦ inr (suc w.0, w.1) ];
+  first_most = r.first_most;
+  most = λ t v f. at t v f r.most;
+}
   where
     at : (t : ℕ) (v : Vote) → slice_get (None ∷ votes) t ≡ Some (Some v) → ((u : ℕ) (w : Vote) → slice_get votes u ≡ Some (Some w) → AtMost w best) → AtMost v best
     at zero v f m = absurd cc
     at (suc t) v f m = m t v f
 is_best None ((Some vote) ∷ votes) best e = let r = is_best (Some vote) votes best e in record {
-    from = elim r.from [ inl f ↦ inr (0, ap (λ o. Some o) f) | inr w ↦ inr (suc w.0, w.1) ];
-    first_most = λ v f. absurd cc;
-    most = λ t v f. at t v f (r.first_most vote refl) r.most;
-  }
+  from = elim r.from [ inl f ↦ inr (0, ap (λ o. Some o) f) | inr w ↦ inr (suc w.0, w.1) ];
+  first_most = λ v f. absurd cc;
+  most = λ t v f. at t v f (r.first_most vote refl) r.most;
+}
   where
     at : (t : ℕ) (v : Vote) → slice_get (Some vote ∷ votes) t ≡ Some (Some v) → AtMost vote best → ((u : ℕ) (w : Vote) → slice_get votes u ≡ Some (Some w) → AtMost w best) → AtMost v best
     at zero v f h m = subst (λ w. AtMost w best) (same_some vote v (same_some (Some vote) (Some v) f)) h
@@ -89,8 +90,9 @@ is_best (Some old) ((Some vote) ∷ votes) best e =
     let top : AtMost (cond (is_better vote old) vote old) best = r.first_most (cond (is_better vote old) vote old) refl in
     record {
       from = elim r.from [
-          inl f ↦ elim b.one [ inl v ↦ inr (0, ap (λ o. Some (Some o)) (sym v) ∙ ap (λ o. Some o) f) | inr o ↦ inl (ap (λ u. Some u) (sym o) ∙ f) ]
-        | inr w ↦ inr (suc w.0, w.1) ];
+        | inl f ↦ elim b.one [ inl v ↦ inr (0, ap (λ o. Some (Some o)) (sym v) ∙ ap (λ o. Some o) f) | inr o ↦ inl (ap (λ u. Some u) (sym o) ∙ f) ]
+        | inr w ↦ inr (suc w.0, w.1)
+      ];
       first_most = λ v f. subst (λ w. AtMost w best) (same_some old v f) (at_most_trans old (cond (is_better vote old) vote old) best b.best_most top);
       most = λ t v f. at t v f (at_most_trans vote (cond (is_better vote old) vote old) best b.vote_most top) r.most;
     }
@@ -127,15 +129,21 @@ elects passes g q epoch votes best fact quorum e =
     let r = is_best None votes best e in
     let won : (w : ℕ) × (slice_get votes w ≡ Some (Some best)) = elim r.from [ inl none ↦ absurd cc | inr w ↦ w ] in
     record {
-      marks = marks_of votes; quorum = quorum; winner = won.0 + 1;
+      marks = marks_of votes;
+      quorum = quorum;
+      winner = won.0 + 1;
       member = (omega arith, (let one : won.0 + 1 - 1 ≡ won.0 = omega arith in subst (λ i. slice_get (marks_of votes) i ≡ Some true) (sym one) (marked votes won.0 best won.1)));
-      best = full q best; best_is = fact won.0 best won.1; start_is = refl;
+      best = full q best;
+      best_is = fact won.0 best won.1;
+      start_is = refl;
       each = λ t m. (let v = voted votes (t - 1) m.1 in
-        let at : t - 1 + 1 ≡ t = (let p : 0 < t = m.0 in omega arith) in
-        record {
-          vote = full q v.0; is = subst (λ u. g.votes u epoch ≡ Some (full q v.0)) at (fact (t - 1) v.0 v.1); leader_is = refl;
-          at_most = core_most q v.0 best (r.most (t - 1) v.0 v.1);
-        });
+          let at : t - 1 + 1 ≡ t = (let p : 0 < t = m.0 in omega arith) in
+          record {
+            vote = full q v.0;
+            is = subst (λ u. g.votes u epoch ≡ Some (full q v.0)) at (fact (t - 1) v.0 v.1);
+            leader_is = refl;
+            at_most = core_most q v.0 best (r.most (t - 1) v.0 v.1);
+          });
     }
 
 -- ---- a quorum has voted, so there is a best vote

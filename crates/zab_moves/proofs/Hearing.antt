@@ -68,9 +68,9 @@ next_above heard promised epoch is =
 c_epoch_by : {C : Type 0} (passes : List Bool → Bool) (g : laws.Ghost Entry) (state : State) (from promised : ℕ) (role : Role) → Stands (laws_of passes) g state → OwesOf {C = C} (laws_of passes) g state (by_peer state (epoch_rules.c_epoch_as passes state.peer from promised role))
 c_epoch_by {C} passes g state from promised (Discover heard) f =
     by_test (λ (acts : epoch_rules.Acts C). OwesOf {C = C} (laws_of passes) g state (by_peer state acts)) (passes (marks_of (put heard from promised))) _ _
-      (λ e. chooses_owes (laws_of passes) g state (marks_of (put heard from promised)) (next_epoch (max (greatest (put heard from promised)) state.peer.stable.promised)) f.kept f.within f.above
-        (λ epoch is. next_above (greatest (put heard from promised)) state.peer.stable.promised epoch is))
-      (λ e. turns (laws_of passes) g state (Discover (put heard from promised)) (Ok []) f tt tt)
+    (λ e. chooses_owes (laws_of passes) g state (marks_of (put heard from promised)) (next_epoch (max (greatest (put heard from promised)) state.peer.stable.promised)) f.kept f.within f.above
+    (λ epoch is. next_above (greatest (put heard from promised)) state.peer.stable.promised epoch is))
+    (λ e. turns (laws_of passes) g state (Discover (put heard from promised)) (Ok []) f tt tt)
 c_epoch_by passes g state from promised (Choose votes joiners) f = quiet (laws_of passes) g state _ f (tt, tt)
 c_epoch_by passes g state from promised Sync f = quiet (laws_of passes) g state _ f (tt, tt)
 c_epoch_by passes g state from promised Broadcast f = quiet (laws_of passes) g state _ f (tt, tt)
@@ -96,12 +96,12 @@ promises k g state from epoch f following above = record {
 pub hears_new_epoch : {C : Type 0} (k : laws.Setting Entry) (g : laws.Ghost Entry) (state : State) (from epoch : ℕ) → Stands k g state → OwesOf {C = C} k g state (rules.new_epoch state from epoch)
 hears_new_epoch {C} k g state from epoch f =
     by_test (λ (acts : epoch_rules.Acts C). OwesOf {C = C} k g state (by_peer state acts)) (follows state.peer.role from) _ _
-      (λ following. by_test (λ (acts : epoch_rules.Acts C). OwesOf {C = C} k g state (by_peer state acts)) (nat_lt state.peer.stable.promised epoch) _ _
-        (λ less. promises k g state from epoch f following (less_is state.peer.stable.promised epoch less))
-        (λ no. by_test (λ (acts : epoch_rules.Acts C). OwesOf {C = C} k g state (by_peer state acts)) (epoch == state.peer.stable.promised) _ _
-          (λ same. quiet k g state _ f ((f.above, λ e. absurd cc), tt))
-          (λ other. quiet k g state _ f tt)))
-      (λ other. quiet k g state _ f tt)
+    (λ following. by_test (λ (acts : epoch_rules.Acts C). OwesOf {C = C} k g state (by_peer state acts)) (nat_lt state.peer.stable.promised epoch) _ _
+    (λ less. promises k g state from epoch f following (less_is state.peer.stable.promised epoch less))
+    (λ no. by_test (λ (acts : epoch_rules.Acts C). OwesOf {C = C} k g state (by_peer state acts)) (epoch == state.peer.stable.promised) _ _
+    (λ same. quiet k g state _ f ((f.above, λ e. absurd cc), tt))
+    (λ other. quiet k g state _ f tt)))
+    (λ other. quiet k g state _ f tt)
 
 -- ---- 4
 
@@ -123,19 +123,19 @@ gathering k g state votes joiners f below votes_are =
 gathers : {C : Type 0} (passes : List Bool → Bool) (g : laws.Ghost Entry) (state : State) (votes : List (Option Vote)) (joiners : List (Option (Unit {0}))) → laws.Shares (laws_of passes) → Stands (laws_of passes) g state → state.peer.stable.current < state.peer.stable.promised → VotesFact g state.peer.me state.peer.stable.promised votes → OwesOf {C = C} (laws_of passes) g state (begun state (epoch_rules.gathers passes state.peer votes joiners))
 gathers {C} passes g state votes joiners share f below votes_are =
     by_test (λ (acts : epoch_rules.Acts C). OwesOf {C = C} (laws_of passes) g state (begun state acts)) (passes (marks_of votes)) _ _
-      (λ quorum. (let best = best_of_quorum passes share votes quorum in
-        subst (λ (start : List Entry). OwesOf {C = C} (laws_of passes) g state (begun state (epoch_rules.begins state.peer (marks_of joiners) start)))
-          (ap (history_of state.peer.stable.history) (sym best.1))
-          (begins_owes (laws_of passes) g state (marks_of joiners) best.0.history share f.kept f.within f.above below
-            (elects passes g state.peer.me state.peer.stable.promised votes best.0 votes_are quorum best.1))))
-      (λ few. gathering (laws_of passes) g state votes joiners f below votes_are)
+    (λ quorum. (let best = best_of_quorum passes share votes quorum in
+    subst (λ (start : List Entry). OwesOf {C = C} (laws_of passes) g state (begun state (epoch_rules.begins state.peer (marks_of joiners) start)))
+    (ap (history_of state.peer.stable.history) (sym best.1))
+    (begins_owes (laws_of passes) g state (marks_of joiners) best.0.history share f.kept f.within f.above below
+    (elects passes g state.peer.me state.peer.stable.promised votes best.0 votes_are quorum best.1))))
+    (λ few. gathering (laws_of passes) g state votes joiners f below votes_are)
 
 -- a leader tells its history
 leader_history : (k : laws.Setting Entry) (g : laws.Ghost Entry) (state : State) → Stands k g state → Leads g state → laws.IsOfLeader g state.peer.stable.promised state.peer.stable.history
 leader_history k g state f b =
     let above = begun_above k g (core_of state) state.peer.me f.kept state.peer.stable.current b.began b.is in
     subst (λ e. laws.IsOfLeader g e state.peer.stable.history) (sym b.same)
-      (f.kept.facts.of_leader state.peer.me state.peer.stable.current state.peer.stable.history f.kept.sound.held_now above)
+    (f.kept.facts.of_leader state.peer.me state.peer.stable.current state.peer.stable.history f.kept.sound.held_now above)
 
 -- the rule, by the role
 abbrev ack_epoch_by : {C : Type 0} → (List Bool → Bool) → State → ℕ → ℕ → Bool → Vote → Role → Acts C
@@ -150,28 +150,28 @@ still {C} k g state b f = by_test (λ (acts : epoch_rules.Acts C). OwesOf {C = C
 answers_history : {C : Type 0} (k : laws.Setting Entry) (g : laws.Ghost Entry) (state : State) (from : ℕ) (b : Bool) → Stands k g state → Leads g state → OwesOf {C = C} k g state (by_peer state (cond b (epoch_rules.tells state.peer from (say.NewLeader state.peer.stable.promised state.peer.stable.history)) (epoch_rules.silent state.peer)))
 answers_history {C} k g state from b f leads =
     by_test (λ (acts : epoch_rules.Acts C). OwesOf {C = C} k g state (by_peer state acts)) b _ _
-      (λ e. quiet k g state _ f (leader_history k g state f leads, tt)) (λ e. quiet k g state _ f tt)
+    (λ e. quiet k g state _ f (leader_history k g state f leads, tt)) (λ e. quiet k g state _ f tt)
 
 ack_epoch_owes : {C : Type 0} (passes : List Bool → Bool) (g : laws.Ghost Entry) (state : State) (from epoch : ℕ) (vote : Bool) (said : Vote) (role : Role) → laws.Shares (laws_of passes) → Stands (laws_of passes) g state → state.peer.role ≡ role → RoleFact (laws_of passes) g state role → 0 < from → (vote ≡ true → g.votes from epoch ≡ Some (record { leader = state.peer.me; current = said.current; history = said.history })) → OwesOf {C = C} (laws_of passes) g state (ack_epoch_by passes state from epoch vote said role)
 ack_epoch_owes {C} passes g state from epoch vote said (Choose votes joiners) share f at b pos0 voted =
     by_test (λ (acts : epoch_rules.Acts C). OwesOf {C = C} (laws_of passes) g state (begun state acts)) (epoch == state.peer.stable.promised) _ _
-      (λ is. (let same : epoch ≡ state.peer.stable.promised = eq_is epoch state.peer.stable.promised is in
-        gathers passes g state (cond vote (put votes from said) votes) (put joiners from tt) share f b.below
-          (by_test (VotesFact g state.peer.me state.peer.stable.promised) vote (put votes from said) votes
-            (λ e. put_voted g state.peer.me state.peer.stable.promised from votes said b.votes_are pos0
-              (subst (λ n. g.votes from n ≡ Some (record { leader = state.peer.me; current = said.current; history = said.history })) same (voted e)))
-            (λ e. b.votes_are))))
-      (λ other. (let within : state.delivered ≤ length state.peer.stable.history = f.within in
-        let m : state.delivered ≡ min state.delivered (length state.peer.stable.history) = omega arith in
-        record {
-          ghost = g;
-          keeps = subst (λ n. laws.Keeps (laws_of passes) g g state.peer.me (core_with state n)) m (stays (laws_of passes) g state.peer.me (core_of state) f.kept);
-          role = subst (RoleFact (laws_of passes) g (with_peer state state.peer (put (silent_servers state.peer.servers) state.peer.me (length state.peer.stable.history)))) (sym at) (record { below = b.below; votes_are = b.votes_are });
-          sent = tt;
-          me = refl;
-          within = omega arith;
-          more = subst (λ n. IsPrefix (told_of state) (take n state.peer.stable.history)) m (prefix_refl (told_of state));
-        }))
+    (λ is. (let same : epoch ≡ state.peer.stable.promised = eq_is epoch state.peer.stable.promised is in
+    gathers passes g state (cond vote (put votes from said) votes) (put joiners from tt) share f b.below
+    (by_test (VotesFact g state.peer.me state.peer.stable.promised) vote (put votes from said) votes
+    (λ e. put_voted g state.peer.me state.peer.stable.promised from votes said b.votes_are pos0
+    (subst (λ n. g.votes from n ≡ Some (record { leader = state.peer.me; current = said.current; history = said.history })) same (voted e)))
+    (λ e. b.votes_are))))
+    (λ other. (let within : state.delivered ≤ length state.peer.stable.history = f.within in
+    let m : state.delivered ≡ min state.delivered (length state.peer.stable.history) = omega arith in
+    record {
+      ghost = g;
+      keeps = subst (λ n. laws.Keeps (laws_of passes) g g state.peer.me (core_with state n)) m (stays (laws_of passes) g state.peer.me (core_of state) f.kept);
+      role = subst (RoleFact (laws_of passes) g (with_peer state state.peer (put (silent_servers state.peer.servers) state.peer.me (length state.peer.stable.history)))) (sym at) (record { below = b.below; votes_are = b.votes_are });
+      sent = tt;
+      me = refl;
+      within = omega arith;
+      more = subst (λ n. IsPrefix (told_of state) (take n state.peer.stable.history)) m (prefix_refl (told_of state));
+    }))
 ack_epoch_owes passes g state from epoch vote said Sync share f at b pos0 voted = answers_history (laws_of passes) g state from (epoch == state.peer.stable.promised) f b.leads
 ack_epoch_owes passes g state from epoch vote said Broadcast share f at b pos0 voted = answers_history (laws_of passes) g state from (epoch == state.peer.stable.promised) f b.leads
 ack_epoch_owes passes g state from epoch vote said Looking share f at b pos0 voted = still (laws_of passes) g state (epoch == state.peer.stable.promised) f
@@ -181,7 +181,7 @@ ack_epoch_owes passes g state from epoch vote said (Following leader synced) sha
 pub hears_ack_epoch : {C : Type 0} (passes : List Bool → Bool) (g : laws.Ghost Entry) (state : State) (from to epoch : ℕ) (vote : Bool) (said : Vote) → laws.Shares (laws_of passes) → Stands (laws_of passes) g state → to ≡ state.peer.me → (0 < from) × (vote ≡ true → g.votes from epoch ≡ Some (record { leader = to; current = said.current; history = said.history })) → OwesOf {C = C} (laws_of passes) g state (rules.ack_epoch passes state from epoch vote said)
 hears_ack_epoch passes g state from to epoch vote said share f here b =
     ack_epoch_owes passes g state from epoch vote said state.peer.role share f refl f.role b.0
-      (λ e. subst (λ q. g.votes from epoch ≡ Some (record { leader = q; current = said.current; history = said.history })) here (b.1 e))
+    (λ e. subst (λ q. g.votes from epoch ≡ Some (record { leader = q; current = said.current; history = said.history })) here (b.1 e))
 
 -- ---- 5, 6, 8, 10
 
@@ -191,8 +191,8 @@ hears_new_leader k g state from epoch history share f of = new_leader_owes k g s
 pub hears_ack_leader : {C : Type 0} (passes : List Bool → Bool) (g : laws.Ghost Entry) (state : State) (from epoch count : ℕ) → Stands (laws_of passes) g state → (0 < from) × HasLength g from epoch count → OwesOf {C = C} (laws_of passes) g state (rules.ack_leader passes state from epoch count)
 hears_ack_leader {C} passes g state from epoch count f b =
     by_test (OwesOf {C = C} (laws_of passes) g state) (epoch == state.peer.stable.promised) _ _
-      (λ is. ack_leader_owes (laws_of passes) g state from epoch count state.peer.role f.kept f.within refl f.role b.0 b.1 (eq_is epoch state.peer.stable.promised is))
-      (λ other. quiet (laws_of passes) g state (Ok []) f tt)
+    (λ is. ack_leader_owes (laws_of passes) g state from epoch count state.peer.role f.kept f.within refl f.role b.0 b.1 (eq_is epoch state.peer.stable.promised is))
+    (λ other. quiet (laws_of passes) g state (Ok []) f tt)
 
 pub hears_propose : {C : Type 0} (k : laws.Setting Entry) (g : laws.Ghost Entry) (state : State) (from epoch index : ℕ) (entry : Entry) → laws.Shares k → Stands k g state → IsProposed g from epoch index entry → OwesOf {C = C} k g state (rules.propose state from epoch index entry)
 hears_propose k g state from epoch index entry share f said = propose_owes k g state from epoch index entry f.above share f.kept f.within f.role said
@@ -213,7 +213,7 @@ appends_by : {C : Type 0} (setting : Setting C) → CarriesZxid setting → (g :
 appends_by setting law g state call None f at b next = turns (laws_of setting.passes) g state Looking _ f tt tt
 appends_by setting law g state call (Some zxid) f at b next =
     appends_owes (laws_of setting.passes) g state (setting.made state.peer.stable.history call zxid) zxid f.kept f.within f.above at b
-      (law state.peer.stable.history call zxid) next
+    (law state.peer.stable.history call zxid) next
 
 submit_by : {C : Type 0} (setting : Setting C) → CarriesZxid setting → (g : laws.Ghost Entry) (state : State) (call : C) (role : Role) → Stands (laws_of setting.passes) g state → state.peer.role ≡ role → RoleFact (laws_of setting.passes) g state role → OwesOf (laws_of setting.passes) g state (rules.submit_as setting state call role)
 submit_by setting law g state call Broadcast f at b = appends_by setting law g state call (next_zxid state.peer.stable.promised state.made) f at b refl
@@ -230,8 +230,8 @@ submit_owes setting law g state call f = submit_by setting law g state call stat
 request_by : {C : Type 0} (setting : Setting C) → CarriesZxid setting → (g : laws.Ghost Entry) (state : State) (epoch : ℕ) (call : C) (role : Role) → Stands (laws_of setting.passes) g state → state.peer.role ≡ role → RoleFact (laws_of setting.passes) g state role → OwesOf (laws_of setting.passes) g state (rules.request_as setting state epoch call role)
 request_by setting law g state epoch call Broadcast f at b =
     by_test (OwesOf (laws_of setting.passes) g state) ((epoch == state.peer.stable.promised) && not (is_taken (setting.tag call) state.taken)) _ _
-      (λ e. appends_by setting law g state call (next_zxid state.peer.stable.promised state.made) f at b refl)
-      (λ e. quiet (laws_of setting.passes) g state _ f tt)
+    (λ e. appends_by setting law g state call (next_zxid state.peer.stable.promised state.made) f at b refl)
+    (λ e. quiet (laws_of setting.passes) g state _ f tt)
 request_by setting law g state epoch call (Following leader synced) f at b = quiet (laws_of setting.passes) g state _ f tt
 request_by setting law g state epoch call Looking f at b = quiet (laws_of setting.passes) g state _ f tt
 request_by setting law g state epoch call (Discover heard) f at b = quiet (laws_of setting.passes) g state _ f tt

@@ -44,52 +44,59 @@ front_of d own history within p =
 pub new_leader_owes : {C : Type 0} (k : laws.Setting Entry) (g : laws.Ghost Entry) (state : State) (from epoch : ℕ) (history : List Entry) → 0 < state.peer.me → laws.Shares k → laws.IsKept k g state.peer.me (core_of state) → state.delivered ≤ length state.peer.stable.history → RoleFact k g state state.peer.role → laws.IsOfLeader g epoch history → OwesOf {C = C} k g state (rules.new_leader state from epoch history)
 new_leader_owes {C} k g state from epoch history pos0 share kept within role of =
     by_test (OwesOf {C = C} k g state) (follows state.peer.role from) (joined state (epoch_rules.new_leader state.peer from epoch history)) (rules.silent state)
-      (λ following. by_test (λ (acts : epoch_rules.Acts C). OwesOf {C = C} k g state (joined state acts)) (follows state.peer.role from && (epoch == state.peer.stable.promised)) _ _
-        (λ is.
-          (let p : epoch ≡ state.peer.stable.promised = eq_is epoch state.peer.stable.promised (both_true (follows state.peer.role from) (epoch == state.peer.stable.promised) is).1 in
-          by_test (λ (acts : epoch_rules.Acts C). OwesOf {C = C} k g state (joined state acts)) (epoch_rules.is_behind state.peer.stable epoch history) _ _
-            (λ newer. takes p (newer_is state.peer.stable.current epoch (length state.peer.stable.history) (length history) newer))
-            (λ older. (let low : epoch ≤ state.peer.stable.current = not_newer state.peer.stable.current epoch (length state.peer.stable.history) (length history) older in
-              let high : state.peer.stable.current ≤ state.peer.stable.promised = kept.sound.current in
-              let same : state.peer.stable.current ≡ epoch = omega arith in
-              record {
-                ghost = g; keeps = same_core; role = tt;
-                sent = ((pos0, record { history = state.peer.stable.history; is = subst (λ e. g.held state.peer.me e ≡ Some state.peer.stable.history) same kept.sound.held_now; long = omega arith }), tt);
-                me = refl; within = omega arith; more = same_told;
-              }))))
-        (λ is. record { ghost = g; keeps = same_core; role = follower k g (with_peer state state.peer state.has) state.peer.role from following; sent = tt; me = refl; within = omega arith; more = same_told }))
-      (λ is. owes_nothing k g state (Ok []) kept within role tt)
+    (λ following. by_test (λ (acts : epoch_rules.Acts C). OwesOf {C = C} k g state (joined state acts)) (follows state.peer.role from && (epoch == state.peer.stable.promised)) _ _
+    (λ is.
+    (let p : epoch ≡ state.peer.stable.promised = eq_is epoch state.peer.stable.promised (both_true (follows state.peer.role from) (epoch == state.peer.stable.promised) is).1 in
+    by_test (λ (acts : epoch_rules.Acts C). OwesOf {C = C} k g state (joined state acts)) (epoch_rules.is_behind state.peer.stable epoch history) _ _
+    (λ newer. takes p (newer_is state.peer.stable.current epoch (length state.peer.stable.history) (length history) newer))
+    (λ older. (let low : epoch ≤ state.peer.stable.current = not_newer state.peer.stable.current epoch (length state.peer.stable.history) (length history) older in
+    let high : state.peer.stable.current ≤ state.peer.stable.promised = kept.sound.current in
+    let same : state.peer.stable.current ≡ epoch = omega arith in
+    record {
+      ghost = g;
+      keeps = same_core;
+      role = tt;
+      sent = ((pos0, record { history = state.peer.stable.history; is = subst (λ e. g.held state.peer.me e ≡ Some state.peer.stable.history) same kept.sound.held_now; long = omega arith }), tt);
+      me = refl;
+      within = omega arith;
+      more = same_told;
+    }))))
+    (λ is. record { ghost = g; keeps = same_core; role = follower k g (with_peer state state.peer state.has) state.peer.role from following; sent = tt; me = refl; within = omega arith; more = same_told }))
+    (λ is. owes_nothing k g state (Ok []) kept within role tt)
   where
     same_told : IsPrefix (told_of state) (take (min state.delivered (length state.peer.stable.history)) state.peer.stable.history)
     same_told =
-      let m : state.delivered ≡ min state.delivered (length state.peer.stable.history) = omega arith in
-      subst (λ n. IsPrefix (told_of state) (take n state.peer.stable.history)) m (prefix_refl (told_of state))
+        let m : state.delivered ≡ min state.delivered (length state.peer.stable.history) = omega arith in
+        subst (λ n. IsPrefix (told_of state) (take n state.peer.stable.history)) m (prefix_refl (told_of state))
+
     same_core : laws.Keeps k g g state.peer.me (core_with state (min state.delivered (length state.peer.stable.history)))
     same_core =
-      let m : state.delivered ≡ min state.delivered (length state.peer.stable.history) = omega arith in
-      subst (λ n. laws.Keeps k g g state.peer.me (core_with state n)) m (stays k g state.peer.me (core_of state) kept)
+        let m : state.delivered ≡ min state.delivered (length state.peer.stable.history) = omega arith in
+        subst (λ n. laws.Keeps k g g state.peer.me (core_with state n)) m (stays k g state.peer.me (core_of state) kept)
+
     takes : epoch ≡ state.peer.stable.promised → (state.peer.stable.current < epoch) ⊎ ((state.peer.stable.current ≡ epoch) × (length state.peer.stable.history < length history)) → OwesOf {C = C} k g state (joined state (epoch_rules.joins state.peer from epoch epoch history))
     takes p newer =
-      let me : ℕ = state.peer.me in
-      let own : List Entry = state.peer.stable.history in
-      let y : laws.Ghost Entry = laws.new_ghost (Adopt me epoch history) (core_of state) g in
-      let above : 0 < epoch = begun_above k g (core_of state) me kept epoch of.began of.is in
-      let longer : (state.peer.stable.current < epoch) ⊎ ((state.peer.stable.current ≡ epoch) × IsPrefix own history) = elim newer [
-          inl less ↦ inl less
-        | inr more ↦
-          (let held : g.held me epoch ≡ Some own = subst (λ e. g.held me e ≡ Some own) more.0 kept.sound.held_now in
-           let o = kept.facts.of_leader me epoch own held above in
-           let one : of.longest ≡ o.longest = same_longest g epoch history own of o in
-           let long : length own < length history = more.1 in
-           inr (more.0, prefix_by_length own history o.longest o.within (subst (IsPrefix history) one of.within) (omega arith))) ] in
-      let keeps = keeps_adopt k g (core_of state) me epoch history share kept (sym p, of, longer) in
-      let list : take state.delivered own ≡ take (min state.delivered (length history)) history = front_of state.delivered own history within keeps.kept.sound.delivered in
-      record {
-        ghost = y;
-        keeps = subst (λ (d : List Entry). laws.Keeps k g y me (record { promised = state.peer.stable.promised; current = epoch; history = history; delivered = d })) list keeps;
-        role = tt;
-        sent = ((pos0, record { history = history; is = two_same g.held me epoch (Some history); long = omega arith }), tt);
-        me = refl;
-        within = omega arith;
-        more = subst (IsPrefix (told_of state)) list (prefix_refl (told_of state));
-      }
+        let me : ℕ = state.peer.me in
+        let own : List Entry = state.peer.stable.history in
+        let y : laws.Ghost Entry = laws.new_ghost (Adopt me epoch history) (core_of state) g in
+        let above : 0 < epoch = begun_above k g (core_of state) me kept epoch of.began of.is in
+        let longer : (state.peer.stable.current < epoch) ⊎ ((state.peer.stable.current ≡ epoch) × IsPrefix own history) = elim newer [
+          | inl less ↦ inl less
+          | inr more ↦
+              (let held : g.held me epoch ≡ Some own = subst (λ e. g.held me e ≡ Some own) more.0 kept.sound.held_now in
+              let o = kept.facts.of_leader me epoch own held above in
+              let one : of.longest ≡ o.longest = same_longest g epoch history own of o in
+              let long : length own < length history = more.1 in
+              inr (more.0, prefix_by_length own history o.longest o.within (subst (IsPrefix history) one of.within) (omega arith)))
+        ] in
+        let keeps = keeps_adopt k g (core_of state) me epoch history share kept (sym p, of, longer) in
+        let list : take state.delivered own ≡ take (min state.delivered (length history)) history = front_of state.delivered own history within keeps.kept.sound.delivered in
+        record {
+          ghost = y;
+          keeps = subst (λ (d : List Entry). laws.Keeps k g y me (record { promised = state.peer.stable.promised; current = epoch; history = history; delivered = d })) list keeps;
+          role = tt;
+          sent = ((pos0, record { history = history; is = two_same g.held me epoch (Some history); long = omega arith }), tt);
+          me = refl;
+          within = omega arith;
+          more = subst (IsPrefix (told_of state)) list (prefix_refl (told_of state));
+        }

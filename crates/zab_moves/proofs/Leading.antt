@@ -32,19 +32,24 @@ use Rattle.zab_moves.proofs.Following.{owes_nothing}
 
 told_by : (k : laws.Setting Entry) (g : laws.Ghost Entry) (state : State) → laws.IsKept k g state.peer.me (core_of state) → Leads g state → Tells g state.peer.me state.peer.stable.promised state.peer.stable.history
 told_by k g state kept b = record {
-    began = b.began;
-    is = subst (λ e. g.began e ≡ Some b.began) (sym b.same) b.is;
-    leader = b.leader;
-    held = subst (λ e. g.held state.peer.me e ≡ Some state.peer.stable.history) (sym b.same) kept.sound.held_now;
-  }
+  began = b.began;
+  is = subst (λ e. g.began e ≡ Some b.began) (sym b.same) b.is;
+  leader = b.leader;
+  held = subst (λ e. g.held state.peer.me e ≡ Some state.peer.stable.history) (sym b.same) kept.sound.held_now;
+}
 
 -- the commit count is reached, 0 too
 counted_reached : (k : laws.Setting Entry) (g : laws.Ghost Entry) (state : State) → Leads g state → laws.IsChosen k g state.peer.stable.current [] → IsReached k g state.peer.stable.current (counted k.passes state)
 counted_reached k g state leads chosen = elim (split 0 (counted k.passes state)) [
-    inl above ↦ has_reached k g state.peer.stable.current (counted k.passes state) leads.began state.has leads.is leads.has (count_passes k.passes state.has (length state.peer.stable.history) above)
+  | inl above ↦ has_reached k g state.peer.stable.current (counted k.passes state) leads.began state.has leads.is leads.has (count_passes k.passes state.has (length state.peer.stable.history) above)
   | inr none ↦ record {
-      began = leads.began; is = leads.is; marks = chosen.marks; quorum = chosen.quorum;
-      each = λ t m. (let h = chosen.each t m in record { history = h.history; is = h.is; long = omega arith }) } ]
+    began = leads.began;
+    is = leads.is;
+    marks = chosen.marks;
+    quorum = chosen.quorum;
+    each = λ t m. (let h = chosen.each t m in record { history = h.history; is = h.is; long = omega arith });
+  }
+]
 
 chosen_none : (k : laws.Setting Entry) (g : laws.Ghost Entry) (epoch : ℕ) (list : List Entry) → laws.IsChosen k g epoch list → laws.IsChosen k g epoch []
 chosen_none k g epoch list c = record { marks = c.marks; quorum = c.quorum; each = λ t m. (let h = c.each t m in record { history = h.history; is = h.is; begins = record { rest = h.history; is = refl } }) }
@@ -65,13 +70,13 @@ pub record Settles (C : Type 0) (k : laws.Setting Entry) (g : laws.Ghost Entry) 
 news_all : (C : Type 0) (k : laws.Setting Entry) (g : laws.Ghost Entry) (state : State) (commit : Option ℕ) → laws.IsKept k g state.peer.me (core_of state) → Leads g state → CommitFact k g state.peer.stable.promised commit → (whom : Option ℕ) (above : ℕ) → AllByRecursion (MessageFact {C = C} k g) (news_of state whom above commit)
 news_all C k g state commit kept leads said whom above =
     news_fact C k g state.peer.me 1 state.peer.stable.promised (above + 1) whom (drop above state.peer.stable.history) commit (marks_of state.has)
-      (proposals_fact C k g state.peer.me state.peer.stable.promised above state.peer.stable.history (told_by k g state kept leads)) said
+    (proposals_fact C k g state.peer.me state.peer.stable.promised above state.peer.stable.history (told_by k g state kept leads)) said
 
 catch_all : (C : Type 0) (k : laws.Setting Entry) (g : laws.Ghost Entry) (state : State) → laws.IsKept k g state.peer.me (core_of state) → Leads g state → IsReached k g state.peer.stable.promised (counted k.passes state) → (from above : ℕ) → AllByRecursion (MessageFact {C = C} k g) (catches_up k.passes state from above None)
 catch_all C k g state kept leads said from above =
     all_append (MessageFact {C = C} k g) (proposals state.peer.me from state.peer.stable.promised (above + 1) (drop above state.peer.stable.history)) (commits state.peer.me from state.peer.stable.promised (Some (counted k.passes state)))
-      (proposals_fact C k g state.peer.me state.peer.stable.promised above state.peer.stable.history (told_by k g state kept leads) from)
-      (said, tt)
+    (proposals_fact C k g state.peer.me state.peer.stable.promised above state.peer.stable.history (told_by k g state kept leads) from)
+    (said, tt)
 
 abbrev leads_more : (g : laws.Ghost Entry) (state : State) (count : ℕ) → Leads g state → Leads g (delivers state count)
 leads_more g state count b = record { same = b.same; began = b.began; is = b.is; leader = b.leader; has = b.has }
@@ -88,19 +93,28 @@ settles_owes C k g state kept within b =
     let said : IsReached k g state.peer.stable.promised count = subst (λ e. IsReached k g e count) (sym b.leads.same) r in
     let above : 0 < now = begun_above k g (core_of state) state.peer.me kept now b.leads.began b.leads.is in
     let keeps : laws.Keeps k g g state.peer.me (core_of (delivers state count)) =
-      delivers_more k g state state.peer.me count kept above (λ more. chosen_of k g state.peer.me now count count state.peer.stable.history kept.facts r kept.sound.held_now above (omega arith)) in
+    delivers_more k g state state.peer.me count kept above (λ more. chosen_of k g state.peer.me now count count state.peer.stable.history kept.facts r kept.sound.held_now above (omega arith)) in
     by_test (Settles C k g state) (nat_lt state.top count) _ _
-      (λ rose. record {
-        keeps = keeps; same = refl; me = refl; within = omega arith; more = more_told state.delivered count state.peer.stable.history;
-        role = broadcasts_more k g state count b;
-        news = news_all C k g (delivers state count) (Some count) keeps.kept (leads_more g state count b.leads) said;
-        catches = λ from above. news_all C k g (delivers state count) (Some count) keeps.kept (leads_more g state count b.leads) said (Some from) above;
-      })
-      (λ stayed. record {
-        keeps = stays k g state.peer.me (core_of state) kept; same = refl; me = refl; within = within; more = prefix_refl (told_of state); role = b;
-        news = news_all C k g state None kept b.leads tt;
-        catches = catch_all C k g state kept b.leads said;
-      })
+    (λ rose. record {
+      keeps = keeps;
+      same = refl;
+      me = refl;
+      within = omega arith;
+      more = more_told state.delivered count state.peer.stable.history;
+      role = broadcasts_more k g state count b;
+      news = news_all C k g (delivers state count) (Some count) keeps.kept (leads_more g state count b.leads) said;
+      catches = λ from above. news_all C k g (delivers state count) (Some count) keeps.kept (leads_more g state count b.leads) said (Some from) above;
+    })
+    (λ stayed. record {
+      keeps = stays k g state.peer.me (core_of state) kept;
+      same = refl;
+      me = refl;
+      within = within;
+      more = prefix_refl (told_of state);
+      role = b;
+      news = news_all C k g state None kept b.leads tt;
+      catches = catch_all C k g state kept b.leads said;
+    })
 
 -- ---- what a server has is raised
 
@@ -113,11 +127,12 @@ set_cases (z ∷ xs) (suc j) (suc i) y x e = elim (set_cases xs j i y x e) [ inl
 
 pub put_has : (g : laws.Ghost Entry) (epoch from count : ℕ) (has : List (Option ℕ)) → HasFact g epoch has → 0 < from → HasLength g from epoch count → HasFact g epoch (put has from count)
 put_has g epoch from count has fact pos0 new i l e = elim (set_cases has (from - 1) i (Some count) (Some l) e) [
-    inl p ↦
+  | inl p ↦
       (let at : i + 1 ≡ from = (let q : i ≡ from - 1 = p.0 in omega arith) in
-       let value : l ≡ count = same_some l count p.1 in
-       subst (λ t. HasLength g t epoch l) (sym at) (subst (HasLength g from epoch) (sym value) new))
-  | inr old ↦ fact i l old ]
+      let value : l ≡ count = same_some l count p.1 in
+      subst (λ t. HasLength g t epoch l) (sym at) (subst (HasLength g from epoch) (sym value) new))
+  | inr old ↦ fact i l old
+]
 
 greater_has : (g : laws.Ghost Entry) (epoch from count : ℕ) (has : List (Option ℕ)) → HasFact g epoch has → 0 < from → HasLength g from epoch count → (slot : Option (Option ℕ)) → slice_get has (from - 1) ≡ slot → HasLength g from epoch (greater_of (said_of slot) count)
 greater_has g epoch from count has fact pos0 new None e = new
@@ -134,9 +149,12 @@ abbrev raised_leads : (g : laws.Ghost Entry) (state : State) (from epoch count :
 raised_leads g state from epoch count b pos0 new is =
     let there : HasLength g from state.peer.stable.current count = subst (λ e. HasLength g from e count) (is ∙ b.same) new in
     record {
-      same = b.same; began = b.began; is = b.is; leader = b.leader;
+      same = b.same;
+      began = b.began;
+      is = b.is;
+      leader = b.leader;
       has = put_has g state.peer.stable.current from (greater_of (said_by state.has from) count) state.has b.has pos0
-        (greater_has g state.peer.stable.current from count state.has b.has pos0 there (slice_get state.has (from - 1)) refl);
+          (greater_has g state.peer.stable.current from count state.has b.has pos0 there (slice_get state.has (from - 1)) refl);
     }
 
 -- ---- Ack
@@ -144,11 +162,11 @@ raised_leads g state from epoch count b pos0 new is =
 pub ack_owes : {C : Type 0} (k : laws.Setting Entry) (g : laws.Ghost Entry) (state : State) (from epoch count : ℕ) (role : Role) → laws.IsKept k g state.peer.me (core_of state) → state.delivered ≤ length state.peer.stable.history → state.peer.role ≡ role → RoleFact k g state role → 0 < from → HasLength g from epoch count → OwesOf {C = C} k g state (ack_as k.passes state from epoch count role)
 ack_owes {C} k g state from epoch count Broadcast kept within at b pos0 said =
     by_test (OwesOf {C = C} k g state) (epoch == state.peer.stable.promised) _ _
-      (λ is.
-        (let leads = raised_leads g state from epoch count b.leads pos0 said (eq_is epoch state.peer.stable.promised is) in
-         let s = settles_owes C k g (raised state from count) kept within (record { leads = leads; own = b.own; history = b.history; made = b.made; chosen = b.chosen }) in
-         record { ghost = g; keeps = s.keeps; role = subst (RoleFact k g _) (sym (s.same ∙ at)) s.role; sent = s.news None (length state.peer.stable.history); me = s.me; within = s.within; more = s.more }))
-      (λ is. owes_nothing k g state (Ok []) kept within (subst (RoleFact k g state) (sym at) b) tt)
+    (λ is.
+    (let leads = raised_leads g state from epoch count b.leads pos0 said (eq_is epoch state.peer.stable.promised is) in
+    let s = settles_owes C k g (raised state from count) kept within (record { leads = leads; own = b.own; history = b.history; made = b.made; chosen = b.chosen }) in
+    record { ghost = g; keeps = s.keeps; role = subst (RoleFact k g _) (sym (s.same ∙ at)) s.role; sent = s.news None (length state.peer.stable.history); me = s.me; within = s.within; more = s.more }))
+    (λ is. owes_nothing k g state (Ok []) kept within (subst (RoleFact k g state) (sym at) b) tt)
 ack_owes {C} k g state from epoch count Sync kept within at b pos0 said = owes_nothing k g state (Ok []) kept within (subst (RoleFact k g state) (sym at) b) tt
 ack_owes {C} k g state from epoch count Looking kept within at b pos0 said = owes_nothing k g state (Ok []) kept within (subst (RoleFact k g state) (sym at) tt) tt
 ack_owes {C} k g state from epoch count (Discover heard) kept within at b pos0 said = owes_nothing k g state (Ok []) kept within (subst (RoleFact k g state) (sym at) tt) tt
@@ -169,12 +187,13 @@ start_chosen k g state kept b quorum =
     let now : ℕ = state.peer.stable.current in
     let above : 0 < now = begun_above k g (core_of state) state.peer.me kept now b.began b.is in
     record {
-      marks = marks_of state.has; quorum = quorum;
+      marks = marks_of state.has;
+      quorum = quorum;
       each = λ t m. (let v = marked_slot state.has (t - 1) m.1 in
-        let at : t - 1 + 1 ≡ t = (let p : 0 < t = m.0 in omega arith) in
-        let h : HasLength g t now v.0 = subst (λ u. HasLength g u now v.0) at (b.has (t - 1) v.0 v.1) in
-        let o = kept.facts.of_leader t now h.history h.is above in
-        record { history = h.history; is = h.is; begins = subst (λ (w : laws.Began Entry). IsPrefix w.start h.history) (same_some o.began b.began (sym o.is ∙ b.is)) o.starts });
+          let at : t - 1 + 1 ≡ t = (let p : 0 < t = m.0 in omega arith) in
+          let h : HasLength g t now v.0 = subst (λ u. HasLength g u now v.0) at (b.has (t - 1) v.0 v.1) in
+          let o = kept.facts.of_leader t now h.history h.is above in
+          record { history = h.history; is = h.is; begins = subst (λ (w : laws.Began Entry). IsPrefix w.start h.history) (same_some o.began b.began (sym o.is ∙ b.is)) o.starts });
     }
 
 enters_owes : {C : Type 0} (k : laws.Setting Entry) (g : laws.Ghost Entry) (state : State) → laws.IsKept k g state.peer.me (core_of state) → state.delivered ≤ length state.peer.stable.history → Syncs g state → k.passes (marks_of state.has) ≡ true → OwesOf {C = C} k g state (enters k.passes state)
@@ -187,10 +206,11 @@ enters_owes {C} k g state kept within b quorum =
     let said : IsReached k g state.peer.stable.promised count = subst (λ e. IsReached k g e count) (sym b.leads.same) r in
     let above : 0 < now = begun_above k g (core_of state) state.peer.me kept now b.leads.began b.leads.is in
     let keeps : laws.Keeps k g g state.peer.me (core_of (entered state count)) =
-      delivers_more k g state state.peer.me count kept above (λ more. chosen_of k g state.peer.me now count count state.peer.stable.history kept.facts r kept.sound.held_now above (omega arith)) in
+    delivers_more k g state state.peer.me count kept above (λ more. chosen_of k g state.peer.me now count count state.peer.stable.history kept.facts r kept.sound.held_now above (omega arith)) in
     let leads : Leads g (entered state count) = record { same = b.leads.same; began = b.leads.began; is = b.leads.is; leader = b.leads.leader; has = b.leads.has } in
     record {
-      ghost = g; keeps = keeps;
+      ghost = g;
+      keeps = keeps;
       role = record { leads = leads; own = []; history = b.history ∙ sym (append-nil b.leads.began.start); made = refl; chosen = chosen };
       sent = news_all C k g (entered state count) (Some count) keeps.kept leads said None (length state.peer.stable.history);
       me = refl;
@@ -203,8 +223,8 @@ ack_leader_owes {C} k g state from epoch count Sync kept within at b pos0 said i
     let leads = raised_leads g state from epoch count b.leads pos0 said is in
     let syncs : Syncs g (raised state from count) = record { leads = leads; history = b.history } in
     by_test (OwesOf {C = C} k g state) (k.passes (marks_of (raised state from count).has)) _ _
-      (λ quorum. enters_owes k g (raised state from count) kept within syncs quorum)
-      (λ few. owes_nothing k g (raised state from count) (Ok []) kept within (subst (RoleFact k g (raised state from count)) (sym at) syncs) tt)
+    (λ quorum. enters_owes k g (raised state from count) kept within syncs quorum)
+    (λ few. owes_nothing k g (raised state from count) (Ok []) kept within (subst (RoleFact k g (raised state from count)) (sym at) syncs) tt)
 ack_leader_owes {C} k g state from epoch count Broadcast kept within at b pos0 said is =
     let leads = raised_leads g state from epoch count b.leads pos0 said is in
     let s = settles_owes C k g (raised state from count) kept within (record { leads = leads; own = b.own; history = b.history; made = b.made; chosen = b.chosen }) in
@@ -247,22 +267,34 @@ appends_owes {C} k g state entry zxid kept within pos0 at b key_is next =
     let y : laws.Ghost Entry = laws.new_ghost (Extend me entry) (core_of state) g in
     let n : IsNumber now state.made zxid = subst (λ e. IsNumber e state.made zxid) b.leads.same (number_of state.peer.stable.promised state.made zxid next) in
     let may : laws.MayExtend k g me (core_of state) entry = record {
-        promised = b.leads.same; began = b.leads.began; is = b.leads.is; leader = b.leads.leader; own = b.own; history = b.history;
-        number = subst (λ m. k.key entry ≡ pos (now * 2 ^ 32 + (1 + m))) b.made (key_is ∙ n.is);
-        small = subst (λ m. 1 + m < 2 ^ 32) b.made n.small;
-        chosen = b.chosen } in
+      promised = b.leads.same;
+      began = b.leads.began;
+      is = b.leads.is;
+      leader = b.leads.leader;
+      own = b.own;
+      history = b.history;
+      number = subst (λ m. k.key entry ≡ pos (now * 2 ^ 32 + (1 + m))) b.made (key_is ∙ n.is);
+      small = subst (λ m. 1 + m < 2 ^ 32) b.made n.small;
+      chosen = b.chosen;
+    } in
     let first = keeps_extend k g (core_of state) me entry kept may in
     let keeps : laws.Keeps k g y me (core_of (took state entry)) =
-      subst (λ (d : List Entry). laws.Keeps k g y me (record { promised = state.peer.stable.promised; current = now; history = new; delivered = d })) (sym (take-append-le state.delivered h (entry ∷ []) within)) first in
+    subst (λ (d : List Entry). laws.Keeps k g y me (record { promised = state.peer.stable.promised; current = now; history = new; delivered = d })) (sym (take-append-le state.delivered h (entry ∷ []) within)) first in
     let own_long : HasLength y me now (length h + 1) = record { history = new; is = two_same g.held me now (Some new); long = omega (arith, length-append h (entry ∷ [])) } in
     let leads : Leads y (took state entry) = record {
-        same = b.leads.same; began = b.leads.began; is = b.leads.is; leader = b.leads.leader;
-        has = put_has y now me (length h + 1) state.has (λ i count e. length_grows g y keeps.grows (i + 1) now count (b.leads.has i count e)) pos0 own_long } in
+      same = b.leads.same;
+      began = b.leads.began;
+      is = b.leads.is;
+      leader = b.leads.leader;
+      has = put_has y now me (length h + 1) state.has (λ i count e. length_grows g y keeps.grows (i + 1) now count (b.leads.has i count e)) pos0 own_long;
+    } in
     let broadcasts : Broadcasts k y (took state entry) = record {
-        leads = leads; own = b.own ++ entry ∷ [];
-        history = ap (λ (l : List Entry). l ++ entry ∷ []) b.history ∙ append_assoc b.leads.began.start b.own (entry ∷ []);
-        made = omega (arith, length-append b.own (entry ∷ []), b.made);
-        chosen = chosen_grows k g y keeps.grows now b.leads.began.start b.chosen } in
+      leads = leads;
+      own = b.own ++ entry ∷ [];
+      history = ap (λ (l : List Entry). l ++ entry ∷ []) b.history ∙ append_assoc b.leads.began.start b.own (entry ∷ []);
+      made = omega (arith, length-append b.own (entry ∷ []), b.made);
+      chosen = chosen_grows k g y keeps.grows now b.leads.began.start b.chosen;
+    } in
     let fits : state.delivered ≤ length (h ++ entry ∷ []) = omega (arith, length-append h (entry ∷ [])) in
     let s = settles_owes C k y (took state entry) keeps.kept fits broadcasts in
     record {
@@ -273,5 +305,5 @@ appends_owes {C} k g state entry zxid kept within pos0 at b key_is next =
       me = s.me;
       within = s.within;
       more = prefix_trans (told_of state) (told_of (took state entry)) _
-        (subst (IsPrefix (told_of state)) (sym (take-append-le state.delivered h (entry ∷ []) within)) (prefix_refl (told_of state))) s.more;
+          (subst (IsPrefix (told_of state)) (sym (take-append-le state.delivered h (entry ∷ []) within)) (prefix_refl (told_of state))) s.more;
     }

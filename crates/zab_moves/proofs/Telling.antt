@@ -32,9 +32,10 @@ proposals_from : (C : Type 0) (k : laws.Setting Entry) (g : laws.Ghost Entry) (m
 proposals_from C k g me epoch h l [] tells e to = tt
 proposals_from C k g me epoch h l (x ∷ entries) tells e to =
     let whole : (l ++ x ∷ []) ++ entries ≡ h = append_assoc l (x ∷ []) entries ∙ e in
-    let at : length (l ++ x ∷ []) + 1 ≡ length l + 1 + 1 = omega (arith, length-append l (x ∷ [])) in
-    (record { began = tells.began; is = tells.is; leader = tells.leader; longest = h; longest_is = tells.held; before = l; within = record { rest = entries; is = whole }; place = refl },
-     subst (λ n. AllByRecursion (MessageFact {C = C} k g) (proposals me to epoch n entries)) at (proposals_from C k g me epoch h (l ++ x ∷ []) entries tells whole to))
+    let at : length (l ++ x ∷ []) + 1 ≡ length l + 1 + 1 = omega (arith, length-append l (x ∷ [])) in (
+      record { began = tells.began; is = tells.is; leader = tells.leader; longest = h; longest_is = tells.held; before = l; within = record { rest = entries; is = whole }; place = refl },
+      subst (λ n. AllByRecursion (MessageFact {C = C} k g) (proposals me to epoch n entries)) at (proposals_from C k g me epoch h (l ++ x ∷ []) entries tells whole to),
+    )
 
 drop_past : {A : Type 0} (n : ℕ) (h : List A) → length h ≤ n → drop n h ≡ []
 drop_past zero [] low = refl
@@ -44,9 +45,10 @@ drop_past (suc n) (x ∷ h) low = drop_past n h (omega arith)
 
 pub proposals_fact : (C : Type 0) (k : laws.Setting Entry) (g : laws.Ghost Entry) (me epoch above : ℕ) (h : List Entry) → Tells g me epoch h → ProposalsFact C k g me epoch (above + 1) (drop above h)
 proposals_fact C k g me epoch above h tells to = elim (split (length h) above) [
-    inl past ↦ subst (λ (entries : List Entry). AllByRecursion (MessageFact {C = C} k g) (proposals me to epoch (above + 1) entries)) (sym (drop_past above h (omega arith))) tt
+  | inl past ↦ subst (λ (entries : List Entry). AllByRecursion (MessageFact {C = C} k g) (proposals me to epoch (above + 1) entries)) (sym (drop_past above h (omega arith))) tt
   | inr low ↦ subst (λ n. AllByRecursion (MessageFact {C = C} k g) (proposals me to epoch (n + 1) (drop above h))) (length-take-le above h low)
-      (proposals_from C k g me epoch h (take above h) (drop above h) tells (take-append-drop above h) to) ]
+      (proposals_from C k g me epoch h (take above h) (drop above h) tells (take-append-drop above h) to)
+]
 
 pub commits_fact : (C : Type 0) (k : laws.Setting Entry) (g : laws.Ghost Entry) (me to epoch : ℕ) (commit : Option ℕ) → CommitFact k g epoch commit → AllByRecursion (MessageFact {C = C} k g) (commits me to epoch commit)
 commits_fact C k g me to epoch None fact = tt
@@ -61,8 +63,8 @@ pub news_fact : (C : Type 0) (k : laws.Setting Entry) (g : laws.Ghost Entry) (me
 news_fact C k g me at epoch index whom entries commit [] fact said = tt
 news_fact C k g me at epoch index whom entries commit (mark ∷ marks) fact said =
     all_append (MessageFact {C = C} k g) (cond (mark && not (at == me)) (tells_all me at epoch index (entries_for whom at entries) commit) []) (news me (at + 1) epoch whom index entries commit marks)
-      (by_test (AllByRecursion (MessageFact {C = C} k g)) (mark && not (at == me)) (tells_all me at epoch index (entries_for whom at entries) commit) []
-        (λ e. all_append (MessageFact {C = C} k g) (proposals me at epoch index (entries_for whom at entries)) (commits me at epoch commit)
-          (entries_fact C k g me at epoch index whom entries fact) (commits_fact C k g me at epoch commit said))
-        (λ e. tt))
-      (news_fact C k g me (at + 1) epoch index whom entries commit marks fact said)
+    (by_test (AllByRecursion (MessageFact {C = C} k g)) (mark && not (at == me)) (tells_all me at epoch index (entries_for whom at entries) commit) []
+    (λ e. all_append (MessageFact {C = C} k g) (proposals me at epoch index (entries_for whom at entries)) (commits me at epoch commit)
+    (entries_fact C k g me at epoch index whom entries fact) (commits_fact C k g me at epoch commit said))
+    (λ e. tt))
+    (news_fact C k g me (at + 1) epoch index whom entries commit marks fact said)
