@@ -1,5 +1,5 @@
 -- Each event keeps what is known of promises, epochs and histories.
-use Rattle.std.proofs.Common.{◌≡◌, ◌≢◌, ℕ, suc, zero, ◌+◌, ◌-◌, ◌<◌, ◌≤◌, ◌==◌, ◌&&◌, not, ◌⊎◌, inl, inr, Bool, true, false, cond, List, [], ◌∷◌, ◌++◌, length, take, set, Option, Some, None, Result, Ok, Err, refl, sym, ap, subst, ◌∙◌, arith, slice_get, length-set, lit≤}
+use Rattle.std.proofs.Common.{◌≡◌, ◌≢◌, ℕ, ◌-◌, ◌==◌, ◌&&◌, not, inl, inr, true, false, List, [], length, set, Option, Some, None, Result, Ok, Err, refl, sym, ap, subst, ◌∙◌, arith, slice_get}
 use Rattle.std.specs.List.{AllByRecursion}
 use Rattle.zab_epoch.specs.declared.fault.RuleFault.{RuleFault}
 use Rattle.zab_epoch.specs.declared.history.Entry.{Entry}
@@ -23,9 +23,9 @@ use Rattle.zab_runs.specs.declared.event.Event.{Event}
 use Rattle.zab_runs.specs.declared.event.Event.TheVariants.{Lead, Follow, Arrive, Submit, Expire, Crash, Restart}
 use Rattle.zab_runs.specs.declared.fault.WorldFault.{WorldFault}
 use Rattle.zab_runs.specs.Standings.{Standing, standing}
-use Rattle.zab_runs.specs.Worlds.{World, Profile, Answer, world, is_server, server_at, if_up, running, if_down, resting, told, said, with_server, acts, receives, message_at, arrives, spends, submits, crashed, crashes, restarts, happens}
+use Rattle.zab_runs.specs.Worlds.{World, Profile, Answer, is_server, server_at, running, resting, told, said, with_server, acts, receives, message_at, arrives, spends, submits, crashed, crashes, restarts, happens}
 use Rattle.zab_runs.specs.Runs.{delivered_list, delivered_of}
-use Rattle.zab_runs.proofs.ServerLists.{IsFound, found, same_place, other_place, other_same, up_is, down_is}
+use Rattle.zab_runs.proofs.ServerLists.{found, same_place, other_place, other_same, up_is, down_is}
 
 -- ---- what is known of a world
 

@@ -1,25 +1,23 @@
 -- Every run agrees.
-use Rattle.std.proofs.Common.{◌≡◌, ◌≢◌, ℕ, ℤ, suc, zero, ◌+◌, ◌-◌, ◌<◌, ◌≤◌, ◌⊎◌, inl, inr, Bool, true, List, [], ◌∷◌, ◌++◌, length, take, Option, Some, None, refl, sym, ap, subst, ◌∙◌, arith, slice_get, lit≤, add-one}
-use Rattle.std.specs.List.{AllByRecursion}
+use Rattle.std.proofs.Common.{◌≡◌, ◌≢◌, ℕ, suc, zero, ◌+◌, ◌-◌, ◌<◌, ◌⊎◌, inl, inr, Bool, true, List, [], ◌∷◌, ◌++◌, length, take, Option, Some, None, refl, sym, ap, subst, ◌∙◌, arith, slice_get, lit≤, add-one}
 use Rattle.zab_epoch.specs.declared.history.Entry.{Entry}
-use Rattle.zab_epoch.specs.Quorums.{IsQuorumSystem, SharesServer}
+use Rattle.zab_epoch.specs.Quorums.{IsQuorumSystem}
 use Rattle.zab_laws.specs.Prefixes.{IsPrefix}
 use Rattle.zab_laws.specs.Cores as laws
 use Rattle.zab_laws.proofs.PrefixLaws.{prefix_refl, prefix_trans, prefix_of_nil, prefix_take}
 use Rattle.zab_laws.proofs.Keeping.{grows_refl, grows_trans, told_grows}
 use Rattle.zab_laws.proofs.Extending.{kept_start, agreed}
 use Rattle.zab_laws.proofs.Matching.{one_zxid}
-use Rattle.zab_moves.specs.Told.{laws_of, core_of, told_of, Stands}
+use Rattle.zab_moves.specs.Told.{laws_of, Stands}
 use Rattle.zab_moves.proofs.Hearing.{CarriesZxid}
-use Rattle.zab_tags.proofs.TagFacts.{all_append, all_get}
 use Rattle.zab_runs.specs.declared.event.Event.{Event}
 use Rattle.zab_runs.specs.declared.event.Event.TheVariants.{Crash}
 use Rattle.zab_runs.specs.Standings.{Standing, new_server, new_servers}
-use Rattle.zab_runs.specs.Worlds.{World, Profile, new_world, server_at, is_server, happens}
+use Rattle.zab_runs.specs.Worlds.{World, Profile, new_world, server_at, happens}
 use Rattle.zab_runs.specs.Runs.{after, run, delivered_list, delivered_of, delivered_after, history_list, history_of, history_after}
 use Rattle.zab_runs.specs.Agreement.{Agrees}
-use Rattle.zab_runs.proofs.ServerLists.{IsFound, found}
-use Rattle.zab_runs.proofs.AgreeEvents.{IsNumbered, WorldStands, KeepsAll, happens_keeps}
+use Rattle.zab_runs.proofs.ServerLists.{found}
+use Rattle.zab_runs.proofs.AgreeEvents.{IsNumbered, WorldStands, happens_keeps}
 
 -- ---- what is told and held
 
