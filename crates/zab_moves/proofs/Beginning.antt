@@ -1,22 +1,20 @@
 -- A leader begins its epoch.
-use Rattle.std.proofs.Common.{◌≡◌, ℕ, zero, suc, ◌+◌, ◌-◌, ◌<◌, ◌≤◌, ◌==◌, ◌&&◌, not, min, Bool, true, false, cond, List, [], ◌∷◌, ◌++◌, length, take, replicate, Option, Some, None, refl, sym, ap, subst, ◌∙◌, arith, slice_get}
+use Rattle.std.proofs.Common.{◌≡◌, ℕ, zero, suc, ◌+◌, ◌<◌, ◌≤◌, ◌==◌, ◌&&◌, not, min, Bool, cond, List, [], ◌∷◌, length, take, replicate, Option, Some, None, refl, subst, arith, slice_get}
 use Rattle.std.specs.List.{AllByRecursion}
 use Rattle.zab_epoch.specs.declared.history.Entry.{Entry}
-use Rattle.zab_epoch.specs.declared.message.Body.{Body}
 use Rattle.zab_epoch.specs.declared.message.Body.TheVariants.{NewLeader}
-use Rattle.zab_epoch.specs.declared.message.Message.{Message}
 use Rattle.zab_epoch.specs.Rules as epoch_rules
 use Rattle.zab_epoch.specs.Sending.{message, to_others}
 use Rattle.zab_epoch.specs.Tables.{silent_servers, put}
 use Rattle.zab_broadcast.specs.declared.state.State.{State}
-use Rattle.zab_broadcast.specs.Rules.{Acts, begun, with_peer}
+use Rattle.zab_broadcast.specs.Rules.{begun}
 use Rattle.zab_laws.specs.Prefixes.{IsPrefix}
 use Rattle.zab_laws.specs.Cores as laws
 use Rattle.zab_laws.specs.Cores.Move.{Begin}
 use Rattle.zab_laws.proofs.PrefixLaws.{prefix_refl}
 use Rattle.zab_laws.proofs.Updates.{at_same}
 use Rattle.zab_laws.proofs.Beginning.{two_same, keeps_begin}
-use Rattle.zab_moves.specs.Told.{core_of, told_of, HasLength, HasFact, Leads, Syncs, MessageFact, RoleFact, SentFact, Owes, OwesOf}
+use Rattle.zab_moves.specs.Told.{core_of, told_of, HasFact, MessageFact, OwesOf}
 use Rattle.zab_moves.proofs.Common.{by_test}
 use Rattle.zab_moves.proofs.Telling.{all_append}
 use Rattle.zab_moves.proofs.Joining.{front_of}

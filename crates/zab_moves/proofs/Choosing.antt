@@ -1,20 +1,19 @@
 -- A leader chooses an epoch: it promises to itself.
-use Rattle.std.proofs.Common.{◌≡◌, ℕ, zero, suc, ◌+◌, ◌-◌, ◌<◌, ◌≤◌, ◌==◌, ◌&&◌, not, Bool, true, false, cond, List, [], ◌∷◌, ◌++◌, length, replicate, Option, Some, None, refl, sym, ap, subst, ◌∙◌, inl, inr, arith, slice_get}
+use Rattle.std.proofs.Common.{◌≡◌, ℕ, zero, suc, ◌+◌, ◌-◌, ◌<◌, ◌≤◌, ◌==◌, ◌&&◌, not, Bool, cond, List, [], ◌∷◌, length, replicate, Option, Some, None, refl, sym, subst, inl, inr, arith, slice_get}
 use Rattle.std.specs.List.{AllByRecursion}
 use Rattle.zab_epoch.specs.declared.history.Entry.{Entry}
 use Rattle.zab_epoch.specs.declared.message.Body.TheVariants.{NewEpoch}
-use Rattle.zab_epoch.specs.declared.message.Message.{Message}
 use Rattle.zab_epoch.specs.declared.votes.Vote.{Vote}
 use Rattle.zab_epoch.specs.Rules as epoch_rules
 use Rattle.zab_epoch.specs.Sending.{message, to_others}
 use Rattle.zab_epoch.specs.Tables.{silent_servers, put}
 use Rattle.zab_broadcast.specs.declared.state.State.{State}
-use Rattle.zab_broadcast.specs.Rules.{Acts, by_peer}
+use Rattle.zab_broadcast.specs.Rules.{by_peer}
 use Rattle.zab_laws.specs.Cores as laws
 use Rattle.zab_laws.specs.Cores.Move.{Promise}
 use Rattle.zab_laws.proofs.Keeping.{keeps_promise, two_now}
 use Rattle.zab_laws.proofs.Facts.{same_some}
-use Rattle.zab_moves.specs.Told.{core_of, told_of, VotesFact, Chooses, MessageFact, SentFact, RoleFact, Owes, OwesOf}
+use Rattle.zab_moves.specs.Told.{core_of, told_of, VotesFact, MessageFact, OwesOf}
 use Rattle.zab_laws.proofs.PrefixLaws.{prefix_refl}
 use Rattle.zab_moves.proofs.Common.{by_test, stays}
 use Rattle.zab_moves.proofs.Telling.{all_append}

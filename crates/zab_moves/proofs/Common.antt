@@ -1,9 +1,9 @@
 -- What the rules share.
-use Rattle.std.proofs.Common.{◌≡◌, ℕ, zero, suc, ◌+◌, ◌-◌, ◌<◌, ◌≤◌, ◌==◌, ◌&&◌, nat_lt, nat_le, max, min, ◌⊎◌, inl, inr, Bool, true, false, cond, List, [], ◌∷◌, ◌++◌, length, take, drop, map, Option, Some, None, refl, sym, ap, subst, ◌∙◌, arith, slice_get, lit≤}
+use Rattle.std.proofs.Common.{◌≡◌, ℕ, zero, suc, ◌+◌, ◌-◌, ◌<◌, ◌≤◌, ◌==◌, ◌&&◌, nat_lt, nat_le, max, inl, inr, Bool, true, false, cond, List, [], ◌∷◌, length, take, Option, Some, None, refl, ap, subst, ◌∙◌, arith, slice_get}
 use Rattle.std.proofs.lemmas.Bool.Decides.{nat_tests}
 use Rattle.std.proofs.lemmas.List.{length-take}
 use Rattle.zab_epoch.specs.declared.history.Entry.{Entry}
-use Rattle.zab_broadcast.specs.Counts.{commit_count, reached, is_reached}
+use Rattle.zab_broadcast.specs.Counts.{commit_count, reached}
 use Rattle.zab_broadcast.specs.declared.state.State.{State}
 use Rattle.zab_laws.specs.Prefixes.{IsPrefix}
 use Rattle.zab_laws.specs.Cores as laws
@@ -11,7 +11,7 @@ use Rattle.zab_laws.specs.Cores.Move.{Deliver}
 use Rattle.zab_laws.proofs.PrefixLaws.{prefix_trans, prefix_take, prefix_by_length, prefix_nil, prefix_refl, prefix_cons}
 use Rattle.zab_laws.proofs.Facts.{same_longest, split}
 use Rattle.zab_laws.proofs.Keeping.{keeps_deliver, grows_refl}
-use Rattle.zab_moves.specs.Told.{core_of, core_with, HasLength, IsReached, HasFact}
+use Rattle.zab_moves.specs.Told.{core_of, core_with, IsReached, HasFact}
 
 pub by_test : {A : Type 0} (P : A → Type 0) (b : Bool) (x y : A) → (b ≡ true → P x) → (b ≡ false → P y) → P (cond b x y)
 by_test P true x y p q = p refl

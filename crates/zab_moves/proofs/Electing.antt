@@ -1,11 +1,11 @@
 -- The vote that is chosen is the best of a quorum's.
-use Rattle.std.proofs.Common.{◌≡◌, ℕ, zero, suc, ℤ, pos, ◌+◌, ◌-◌, ◌<◌, ◌≤◌, ◌≤ℤ◌, ◌<ℤ◌, ◌==◌, ◌&&◌, ◌||◌, nat_lt, int_lt, ◌⊎◌, inl, inr, Bool, true, false, cond, List, [], ◌∷◌, length, map, is_some, Option, Some, None, refl, sym, ap, subst, ◌∙◌, arith, slice_get}
+use Rattle.std.proofs.Common.{◌≡◌, ℕ, zero, suc, ℤ, pos, ◌+◌, ◌-◌, ◌<◌, ◌≤ℤ◌, ◌==◌, ◌&&◌, ◌||◌, nat_lt, int_lt, ◌⊎◌, inl, inr, Bool, true, false, cond, List, [], ◌∷◌, length, Option, Some, None, refl, sym, ap, subst, ◌∙◌, arith, slice_get}
 use Rattle.std.proofs.lemmas.Bool.Decides.{nat_tests}
 use Rattle.std.proofs.lemmas.Int.{ints}
 use Rattle.zab_epoch.specs.declared.history.Entry.{Entry}
 use Rattle.zab_epoch.specs.declared.votes.Vote.{Vote}
 use Rattle.zab_epoch.specs.Entries.{last_zxid, zxid_of}
-use Rattle.zab_epoch.specs.Rules.{best_of, is_better, history_of}
+use Rattle.zab_epoch.specs.Rules.{best_of, is_better}
 use Rattle.zab_epoch.specs.Tables.{marks_of}
 use Rattle.zab_laws.specs.Prefixes.{last_key}
 use Rattle.zab_laws.specs.Cores as laws

@@ -1,5 +1,5 @@
 -- Propose and Commit at a follower.
-use Rattle.std.proofs.Common.{◌≡◌, ℕ, zero, suc, ◌+◌, ◌<◌, ◌≤◌, ◌==◌, ◌&&◌, max, min, inl, inr, Bool, true, false, List, [], ◌∷◌, ◌++◌, length, take, Option, Some, None, Result, Ok, Err, refl, sym, ap, subst, ◌∙◌, arith, length-append}
+use Rattle.std.proofs.Common.{◌≡◌, ℕ, ◌+◌, ◌<◌, ◌≤◌, ◌==◌, ◌&&◌, min, inr, true, List, [], ◌∷◌, ◌++◌, length, Some, Result, Ok, refl, sym, ap, subst, ◌∙◌, arith, length-append}
 use Rattle.std.proofs.lemmas.List.{take-append-le}
 use Rattle.zab_epoch.specs.declared.fault.RuleFault.{RuleFault}
 use Rattle.zab_epoch.specs.declared.history.Entry.{Entry}
@@ -8,7 +8,7 @@ use Rattle.zab_epoch.specs.declared.message.Body.TheVariants.{Ack}
 use Rattle.zab_epoch.specs.declared.role.Role.{Role}
 use Rattle.zab_epoch.specs.declared.role.Role.TheVariants.{Looking, Discover, Choose, Sync, Broadcast, Following}
 use Rattle.zab_broadcast.specs.declared.state.State.{State}
-use Rattle.zab_broadcast.specs.Rules.{Acts, silent, commit, propose, with_history}
+use Rattle.zab_broadcast.specs.Rules.{commit, propose, with_history}
 use Rattle.zab_epoch.specs.Roles.{follows}
 use Rattle.zab_laws.specs.Prefixes.{IsPrefix}
 use Rattle.zab_laws.specs.Cores as laws
@@ -17,7 +17,7 @@ use Rattle.zab_laws.proofs.PrefixLaws.{prefix_trans, prefix_append, prefix_by_le
 use Rattle.zab_laws.proofs.Facts.{same_some}
 use Rattle.zab_laws.proofs.Beginning.{two_same}
 use Rattle.zab_laws.proofs.Adopting.{begun_above, keeps_adopt}
-use Rattle.zab_moves.specs.Told.{core_of, core_with, told_of, HasLength, IsReached, IsProposed, RoleFact, SentFact, Owes, OwesOf}
+use Rattle.zab_moves.specs.Told.{core_of, told_of, IsReached, IsProposed, RoleFact, SentFact, OwesOf}
 use Rattle.zab_moves.proofs.Common.{by_test, both_true, eq_is, stays, chosen_of, delivers_more, more_told}
 
 pub owes_nothing : {C : Type 0} (k : laws.Setting Entry) (g : laws.Ghost Entry) (state : State) (out : Result (List (Message C)) RuleFault) → laws.IsKept k g state.peer.me (core_of state) → state.delivered ≤ length state.peer.stable.history → RoleFact k g state state.peer.role → SentFact k g out → OwesOf k g state (state, out)

@@ -1,5 +1,5 @@
 -- What messages and roles say stays so.
-use Rattle.std.proofs.Common.{◌≡◌, ◌≢◌, ℕ, ◌+◌, ◌<◌, ◌≤◌, Bool, true, List, [], ◌∷◌, ◌++◌, length, Option, Some, None, Result, Ok, Err, refl, sym, subst, slice_get}
+use Rattle.std.proofs.Common.{◌≢◌, ℕ, ◌+◌, ◌<◌, List, [], ◌∷◌, ◌++◌, sym, subst}
 use Rattle.std.specs.List.{AllByRecursion}
 use Rattle.zab_epoch.specs.declared.history.Entry.{Entry}
 use Rattle.zab_epoch.specs.declared.message.Body.{Body}
@@ -7,14 +7,12 @@ use Rattle.zab_epoch.specs.declared.message.Body.TheVariants.{CEpoch, NewEpoch, 
 use Rattle.zab_epoch.specs.declared.message.Message.{Message}
 use Rattle.zab_epoch.specs.declared.role.Role.{Role}
 use Rattle.zab_epoch.specs.declared.role.Role.TheVariants.{Looking, Discover, Choose, Sync, Broadcast, Following}
-use Rattle.zab_epoch.specs.declared.votes.Vote.{Vote}
 use Rattle.zab_broadcast.specs.declared.state.State.{State}
 use Rattle.zab_broadcast.specs.Rules.{Acts}
-use Rattle.zab_laws.specs.Prefixes.{IsPrefix}
 use Rattle.zab_laws.specs.Cores as laws
 use Rattle.zab_laws.proofs.PrefixLaws.{prefix_trans}
 use Rattle.zab_laws.proofs.Keeping.{chosen_grows}
-use Rattle.zab_moves.specs.Told.{core_of, HasLength, IsReached, IsProposed, BodyFact, MessageFact, HasFact, Leads, Broadcasts, Syncs, VotesFact, Chooses, RoleFact, Owes, OwesOf, Stands}
+use Rattle.zab_moves.specs.Told.{core_of, IsReached, IsProposed, BodyFact, MessageFact, Leads, RoleFact, OwesOf, Stands}
 use Rattle.zab_moves.proofs.Leading.{length_grows}
 
 of_leader_grows : (g y : laws.Ghost Entry) → laws.Grows g y → (epoch : ℕ) (h : List Entry) → laws.IsOfLeader g epoch h → laws.IsOfLeader y epoch h

@@ -1,5 +1,5 @@
 -- What each rule owes at a server where all stands.
-use Rattle.std.proofs.Common.{◌≡◌, ℕ, ℤ, zero, suc, ◌+◌, ◌<◌, ◌≤◌, ◌==◌, ◌&&◌, nat_lt, max, min, not, Bool, true, false, cond, List, [], ◌∷◌, ◌++◌, length, take, Option, Some, None, Result, Ok, Err, refl, sym, ap, subst, ◌∙◌, arith}
+use Rattle.std.proofs.Common.{◌≡◌, ℕ, ℤ, ◌+◌, ◌<◌, ◌≤◌, ◌==◌, ◌&&◌, nat_lt, max, min, not, Bool, true, false, cond, List, [], ◌∷◌, length, take, Option, Some, None, Result, Ok, refl, sym, ap, subst, arith}
 use Rattle.zab_epoch.specs.declared.fault.RuleFault.{RuleFault}
 use Rattle.zab_epoch.specs.declared.history.Entry.{Entry}
 use Rattle.zab_epoch.specs.declared.message.Body.TheVariants as say
@@ -21,7 +21,7 @@ use Rattle.zab_laws.specs.Cores.Move.{Promise}
 use Rattle.zab_laws.proofs.PrefixLaws.{prefix_refl}
 use Rattle.zab_laws.proofs.Keeping.{keeps_promise, two_now}
 use Rattle.zab_laws.proofs.Adopting.{begun_above}
-use Rattle.zab_moves.specs.Told.{zxid_key, laws_of, core_of, core_with, told_of, HasLength, IsReached, IsProposed, Leads, Syncs, Broadcasts, Chooses, VotesFact, RoleFact, SentFact, Owes, OwesOf, Stands}
+use Rattle.zab_moves.specs.Told.{laws_of, core_of, core_with, told_of, HasLength, IsReached, IsProposed, Leads, Broadcasts, VotesFact, RoleFact, SentFact, OwesOf, Stands}
 use Rattle.zab_moves.proofs.Common.{by_test, eq_is, less_is, stays}
 use Rattle.zab_moves.proofs.Following.{owes_nothing, follower, commit_owes, propose_owes}
 use Rattle.zab_moves.proofs.Joining.{new_leader_owes}

@@ -1,11 +1,8 @@
 -- NewLeader at a follower.
-use Rattle.std.proofs.Common.{◌≡◌, ℕ, zero, suc, ◌+◌, ◌<◌, ◌≤◌, ◌==◌, ◌&&◌, ◌||◌, nat_lt, min, ◌⊎◌, inl, inr, Bool, true, false, cond, List, [], ◌∷◌, ◌++◌, length, take, Option, Some, None, Result, Ok, Err, refl, sym, ap, subst, ◌∙◌, arith}
+use Rattle.std.proofs.Common.{◌≡◌, ℕ, ◌<◌, ◌≤◌, ◌==◌, ◌&&◌, ◌||◌, nat_lt, min, ◌⊎◌, inl, inr, true, false, List, [], ◌∷◌, ◌++◌, length, take, Some, Ok, refl, sym, ap, subst, ◌∙◌, arith}
 use Rattle.std.proofs.lemmas.Bool.Decides.{nat_tests}
 use Rattle.std.proofs.lemmas.List.{length-take-le}
 use Rattle.zab_epoch.specs.declared.history.Entry.{Entry}
-use Rattle.zab_epoch.specs.declared.message.Message.{Message}
-use Rattle.zab_epoch.specs.declared.role.Role.{Role}
-use Rattle.zab_epoch.specs.declared.role.Role.TheVariants.{Looking, Discover, Choose, Sync, Broadcast, Following}
 use Rattle.zab_epoch.specs.Rules as epoch_rules
 use Rattle.zab_broadcast.specs.declared.state.State.{State}
 use Rattle.zab_epoch.specs.Roles.{follows}
@@ -18,7 +15,7 @@ use Rattle.zab_laws.proofs.PrefixLaws.{prefix_by_length, prefix_length, prefix_r
 use Rattle.zab_laws.proofs.Facts.{same_longest}
 use Rattle.zab_laws.proofs.Beginning.{two_same}
 use Rattle.zab_laws.proofs.Adopting.{begun_above, keeps_adopt}
-use Rattle.zab_moves.specs.Told.{core_of, core_with, told_of, HasLength, RoleFact, SentFact, Owes, OwesOf}
+use Rattle.zab_moves.specs.Told.{core_of, core_with, told_of, RoleFact, OwesOf}
 use Rattle.zab_moves.proofs.Common.{by_test, both_true, eq_is, stays}
 use Rattle.zab_moves.proofs.Following.{owes_nothing, follower}
 

@@ -1,19 +1,16 @@
 -- Rules at a leader of the third phase.
-use Rattle.std.proofs.Common.{◌≡◌, ◌≢◌, ℕ, zero, suc, ◌+◌, ◌-◌, ◌*◌, ◌^◌, ◌<◌, ◌≤◌, ◌==◌, ◌&&◌, not, ℤ, pos, nat_lt, max, ◌⊎◌, inl, inr, Bool, true, false, cond, List, [], ◌∷◌, ◌++◌, length, take, drop, set, Option, Some, None, Result, Ok, Err, refl, sym, ap, subst, ◌∙◌, arith, slice_get, length-append, lit≤}
+use Rattle.std.proofs.Common.{◌≡◌, ℕ, zero, suc, ◌+◌, ◌-◌, ◌*◌, ◌^◌, ◌<◌, ◌≤◌, ◌==◌, ◌&&◌, ℤ, pos, nat_lt, max, ◌⊎◌, inl, inr, Bool, true, false, cond, List, [], ◌∷◌, ◌++◌, length, drop, set, Option, Some, None, Ok, refl, sym, ap, subst, ◌∙◌, arith, slice_get, length-append}
 use Rattle.std.proofs.lemmas.Int.{ints}
 use Rattle.std.proofs.lemmas.List.{append-nil, append_assoc, take-append-le}
 use Rattle.std.specs.List.{AllByRecursion}
 use Rattle.zab_epoch.specs.declared.history.Entry.{Entry}
-use Rattle.zab_epoch.specs.declared.message.Message.{Message}
-use Rattle.zab_epoch.specs.declared.peer.Peer.{Peer}
 use Rattle.zab_epoch.specs.declared.role.Role.{Role}
 use Rattle.zab_epoch.specs.declared.role.Role.TheVariants.{Looking, Discover, Choose, Sync, Broadcast, Following}
-use Rattle.zab_broadcast.specs.Counts.{commit_count, reached}
 use Rattle.zab_epoch.specs.Tables.{put, marks_of, said_by, said_of}
 use Rattle.zab_broadcast.specs.declared.state.State.{State}
 use Rattle.zab_broadcast.proofs.CommitCounts.{greatest_reached}
-use Rattle.zab_broadcast.specs.News.{news, tells_all, proposals, commits}
-use Rattle.zab_broadcast.specs.Rules.{Acts, silent, counted, settles, took, news_of, tells_news, appends_at, next_zxid, raised, greater_of, ack_as, catches_up, catching_up, entered, enters, ack_leader_as}
+use Rattle.zab_broadcast.specs.News.{proposals, commits}
+use Rattle.zab_broadcast.specs.Rules.{counted, settles, took, news_of, tells_news, next_zxid, raised, greater_of, ack_as, catches_up, entered, enters, ack_leader_as}
 use Rattle.zab_laws.specs.Prefixes.{IsPrefix}
 use Rattle.zab_laws.specs.Cores as laws
 use Rattle.zab_laws.specs.Cores.Move.{Extend}
@@ -23,9 +20,9 @@ use Rattle.zab_laws.proofs.Keeping.{chosen_grows, keeps_both}
 use Rattle.zab_laws.proofs.Beginning.{two_same}
 use Rattle.zab_laws.proofs.Adopting.{begun_above}
 use Rattle.zab_laws.proofs.Extending.{keeps_extend}
-use Rattle.zab_moves.specs.Told.{core_of, core_with, told_of, HasLength, IsReached, HasFact, Leads, Broadcasts, Syncs, MessageFact, RoleFact, SentFact, Owes, OwesOf}
+use Rattle.zab_moves.specs.Told.{core_of, told_of, HasLength, IsReached, HasFact, Leads, Broadcasts, Syncs, MessageFact, RoleFact, OwesOf}
 use Rattle.zab_moves.proofs.Common.{by_test, both_true, eq_is, less_is, stays, chosen_of, delivers_more, count_passes, has_reached, more_told}
-use Rattle.zab_moves.proofs.Telling.{all_append, Tells, CommitFact, proposals_fact, commits_fact, news_fact}
+use Rattle.zab_moves.proofs.Telling.{all_append, Tells, CommitFact, proposals_fact, news_fact}
 use Rattle.zab_moves.proofs.Following.{owes_nothing}
 
 -- ---- what rule 9 gives

@@ -1,13 +1,13 @@
 -- What messages and roles say of a run.
-use Rattle.std.specs.Prelude.{◌≡◌, ℕ, ℤ, ◌+◌, ◌-◌, ◌<◌, ◌≤◌, Bool, true, List, [], ◌∷◌, ◌++◌, length, take, max, Option, Some, None, Result, Ok, Err, slice_get}
+use Rattle.std.specs.Prelude.{◌≡◌, ℕ, ℤ, ◌+◌, ◌<◌, ◌≤◌, Bool, true, List, [], ◌∷◌, ◌++◌, length, take, Option, Some, Result, Ok, Err, slice_get}
 use Rattle.std.specs.List.{AllByRecursion}
 use Rattle.zab_epoch.specs.declared.fault.RuleFault.{RuleFault}
 use Rattle.zab_epoch.specs.declared.history.Entry.{Entry}
 use Rattle.zab_epoch.specs.declared.message.Body.{Body}
-use Rattle.zab_epoch.specs.declared.message.Body.TheVariants.{CEpoch, NewEpoch, AckEpoch, NewLeader, AckLeader, Propose, Ack, Commit, Request}
+use Rattle.zab_epoch.specs.declared.message.Body.TheVariants.{AckEpoch, NewLeader, AckLeader, Propose, Ack, Commit}
 use Rattle.zab_epoch.specs.declared.message.Message.{Message}
 use Rattle.zab_epoch.specs.declared.role.Role.{Role}
-use Rattle.zab_epoch.specs.declared.role.Role.TheVariants.{Looking, Discover, Choose, Sync, Broadcast, Following}
+use Rattle.zab_epoch.specs.declared.role.Role.TheVariants.{Choose, Sync, Broadcast}
 use Rattle.zab_epoch.specs.declared.votes.Vote.{Vote}
 use Rattle.zab_broadcast.specs.declared.state.State.{State}
 use Rattle.zab_broadcast.specs.Rules.{Acts}

@@ -1,3 +1,5 @@
+pub mod AgreeEvents
+pub mod AgreeRuns
 pub mod Numbering
 pub mod RunLaws
 pub mod ServerLists

@@ -3,6 +3,7 @@ use Rattle.std.specs.Prelude.{◌≡◌, ℕ, List, [], ◌∷◌, ◌++◌}
 use Rattle.std.specs.List.{Contains}
 use Rattle.zab_epoch.specs.declared.history.Entry.{Entry}
 use Rattle.zab_runs.specs.declared.event.Event.{Event}
+use Rattle.zab_runs.specs.Agreement.{Agrees}
 use Rattle.zab_runs.specs.Worlds.{World, Profile}
 use Rattle.zab_runs.specs.Runs.{run, history_after}
 
@@ -22,3 +23,4 @@ pub record IsNextInRun {C : Type 0} (profile : Profile C) (servers : ℕ) (befor
   pub reached : before ≡ (run profile servers events).0
   pub goes_on : next ≡ (run profile servers (events ++ event ∷ [])).0
   pub tagged : IsTaggedOnce profile servers (events ++ event ∷ [])
+  pub agrees : Agrees profile servers (events ++ event ∷ [])

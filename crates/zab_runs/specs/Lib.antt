@@ -1,4 +1,5 @@
 -- What the contracts of this crate cite.
+pub mod Agreement
 pub mod Laws
 pub mod Refusals
 pub mod Runs

@@ -10,4 +10,4 @@ mod laws;
 
 pub use event::{Event, Moved};
 pub use fault::WorldFault;
-pub use laws::{one_entry_for_a_tag, stable_part_outlasts_crashes};
+pub use laws::{one_entry_for_a_tag, runs_agree, stable_part_outlasts_crashes};

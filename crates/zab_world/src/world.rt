@@ -148,6 +148,7 @@ impl<P: Primary, Q: Quorums + Drop + Copy> World<P, Q> {
     ghost use Rattle.std.specs.Prelude.{◌≡◌, false, IfOk};
     ghost use Rattle.zab_runs.specs.Worlds.{profile_of};
     ghost use Rattle.zab_runs.specs.Runs.{run};
+    ghost use Rattle.zab_runs.specs.Agreement.{Agrees};
     ghost use Rattle.zab_runs.specs.Laws.{IsTaggedOnce};
 
     /// A new world with this one's servers and quorums, after these events, and what each was answered.
@@ -159,6 +160,8 @@ impl<P: Primary, Q: Quorums + Drop + Copy> World<P, Q> {
         ensures run { IfOk result (λ told. (told.0.world, told.1.items)
             ≡ run (profile_of (Q.passes self.now.quorums) P.made_of P.tag_of P.closing_of) self.now.servers events.items) }
         ensures tagged { IfOk result (λ _. IsTaggedOnce
+            (profile_of (Q.passes self.now.quorums) P.made_of P.tag_of P.closing_of) self.now.servers events.items) }
+        ensures agrees { IfOk result (λ _. Agrees
             (profile_of (Q.passes self.now.quorums) P.made_of P.tag_of P.closing_of) self.now.servers events.items) }
         ensures same { IfOk result (λ told. (told.0.quorums ≡ self.now.quorums)
             × ((told.0.servers ≡ self.now.servers) × (told.0.failed ≡ false))) }

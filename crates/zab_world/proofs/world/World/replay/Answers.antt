@@ -1,6 +1,7 @@
 use Rattle.std.proofs.Common.{◌≡◌, ◌≢◌, Err, List, ap, subst, ◌∙◌}
 use Rattle.zab_runs.specs.declared.fault.WorldFault.TheVariants as faults
 use Rattle.zab_runs.specs.Worlds.{Answer, profile_of, happens}
+use Rattle.zab_runs.proofs.AgreeRuns.{runs_agree}
 use Rattle.zab_runs.proofs.RunLaws.{run_more}
 use Rattle.zab_runs.proofs.TagRuns.{tagged_once}
 use Rattle.zab_world.proofs.world.World.replay.Goals as goal
@@ -23,3 +24,8 @@ pub returns-clause-tagged : goal.returns-clause-tagged
 returns-clause-tagged g c =
     tagged_once (profile_of (g.Q.Quorums.passes c.args.self.now.quorums) g.P.Primary.made_of g.P.Primary.tag_of g.P.Primary.closing_of)
     g.met.P.Primary.made_tag c.args.self.now.servers c.args.events.items
+
+pub returns-clause-agrees : goal.returns-clause-agrees
+returns-clause-agrees g c =
+    runs_agree (profile_of (g.Q.Quorums.passes c.args.self.now.quorums) g.P.Primary.made_of g.P.Primary.tag_of g.P.Primary.closing_of)
+      g.met.P.Primary.made_zxid (g.met.Q.Quorums.share c.args.self.now.quorums) c.args.self.now.servers c.args.events.items
