@@ -6,9 +6,9 @@ ghost use Rattle.zk_script.specs.Answers.{fault_text, place_text, move_text, set
 ghost use Rattle.zk_script.specs.Reports.{line, tree_report};
 
 use crate::command::Command;
-use crate::report::push_tree;
+use crate::report::{push_node_at, push_tree};
 use zk_debug::{DebugFault, Debugger, Stop};
-use zk_listing::{push_id, push_node_line, push_result_line};
+use zk_listing::{push_id, push_result_line};
 use zk_path::{NoMemory, Path};
 
 /// Does what a command says, and appends the answer's lines. Where memory for the answer is refused, the debugger has
@@ -156,9 +156,8 @@ fn push_seen_node(answer: &mut String, debugger: &Debugger, path: &Path) -> Resu
     ensures { OnOk result (string_bytes answer.new ≡ string_bytes answer.old
         ++ seen_by debugger.now (line (node_text (state_at debugger.now.txns debugger.now.place).nodes path.now))) }
 {
-    match debugger.node(path) {
-        Ok(Some((node, stat))) => push_node_line(answer, path, node, &stat)?,
-        Ok(None) => answer.push_str("none")?,
+    match debugger.tree() {
+        Ok(machine) => push_node_at(answer, machine, path)?,
         Err(fault) => push_fault(answer, fault)?,
     }
     answer.push('\n')?;

@@ -3,6 +3,7 @@ ghost use Rattle.std.specs.Prelude.{◌≡◌, ◌++◌, false, OnOk};
 ghost use Rattle.std.specs.FinMap as finite;
 ghost use Rattle.std.specs.List.{flat_map};
 ghost use Rattle.std.specs.String.{string_bytes};
+ghost use Rattle.zk_script.specs.Answers.{node_text};
 ghost use Rattle.zk_script.specs.Reports.{line, line_at, zxid_line, session_line, tree_report};
 
 use zk_listing::{push_digits, push_id, push_node_line};
@@ -98,4 +99,22 @@ pub fn push_line_at(page: &mut String, tree: &Tree, path: &Path) -> Result<(), N
     push_node_line(page, path, node, &node.stat(tree.child_count(path)))?;
     page.push('\n')?;
     Ok(())
+}
+
+/// Appends the node at a path as its line has it, without the newline; `none` where there is no node.
+pub(crate) fn push_node_at(
+    text: &mut String,
+    machine: &Machine,
+    path: &Path,
+) -> Result<(), NoMemory>
+    requires { machine.now.failed ≡ false }
+    ensures { OnOk result (string_bytes text.new ≡ string_bytes text.old ++ node_text machine.now.state.nodes path.now) }
+{
+    let Ok(tree) = machine.tree() else {
+        unreachable!()
+    };
+    match tree.get(path) {
+        Some(node) => push_node_line(text, path, node, &node.stat(tree.child_count(path))),
+        None => Ok(text.push_str("none")?),
+    }
 }
