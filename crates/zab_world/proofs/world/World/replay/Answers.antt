@@ -28,4 +28,4 @@ returns-clause-tagged g c =
 pub returns-clause-agrees : goal.returns-clause-agrees
 returns-clause-agrees g c =
     runs_agree (profile_of (g.Q.Quorums.passes c.args.self.now.quorums) g.P.Primary.made_of g.P.Primary.tag_of g.P.Primary.closing_of)
-      g.met.P.Primary.made_zxid (g.met.Q.Quorums.share c.args.self.now.quorums) c.args.self.now.servers c.args.events.items
+    g.met.P.Primary.made_zxid (g.met.Q.Quorums.share c.args.self.now.quorums) c.args.self.now.servers c.args.events.items
