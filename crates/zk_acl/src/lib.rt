@@ -4,6 +4,7 @@
 #![tactic(auto)]
 
 mod acl;
+mod sharing;
 mod stat;
 mod text;
 
