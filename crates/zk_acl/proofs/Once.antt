@@ -14,7 +14,7 @@ use Rattle.zk_acl.specs.declared.acl.Id.{Id}
 abbrev id_by : List ℕ → List ℕ → Id
 id_by scheme id = record { scheme = scheme; id = id }
 
-abbrev entry_by : ℤ → Id → Acl
+abbrev pub entry_by : ℤ → Id → Acl
 entry_by perms id = record { perms = perms; id = id }
 
 equal_ids : (a b : Id) → same_id a b ≡ true → a ≡ b
