@@ -1,5 +1,6 @@
 ghost use Rattle.std.specs.Prelude.{◌≡◌, IsTrue};
 
+use crate::access::is_same;
 use crate::acl::{Acl, Acls};
 
 impl Acls {
@@ -26,7 +27,7 @@ fn are_same(left: &[Acl], right: &[Acl]) -> bool
         let Some((first, behind)) = rest.split_first() else {
             return false;
         };
-        if !is_same(entry, first) {
+        if !is_same_entry(entry, first) {
             return false;
         }
         rest = behind;
@@ -35,10 +36,8 @@ fn are_same(left: &[Acl], right: &[Acl]) -> bool
 }
 
 /// Whether two entries are the same.
-fn is_same(left: &Acl, right: &Acl) -> bool
+fn is_same_entry(left: &Acl, right: &Acl) -> bool
     ensures { IsTrue result → left.now ≡ right.now }
 {
-    left.perms == right.perms
-        && left.id.scheme.as_str() == right.id.scheme.as_str()
-        && left.id.id.as_str() == right.id.id.as_str()
+    left.perms == right.perms && is_same(&left.id, &right.id)
 }
