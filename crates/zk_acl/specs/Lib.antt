@@ -1,1 +1,2 @@
 pub use Rattle.zk_path.specs.Paths
+pub mod Access
