@@ -1,2 +1,1 @@
 pub use Rattle.zk_path.specs.Paths
-pub mod Access

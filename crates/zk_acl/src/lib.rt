@@ -3,12 +3,10 @@
 //! `zookeeper.jute`, module `org.apache.zookeeper.data`.
 #![tactic(auto)]
 
-mod access;
 mod acl;
 mod stat;
 mod text;
 
-pub use access::{READ, allows};
 pub use acl::{Acl, Acls, Id};
 pub use stat::Stat;
 pub use text::Text;
