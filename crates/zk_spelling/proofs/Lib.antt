@@ -1,0 +1,4 @@
+pub mod Appending
+pub mod EachLaws
+pub mod HexBytes
+pub mod QuotedBytes
