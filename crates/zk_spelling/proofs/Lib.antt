@@ -1,4 +1,3 @@
 pub mod Appending
-pub mod EachLaws
 pub mod HexBytes
 pub mod QuotedBytes
