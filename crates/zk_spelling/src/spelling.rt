@@ -1,18 +1,23 @@
 //! The spelling of fields. What is public appends a whole field, or nothing where memory is refused; what is not leaves a
 //! part behind then, and goes into a text of its own.
-ghost use Rattle.std.specs.Prelude.{◌≡◌, ◌++◌, ◌∷◌, OnErr, OnOk};
+ghost use Rattle.std.specs.Prelude.{◌≡◌, ◌≤◌, ◌++◌, ◌∷◌, OnErr, OnOk, length};
 ghost use Rattle.std.specs.List.{flat_map, list_any};
 ghost use Rattle.std.specs.Option.{option_copied};
 ghost use Rattle.std.specs.Str.{chars};
 ghost use Rattle.std.specs.String.{string_bytes};
+ghost use Rattle.hex.specs.Hex.{encode_lower};
 ghost use Rattle.zk_spelling.specs.Spelling.{sixteen_digits, id_digits, is_escaped, escaped, quoted, content_text, acl_entry_text, acl_text, stat_text, stat_times, stat_versions, stat_rest};
 
+use std::str;
 use zk_acl::{Acl, Acls, Stat};
 use zk_path::NoMemory;
 use zk_table::Content;
 
 /// The room that is made for a line before it is spelled, in bytes. Most lines fit, and need no growth.
-pub(crate) const LINE: usize = 256;
+pub(crate) const LINE: usize = 1024;
+
+/// How many bytes are spelled at a time. Measured: fewer or more take longer.
+const PIECE: usize = 64;
 
 /// Appends the sixteen lower-case hexadecimal digits of 64 bits.
 #[tactic(auto, unfolding(crate::specs::Spelling::sixteen_digits))]
@@ -20,9 +25,7 @@ pub fn push_digits(line: &mut String, bits: u64) -> Result<(), NoMemory>
     ensures appended { OnOk result (string_bytes line.new ≡ string_bytes line.old ++ sixteen_digits bits) }
     ensures unchanged { OnErr result (string_bytes line.new ≡ string_bytes line.old) }
 {
-    let digits = hex::encode(*line.allocator(), bits.to_be_bytes())?;
-    line.push_str(digits.as_str())?;
-    Ok(())
+    push_piece(line, &bits.to_be_bytes())
 }
 
 /// Appends the sixteen digits of a transaction's or a session's number, which is signed.
@@ -129,11 +132,35 @@ pub(crate) fn spell_content(line: &mut String, content: &Option<Content>) -> Res
     match content {
         None => line.push('-')?,
         Some(content) => {
-            let digits = hex::encode(*line.allocator(), content.as_slice())?;
             line.push('x')?;
-            line.push_str(digits.as_str())?;
+            spell_bytes(line, content.as_slice())?;
         }
     }
+    Ok(())
+}
+
+/// Appends two hexadecimal digits for each byte.
+fn spell_bytes(line: &mut String, bytes: &[u8]) -> Result<(), NoMemory>
+    ensures { OnOk result (string_bytes line.new ≡ string_bytes line.old ++ encode_lower bytes.now) }
+{
+    for piece in bytes.chunks(PIECE) {
+        push_piece(line, piece)?;
+    }
+    Ok(())
+}
+
+/// Appends two hexadecimal digits for each of a few bytes.
+fn push_piece(line: &mut String, piece: &[u8]) -> Result<(), NoMemory>
+    requires { length piece.now ≤ PIECE }
+    ensures appended { OnOk result (string_bytes line.new ≡ string_bytes line.old ++ encode_lower piece.now) }
+    ensures unchanged { OnErr result (string_bytes line.new ≡ string_bytes line.old) }
+{
+    // Digits in a buffer take no memory of their own.
+    let mut buffer = [0u8; 2 * PIECE];
+    let digits = &mut buffer[..2 * piece.len()];
+    hex::encode_to_slice(piece, digits).unwrap();
+    // That digits are UTF-8 is proved: to test it would take a tenth of a line's time.
+    line.push_str(unsafe { str::from_utf8_unchecked(digits) })?;
     Ok(())
 }
 
