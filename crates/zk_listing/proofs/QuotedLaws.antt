@@ -3,23 +3,21 @@ use Rattle.std.proofs.Common.{◌≡◌, ℕ, zero, suc, ◌+◌, ◌/◌, ◌%�
 use Rattle.std.specs.Prelude.{codes}
 use Rattle.std.specs.Char.{is_ascii_control}
 use Rattle.std.specs.Fmt.{digits, digit_glyph}
-use Rattle.std.specs.List.{position_or_len, before_first, after_first, flat_map, list_any, AllByRecursion}
+use Rattle.std.specs.List.{position_or_len, before_first, after_first, flat_map, AllByRecursion}
 use Rattle.std.specs.Option.{option_and_then, is_none}
 use Rattle.zk_path.specs.Paths.{IsPath, fault_of}
 use Rattle.zk_path.proofs.FaultLaw.{IsPath-from_fault, fault_of-IsPath}
 use Rattle.zk_spelling.specs.Listings.{IsListedPath}
-use Rattle.std.specs.Str.{chars, IsUtf8, is_utf8}
+use Rattle.std.specs.Str.{IsUtf8, is_utf8}
 use Rattle.std.specs.String.{string_bytes}
 use Rattle.std.proofs.lemmas.Bool.{cases_eq, cases_lt, ltb-true, lt-ltb, eqb-true, false≢true}
 use Rattle.std.proofs.lemmas.Bool.Decides.{nat_tests}
 use Rattle.std.proofs.lemmas.Fmt.{hex_one_digit, hex_two_digits}
-use Rattle.std.proofs.lemmas.List.{append-nil, take_at, drop_at}
-use Rattle.std.proofs.lemmas.List.Concat.{flat_map-append}
+use Rattle.std.proofs.lemmas.List.{take_at, drop_at}
 use Rattle.std.proofs.lemmas.List.Sums.{split_at_first, passes_at_first}
 use Rattle.std.proofs.lemmas.Option.{cond_some}
-use Rattle.std.proofs.lemmas.Str.{encode_ascii, encodes-chars, IsUtf8-string_bytes, is_utf8-from_IsUtf8, IsUtf8-from_is_utf8}
-use lib.Utf8.{encode, encodes}
-use Rattle.zk_spelling.specs.Spelling.{is_escaped, escaped, quoted}
+use Rattle.std.proofs.lemmas.Str.{IsUtf8-string_bytes, is_utf8-from_IsUtf8, IsUtf8-from_is_utf8}
+use Rattle.zk_spelling.specs.Spelling.{quoted}
 use Rattle.zk_listing.specs.Reading.{inside_at, inside, escape_at, braced_at, control_at, control_from, lower_digit, is_brace, past, behind, quoted_at, path_at, path_from, TakesBy}
 use Rattle.zk_listing.specs.declared.fault.ListCause.{ListCause}
 use Rattle.zk_listing.proofs.Exact.{IsExact, bind_some, past_is, first_is, second_is, some_is}
