@@ -1,5 +1,4 @@
 //! Lines that say a command, and lines that say none.
-use std::process::Abort;
 use std::test::Fail;
 use zk_debug::Debugger;
 use zk_log::{Ending, Loaded, Txns};
@@ -9,8 +8,69 @@ use zk_script::{
     CommandFault, ScriptFault, push_head, push_line_at, read_command, run_command, run_script,
 };
 
+/// Lines that each say a command, and what they answer in turn at the start of a log without transactions.
+const COMMANDS: [(&str, &str); 19] = [
+    ("step", "B1\n"),
+    ("back", "B2\n"),
+    ("run", "B1\n"),
+    ("runback", "B2\n"),
+    ("goto 8000000000000000", "place 0 0000000000000000\n"),
+    ("node \"/none\"", "none\n"),
+    ("last", "none\n"),
+    ("break at 00000000000000ff", "break 1\n"),
+    ("break path \"/a \\\"b\\\\\"", "break 2\n"),
+    ("break session ffffffffffffffff", "break 3\n"),
+    ("break kind createSession", "break 4\n"),
+    ("break kind setACL", "break 5\n"),
+    ("break error", "break 6\n"),
+    ("clear 6", "ok\n"),
+    ("clear 6", "B3\n"),
+    ("clear 4294967295", "B3\n"),
+    ("clear 0", "B3\n"),
+    ("reset", "place 0 0000000000000000\n"),
+    ("tree", TREE),
+];
+
+/// The report of the start state.
+const TREE: &str = "zxid 0000000000000000\n\
+    \"/\" x 1 31 \"world\" \"anyone\" 0000000000000000 0000000000000000 0 0 0 -1 0 0000000000000000 0 1 0000000000000000\n\
+    \"/zookeeper\" x 1 31 \"world\" \"anyone\" 0000000000000000 0000000000000000 0 0 0 -1 0 0000000000000000 0 1 0000000000000000\n\
+    \"/zookeeper/quota\" x 1 31 \"world\" \"anyone\" 0000000000000000 0000000000000000 0 0 0 0 0 0000000000000000 0 0 0000000000000000\n";
+
+/// Lines that say none.
+const OTHERS: [&str; 28] = [
+    "",
+    " step",
+    "step ",
+    "step\r",
+    "Step",
+    "stop",
+    "step 1",
+    "goto",
+    "goto 1",
+    "goto 000000010000000A",
+    "goto  0000000100000001",
+    "goto 0000000100000001 ",
+    "node /",
+    "node \"/a/\"",
+    "node \"/a\"b",
+    "tree \"/\"",
+    "break",
+    "break at",
+    "break errors",
+    "break kind check",
+    "break kind open",
+    "break path \"a\"",
+    "clear",
+    "clear -1",
+    "clear +1",
+    "clear 01",
+    "clear 4294967296",
+    "run back",
+];
+
 /// The start of a log without transactions.
-fn at_the_start(rt: &(impl Abort + AllocGlobal)) -> Result<Debugger, Fail> {
+fn at_the_start(rt: &HostRuntime) -> Result<Debugger, Fail> {
     let loaded = Loaded {
         dbid: 0,
         txns: Txns::from_vec(Vec::new(rt.alloc())),
@@ -19,79 +79,50 @@ fn at_the_start(rt: &(impl Abort + AllocGlobal)) -> Result<Debugger, Fail> {
     Ok(Debugger::new(rt.alloc(), loaded)?)
 }
 
+/// What a line answers.
+fn answer_to(rt: &HostRuntime, debugger: &mut Debugger, line: &str) -> Result<String, Fail> {
+    let mut answer = String::new(rt.alloc());
+    let command = read_command(rt.alloc(), line)?;
+    run_command(debugger, command, &mut answer)?;
+    Ok(answer)
+}
+
+/// Whether each line answers what it should.
+fn are_answered(
+    rt: &HostRuntime,
+    debugger: &mut Debugger,
+    rows: &[(&str, &str)],
+) -> Result<bool, Fail> {
+    for (line, expected) in rows {
+        if answer_to(rt, debugger, line)?.as_str() != *expected {
+            return Ok(false);
+        }
+    }
+    Ok(true)
+}
+
+/// Whether a line says no command.
+fn is_malformed(rt: &HostRuntime, line: &str) -> bool {
+    read_command(rt.alloc(), line).err() == Some(CommandFault::Malformed)
+}
+
 #[test]
 fn each_command_has_a_line(rt: HostRuntime) -> Result<(), Fail> {
     let mut debugger = at_the_start(&rt)?;
-    for (line, expected) in [
-        ("step", "B1\n"),
-        ("back", "B2\n"),
-        ("run", "B1\n"),
-        ("runback", "B2\n"),
-        ("goto 8000000000000000", "place 0 0000000000000000\n"),
-        ("node \"/none\"", "none\n"),
-        ("last", "none\n"),
-        ("break at 00000000000000ff", "break 1\n"),
-        ("break path \"/a \\\"b\\\\\"", "break 2\n"),
-        ("break session ffffffffffffffff", "break 3\n"),
-        ("break kind createSession", "break 4\n"),
-        ("break kind setACL", "break 5\n"),
-        ("break error", "break 6\n"),
-        ("clear 6", "ok\n"),
-        ("clear 6", "B3\n"),
-        ("clear 4294967295", "B3\n"),
-        ("clear 0", "B3\n"),
-        ("reset", "place 0 0000000000000000\n"),
-        (
-            "tree",
-            "zxid 0000000000000000\n\
-            \"/\" x 1 31 \"world\" \"anyone\" 0000000000000000 0000000000000000 0 0 0 -1 0 0000000000000000 0 1 0000000000000000\n\
-            \"/zookeeper\" x 1 31 \"world\" \"anyone\" 0000000000000000 0000000000000000 0 0 0 -1 0 0000000000000000 0 1 0000000000000000\n\
-            \"/zookeeper/quota\" x 1 31 \"world\" \"anyone\" 0000000000000000 0000000000000000 0 0 0 0 0 0000000000000000 0 0 0000000000000000\n",
-        ),
-    ] {
-        let mut answers = String::new(rt.alloc());
-        let command = read_command(rt.alloc(), line)?;
-        run_command(&mut debugger, command, &mut answers)?;
-        assert_eq!(rt; answers.as_str(), expected);
-    }
+    assert!(rt; are_answered(&rt, &mut debugger, &COMMANDS)?);
     Ok(())
 }
 
 #[test]
 fn other_lines_say_nothing(rt: HostRuntime) -> Result<(), Fail> {
-    for line in [
-        "",
-        " step",
-        "step ",
-        "step\r",
-        "Step",
-        "stop",
-        "step 1",
-        "goto",
-        "goto 1",
-        "goto 000000010000000A",
-        "goto  0000000100000001",
-        "goto 0000000100000001 ",
-        "node /",
-        "node \"/a/\"",
-        "node \"/a\"b",
-        "tree \"/\"",
-        "break",
-        "break at",
-        "break errors",
-        "break kind check",
-        "break kind open",
-        "break path \"a\"",
-        "clear",
-        "clear -1",
-        "clear +1",
-        "clear 01",
-        "clear 4294967296",
-        "run back",
-    ] {
-        let read = read_command(rt.alloc(), line);
-        assert_eq!(rt; read.err(), Some(CommandFault::Malformed));
+    for line in OTHERS {
+        assert!(rt; is_malformed(&rt, line), "{line}");
     }
+    Ok(())
+}
+
+#[test]
+fn a_script_ends_at_a_line_that_says_nothing(rt: HostRuntime) -> Result<(), Fail> {
     let mut debugger = at_the_start(&rt)?;
     let mut answers = String::new(rt.alloc());
     let ran = run_script(
