@@ -70,7 +70,7 @@ propose_owes {C} k g state from epoch index entry pos0 share kept within role sa
     (λ is.
     (let a = both_true (follows state.peer.role from) (is_next state.peer.stable epoch index) is in
     let next = takes_the_next state.peer.stable epoch index a.1 in
-    takes a.0 next.0 next.1.0 next.1.1))
+    takes a.0 next.0 next.1 next.2))
     (λ is. owes_nothing k g state (Ok []) kept within role tt)
   where
     takes : follows state.peer.role from ≡ true → epoch ≡ state.peer.stable.promised → epoch ≡ state.peer.stable.current → index ≡ length state.peer.stable.history + 1 → OwesOf {C = C} k g state (record state { peer = with_history state.peer (state.peer.stable.history ++ entry ∷ []) }, Ok (record { sender = state.peer.me; addressee = from; body = Ack epoch index } ∷ []))

@@ -301,7 +301,7 @@ appends_owes {C} k g state entry zxid kept within pos0 at b key_is next =
     let s = settles_owes C k y (took state entry) keeps.kept fits broadcasts in
     record {
       ghost = y;
-      keeps = keeps_both k g y y me (core_of (took state entry)) _ (ap (λ (x : Stable). x.current) (sym s.stable)) (ap (λ (x : Stable). x.history) (sym s.stable)) keeps s.keeps;
+      keeps = keeps_both k g y y me (core_of (took state entry)) (core_of (settles k.passes (took state entry)).0) (ap (λ (x : Stable). x.current) (sym s.stable)) (ap (λ (x : Stable). x.history) (sym s.stable)) keeps s.keeps;
       role = subst (RoleFact k y _) (sym (s.same ∙ at)) s.role;
       sent = s.news None (length h);
       me = s.me;

@@ -1,5 +1,5 @@
 -- The facts of every run on which agreement stands.
-use Rattle.std.proofs.Common.{◌≡◌, ℕ, suc, ◌+◌, ◌*◌, ◌^◌, ◌<◌, ◌≤◌, ◌==◌, ℤ, pos, ◌⊎◌, inl, inr, cond, List, [], ◌∷◌, ◌++◌, length, take, Option, Some, None, sym, ap, subst, ◌∙◌, arith, length-append}
+use Rattle.std.proofs.Common.{◌≡◌, ℕ, suc, ◌+◌, ◌*◌, ◌^◌, ◌<◌, ◌≤◌, ◌==◌, ℤ, pos, ◌⊎◌, inl, inr, cond, List, [], ◌∷◌, ◌++◌, length, take, Option, Some, None, refl, sym, ap, subst, ◌∙◌, arith, length-append}
 use Rattle.std.proofs.lemmas.Int.{ints}
 use Rattle.zab_epoch.specs.declared.history.Entry.{Entry}
 use Rattle.zab_epoch.specs.Quorums.{IsQuorumSystem}
@@ -25,7 +25,7 @@ none_held n epoch h above is =
     some_not_none h (cond (epoch == 0) (Some []) None) is (ap (λ b. cond b (let o : Option (List Entry) = Some [] in o) None) (eq_other epoch 0 (λ none. omega arith)))
 
 none_began : (epoch : ℕ) (b : laws.Began Entry) → (laws.start {X = Entry}).began epoch ≡ Some b → ⊥
-none_began epoch b is = cc
+none_began epoch b is = some_not_none b ((laws.start {X = Entry}).began epoch) is refl
 
 -- what is in the books was held at some moment
 moment : {C : Type 0} (profile : Profile C) (servers : ℕ) (events : List (Event C)) (t : Whole profile servers events) (n epoch : ℕ) (h : List Entry) → t.last.held n epoch ≡ Some h → 0 < epoch → Held profile servers events n epoch h
@@ -72,10 +72,10 @@ chosen_of profile servers events t epoch list said = record {
 -- ---- the four facts
 
 pub one_leader : {C : Type 0} (profile : Profile C) → CarriesZxid profile.setting → IsQuorumSystem profile.setting.passes → (servers : ℕ) (events : List (Event C)) → OneLeaderAnEpoch profile servers events
-one_leader profile law system servers events epoch one other start begin a b =
+one_leader profile law system servers events epoch one other start another a b =
     let t = whole profile law system servers events in
     let x = begun_of profile servers events t one epoch start a in
-    let y = begun_of profile servers events t other epoch begin b in
+    let y = begun_of profile servers events t other epoch another b in
     let same : x.began ≡ y.began = same_some x.began y.began (sym x.is ∙ y.is) in
     (sym x.leader_is ∙ ap (λ (d : laws.Began Entry). d.leader) same ∙ y.leader_is, sym x.start_is ∙ ap (λ (d : laws.Began Entry). d.start) same ∙ y.start_is)
 
@@ -131,7 +131,7 @@ quorum_of profile servers events t epoch before x m made =
       | inl none ↦ absurd (not_at_start m.began.start m.own m.beyond.before x none m.beyond.within)
       | inr c ↦ c
     ] in
-    subst (HasQuorum profile servers events) (same_epoch m.epoch epoch m.number made.0 x.txn.zxid m.key_is made.1.0 m.small made.1.1)
+    subst (HasQuorum profile servers events) (same_epoch m.epoch epoch m.number made.0 x.txn.zxid m.key_is made.1 m.small made.2)
     (record {
       leader = m.began.leader;
       start = m.began.start;

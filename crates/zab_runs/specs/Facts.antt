@@ -11,9 +11,9 @@ use Rattle.zab_runs.specs.Moments.{Held, Started, IsAcknowledged}
 -- one leader an epoch: at most one enters synchronization in it, with one history
 abbrev pub OneLeaderAnEpoch : {C : Type 0} → Profile C → ℕ → List (Event C) → Type 0
 OneLeaderAnEpoch profile servers events =
-    (epoch one other : ℕ) (start begin : List Entry)
-    → Started profile servers events one epoch start → Started profile servers events other epoch begin
-    → (one ≡ other) × (start ≡ begin)
+    (epoch one other : ℕ) (start another : List Entry)
+    → Started profile servers events one epoch start → Started profile servers events other epoch another
+    → (one ≡ other) × (start ≡ another)
 
 -- what a quorum acknowledged lasts: it is a prefix of the starting history of each later epoch
 abbrev pub AcknowledgedLasts : {C : Type 0} → Profile C → ℕ → List (Event C) → Type 0
