@@ -1,5 +1,5 @@
 -- The facts of every run on which agreement stands.
-use Rattle.std.proofs.Common.{◌≡◌, ℕ, suc, ◌+◌, ◌*◌, ◌^◌, ◌<◌, ◌≤◌, ◌==◌, ℤ, pos, ◌⊎◌, inl, inr, cond, List, [], ◌∷◌, ◌++◌, length, take, Option, Some, None, refl, sym, ap, subst, ◌∙◌, arith, length-append}
+use Rattle.std.proofs.Common.{◌≡◌, ℕ, suc, ◌+◌, ◌*◌, ◌^◌, ◌<◌, ◌≤◌, ◌==◌, ℤ, pos, inl, inr, cond, List, [], ◌∷◌, ◌++◌, length, take, Option, Some, None, refl, sym, ap, subst, ◌∙◌, arith, length-append}
 use Rattle.std.proofs.lemmas.Int.{ints}
 use Rattle.zab_epoch.specs.declared.history.Entry.{Entry}
 use Rattle.zab_epoch.specs.Quorums.{IsQuorumSystem}
@@ -15,7 +15,7 @@ use Rattle.zab_runs.specs.declared.event.Event.{Event}
 use Rattle.zab_runs.specs.Worlds.{Profile, new_world}
 use Rattle.zab_runs.specs.Runs.{after, delivered_after, history_of}
 use Rattle.zab_runs.specs.Moments.{Held, Started, IsAcknowledged}
-use Rattle.zab_runs.specs.Facts.{OneLeaderAnEpoch, AcknowledgedLasts, IsOfEpoch, HistoriesBeginWithTheirEpoch, DeliveredWasAcknowledged, IsEntryOf, HasQuorum}
+use Rattle.zab_runs.specs.Facts.{OneLeaderAnEpoch, AcknowledgedLasts, HistoriesBeginWithTheirEpoch, DeliveredWasAcknowledged, IsEntryOf, HasQuorum}
 use Rattle.zab_runs.proofs.WholeRuns.{IsBegun, Whole, whole, shares_of, told_in, held_in}
 
 -- ---- from the books to the run
