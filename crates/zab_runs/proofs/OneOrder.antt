@@ -9,7 +9,7 @@ use Rattle.zab_runs.specs.declared.event.Event.{Event}
 use Rattle.zab_runs.specs.Worlds.{Profile}
 use Rattle.zab_runs.specs.Runs.{run, delivered_after}
 use Rattle.zab_runs.specs.Moments.{Holds, Held, HasAcknowledged, IsAcknowledged}
-use Rattle.zab_runs.specs.Facts.{OneLeaderAnEpoch, AcknowledgedLasts, HistoriesBeginWithTheirEpoch, DeliveredWasAcknowledged, FactsGiveOneOrder}
+use Rattle.zab_runs.specs.Facts.{OneLeaderAnEpoch, AcknowledgedLasts, HistoriesBeginWithTheirEpoch, FactsGiveOneOrder}
 use Rattle.zab_runs.proofs.WholeRuns.{shares_of}
 
 -- ---- what was acknowledged in a part of a run was acknowledged in it
