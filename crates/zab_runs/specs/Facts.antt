@@ -45,6 +45,14 @@ DeliveredWasAcknowledged profile servers events =
     (count server : ℕ) → (delivered_after profile servers events count server ≡ [])
     ⊎ ((epoch : ℕ) × (0 < epoch) × IsAcknowledged profile servers (take count events) epoch (delivered_after profile servers events count server))
 
+-- agreement follows from the four facts: of two delivered lists one is a prefix of the other
+abbrev pub FactsGiveOneOrder : {C : Type 0} → Profile C → ℕ → List (Event C) → Type 0
+FactsGiveOneOrder profile servers events =
+    OneLeaderAnEpoch profile servers events → AcknowledgedLasts profile servers events
+    → HistoriesBeginWithTheirEpoch profile servers events → DeliveredWasAcknowledged profile servers events
+    → (i j p q : ℕ) → IsPrefix (delivered_after profile servers events i p) (delivered_after profile servers events j q)
+    ⊎ IsPrefix (delivered_after profile servers events j q) (delivered_after profile servers events i p)
+
 -- ---- entries and their epochs
 
 -- an entry of an epoch, by its zxid: the epoch in the upper 32 bits

@@ -3,6 +3,7 @@ ghost use Rattle.zab_runs.specs.declared.event.Event.{Event};
 ghost use Rattle.zab_runs.specs.Agreement.{Agrees};
 ghost use Rattle.zab_runs.specs.Facts.{OneLeaderAnEpoch, AcknowledgedLasts};
 ghost use Rattle.zab_runs.specs.Facts.{HistoriesBeginWithTheirEpoch, DeliveredWasAcknowledged};
+ghost use Rattle.zab_runs.specs.Facts.{FactsGiveOneOrder};
 ghost use Rattle.zab_runs.specs.Laws.{IsTaggedOnce};
 ghost use Rattle.zab_runs.specs.declared.event.Event.TheVariants as events;
 ghost use Rattle.zab_runs.specs.Worlds.{World, happens, profile_of};
@@ -47,4 +48,10 @@ pub fn runs_keep_the_four_facts<P: Primary, Q: Quorums>(_quorums: &Q)
     ensures what_is_delivered_was_acknowledged { (servers : ℕ) (events : List (Event P.Call))
         → DeliveredWasAcknowledged
         (profile_of (Q.passes _quorums.now) P.made_of P.tag_of P.closing_of) servers events }
+{}
+
+/// Of two delivered lists one is a prefix of the other, by the four facts and the law of quorums alone.
+pub fn four_facts_give_one_order<P: Primary, Q: Quorums>(_quorums: &Q)
+    ensures { (servers : ℕ) (events : List (Event P.Call))
+        → FactsGiveOneOrder (profile_of (Q.passes _quorums.now) P.made_of P.tag_of P.closing_of) servers events }
 {}
