@@ -92,9 +92,13 @@ c_epoch passes peer from promised = c_epoch_as passes peer from promised peer.ro
 abbrev pub acknowledges : {C : Type 0} → Peer → ℕ → ℕ → Bool → Acts C
 acknowledges peer to epoch vote = tells peer to (say.AckEpoch epoch vote peer.stable.current peer.stable.history)
 
+-- an epoch is above all that was promised
+abbrev pub is_new : Stable → ℕ → Bool
+is_new stable epoch = nat_lt stable.promised epoch
+
 abbrev pub promises : {C : Type 0} → Peer → ℕ → ℕ → Acts C
 promises peer from epoch =
-    if nat_lt peer.stable.promised epoch
+    if is_new peer.stable epoch
     then acknowledges (record peer { stable = with_promise peer.stable epoch }) from epoch true
     else (if epoch == peer.stable.promised then acknowledges peer from epoch false else silent peer)
 

@@ -6,6 +6,7 @@
 
 mod fault;
 mod history;
+mod laws;
 mod message;
 mod peer;
 mod quorums;
@@ -17,6 +18,7 @@ mod votes;
 
 pub use fault::RuleFault;
 pub use history::{Entry, History};
+pub use laws::rules_keep_agreements_guards;
 pub use message::{Body, Message, Messages};
 pub use peer::{Peer, next_epoch};
 pub use quorums::{Majority, Quorums};

@@ -145,4 +145,9 @@ keeps_adopt {X} k x c s epoch h share kept guard =
         delivered = was.delivered;
         told = told_grows k x g grows d.current d.delivered was.told;
       });
+      held_new = λ t e l is. elim (two_cases x.held s epoch h t e l is) [
+        | inl n ↦ inr (record { server = n.server; epoch = n.number; history = n.value })
+        | inr old ↦ inl old
+      ];
+      began_new = λ e b is. inl is;
     }

@@ -192,4 +192,12 @@ keeps_begin {X} k x c q epoch start share kept guard =
         delivered = was.delivered;
         told = told_grows k x g grows d.current d.delivered was.told;
       });
+      held_new = λ t e h is. elim (two_cases x.held q epoch start t e h is) [
+        | inl n ↦ inr (record { server = n.server; epoch = n.number; history = n.value })
+        | inr old ↦ inl old
+      ];
+      began_new = λ e b is. elim (one_cases x.began epoch new e b is) [
+        | inl n ↦ inr (record { server = ap (λ (d : Began X). d.leader) n.value; epoch = n.number; history = ap (λ (d : Began X). d.start) n.value })
+        | inr old ↦ inl old
+      ];
     }

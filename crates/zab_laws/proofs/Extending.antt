@@ -138,6 +138,11 @@ keeps_extend {X} k x c q entry kept may =
         delivered = old.delivered;
         told = told_grows k x g grows d.current d.delivered old.told;
       });
+      held_new = λ t e l is. elim (two_cases x.held q c.current (c.history ++ entry ∷ []) t e l is) [
+        | inl n ↦ inr (record { server = n.server; epoch = n.number; history = n.value })
+        | inr old ↦ inl old
+      ];
+      began_new = λ e b is. inl is;
     }
 
 -- ---- all moves

@@ -59,6 +59,8 @@ keeps_deliver k x c s count kept (above, chosen) = record {
   };
   grows = grows_refl x;
   others = (λ t d other old. old);
+  held_new = λ t e h is. inl is;
+  began_new = λ e b is. inl is;
 }
 
 pub keeps_crash : {X : Type 0} (k : Setting X) (x : Ghost X) (c : Core X) (s : ℕ) → IsKept k x s c → Keeps k x (new_ghost (Crash s) c x) s (new_core (Crash s) c)
@@ -76,6 +78,8 @@ keeps_crash k x c s kept = record {
   };
   grows = grows_refl x;
   others = (λ t d other old. old);
+  held_new = λ t e h is. inl is;
+  began_new = λ e b is. inl is;
 }
 
 -- ---- Promise: one vote more
@@ -177,6 +181,8 @@ keeps_promise {X} k x c s epoch leader kept above =
         delivered = old.delivered;
         told = told_grows k x g grows d.current d.delivered old.told;
       });
+      held_new = λ t e h is. inl is;
+      began_new = λ e b is. inl is;
     }
   where
     no_held : {X : Type 0} (x : Ghost X) (s m current : ℕ) → current < m → ((e : ℕ) (h : List X) → x.held s e ≡ Some h → e ≤ current) → x.held s m ≡ None
@@ -196,6 +202,24 @@ grows_trans x y z p q = record {
   held = λ s e h is. holds_grows y z q s e h (p.held s e h is);
 }
 
--- two moves of one server
-pub keeps_both : {X : Type 0} (k : Setting X) (x y z : Ghost X) (s : ℕ) (c d : Core X) → Keeps k x y s c → Keeps k y z s d → Keeps k x z s d
-keeps_both k x y z s c d p q = record { kept = q.kept; grows = grows_trans x y z p.grows q.grows; others = λ t u other old. q.others t u other (p.others t u other old) }
+-- two moves of one server, of which the second leaves its epoch and history
+pub keeps_both : {X : Type 0} (k : Setting X) (x y z : Ghost X) (s : ℕ) (c d : Core X) → c.current ≡ d.current → c.history ≡ d.history → Keeps k x y s c → Keeps k y z s d → Keeps k x z s d
+keeps_both k x y z s c d epoch history p q = record {
+  kept = q.kept;
+  grows = grows_trans x y z p.grows q.grows;
+  others = λ t u other old. q.others t u other (p.others t u other old);
+  held_new = λ t e h is. elim (q.held_new t e h is) [
+    | inl was ↦ elim (p.held_new t e h was) [
+      | inl old ↦ inl old
+      | inr now ↦ inr (record { server = now.server; epoch = now.epoch ∙ epoch; history = now.history ∙ history })
+    ]
+    | inr now ↦ inr now
+  ];
+  began_new = λ e b is. elim (q.began_new e b is) [
+    | inl was ↦ elim (p.began_new e b was) [
+      | inl old ↦ inl old
+      | inr now ↦ inr (record { server = now.server; epoch = now.epoch ∙ epoch; history = now.history ∙ history })
+    ]
+    | inr now ↦ inr now
+  ];
+}

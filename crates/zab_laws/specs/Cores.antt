@@ -125,11 +125,19 @@ pub record Grows {X : Type 0} (x y : Ghost X) : Type 0 where
   pub began : (e : ℕ) (b : Began X) → x.began e ≡ Some b → y.began e ≡ Some b
   pub held : (s e : ℕ) (h : List X) → x.held s e ≡ Some h → Holds y s e h
 
--- a move of server s keeps all
+-- a server with this epoch and history is server s, as it stands
+pub record IsNow {X : Type 0} (s : ℕ) (c : Core X) (t e : ℕ) (h : List X) : Type 0 where
+  pub server : t ≡ s
+  pub epoch : e ≡ c.current
+  pub history : h ≡ c.history
+
+-- a move of server s keeps all, and writes nothing but what the server now has
 pub record Keeps {X : Type 0} (k : Setting X) (x y : Ghost X) (s : ℕ) (c : Core X) : Type 0 where
   pub kept : IsKept k y s c
   pub grows : Grows x y
   pub others : (t : ℕ) (d : Core X) → t ≢ s → IsSound k x t d → IsSound k y t d
+  pub held_new : (t e : ℕ) (h : List X) → y.held t e ≡ Some h → (x.held t e ≡ Some h) ⊎ IsNow s c t e h
+  pub began_new : (e : ℕ) (b : Began X) → y.began e ≡ Some b → (x.began e ≡ Some b) ⊎ IsNow s c b.leader e b.start
 
 -- ---- moves
 

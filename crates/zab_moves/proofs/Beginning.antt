@@ -1,5 +1,5 @@
 -- A leader begins its epoch.
-use Rattle.std.proofs.Common.{◌≡◌, ℕ, zero, suc, ◌+◌, ◌<◌, ◌≤◌, ◌==◌, ◌&&◌, not, min, Bool, cond, List, [], ◌∷◌, length, take, replicate, Option, Some, None, refl, subst, arith, slice_get}
+use Rattle.std.proofs.Common.{◌≡◌, ℕ, zero, suc, ◌+◌, ◌<◌, ◌≤◌, ◌==◌, ◌&&◌, not, min, inr, Bool, cond, List, [], ◌∷◌, length, take, replicate, Option, Some, None, refl, subst, arith, slice_get}
 use Rattle.std.specs.List.{AllByRecursion}
 use Rattle.zab_epoch.specs.declared.history.Entry.{Entry}
 use Rattle.zab_epoch.specs.declared.message.Body.TheVariants.{NewLeader}
@@ -60,4 +60,5 @@ begins_owes {C} k g state joiners start share kept within pos0 below elected =
       me = refl;
       within = omega arith;
       more = subst (IsPrefix (told_of state)) list (prefix_refl (told_of state));
+      begins = inr refl;
     }

@@ -54,6 +54,7 @@ chooses_owes {C} k g state heard None kept within pos0 above = record {
   me = refl;
   within = within;
   more = prefix_refl (told_of state);
+  begins = inl (λ e b is. is);
 }
 chooses_owes {C} k g state heard (Some epoch) kept within pos0 above =
     let me : ℕ = state.peer.me in
@@ -73,4 +74,5 @@ chooses_owes {C} k g state heard (Some epoch) kept within pos0 above =
       me = refl;
       within = within;
       more = prefix_refl (told_of state);
+      begins = inl (λ e b is. is);
     }

@@ -1,5 +1,5 @@
 -- Propose and Commit at a follower.
-use Rattle.std.proofs.Common.{◌≡◌, ℕ, ◌+◌, ◌<◌, ◌≤◌, ◌==◌, ◌&&◌, min, inr, true, List, [], ◌∷◌, ◌++◌, length, Some, Result, Ok, refl, sym, ap, subst, ◌∙◌, arith, length-append}
+use Rattle.std.proofs.Common.{◌≡◌, ℕ, ◌+◌, ◌<◌, ◌≤◌, ◌==◌, ◌&&◌, min, inl, inr, true, List, [], ◌∷◌, ◌++◌, length, Some, Result, Ok, refl, sym, ap, subst, ◌∙◌, arith, length-append}
 use Rattle.std.proofs.lemmas.List.{take-append-le}
 use Rattle.zab_epoch.specs.declared.fault.RuleFault.{RuleFault}
 use Rattle.zab_epoch.specs.declared.history.Entry.{Entry}
@@ -8,7 +8,8 @@ use Rattle.zab_epoch.specs.declared.message.Body.TheVariants.{Ack}
 use Rattle.zab_epoch.specs.declared.role.Role.{Role}
 use Rattle.zab_epoch.specs.declared.role.Role.TheVariants.{Looking, Discover, Choose, Sync, Broadcast, Following}
 use Rattle.zab_broadcast.specs.declared.state.State.{State}
-use Rattle.zab_broadcast.specs.Rules.{commit, propose, with_history}
+use Rattle.zab_broadcast.specs.Rules.{commit, propose, is_next, with_history}
+use Rattle.zab_broadcast.proofs.Guards.{takes_the_next}
 use Rattle.zab_epoch.specs.Roles.{follows}
 use Rattle.zab_laws.specs.Prefixes.{IsPrefix}
 use Rattle.zab_laws.specs.Cores as laws
@@ -29,6 +30,7 @@ owes_nothing k g state out kept within role sent = record {
   me = refl;
   within = within;
   more = prefix_refl (told_of state);
+  begins = inl (λ e b is. is);
 }
 
 -- a follower has no fact
@@ -58,17 +60,17 @@ commit_owes {C} k g state from epoch count kept within role reached =
       me = refl;
       within = omega arith;
       more = more_told state.delivered n state.peer.stable.history;
+      begins = inl (λ e b is. is);
     }))
     (λ is. owes_nothing k g state (Ok []) kept within role tt)
 
 pub propose_owes : {C : Type 0} (k : laws.Setting Entry) (g : laws.Ghost Entry) (state : State) (from epoch index : ℕ) (entry : Entry) → 0 < state.peer.me → laws.Shares k → laws.IsKept k g state.peer.me (core_of state) → state.delivered ≤ length state.peer.stable.history → RoleFact k g state state.peer.role → IsProposed g from epoch index entry → OwesOf {C = C} k g state (propose state from epoch index entry)
 propose_owes {C} k g state from epoch index entry pos0 share kept within role said =
-    by_test (OwesOf {C = C} k g state) (follows state.peer.role from && ((epoch == state.peer.stable.promised) && ((epoch == state.peer.stable.current) && (index == length state.peer.stable.history + 1)))) _ _
+    by_test (OwesOf {C = C} k g state) (follows state.peer.role from && is_next state.peer.stable epoch index) _ _
     (λ is.
-    (let a = both_true (follows state.peer.role from) ((epoch == state.peer.stable.promised) && ((epoch == state.peer.stable.current) && (index == length state.peer.stable.history + 1))) is in
-    let b = both_true (epoch == state.peer.stable.promised) ((epoch == state.peer.stable.current) && (index == length state.peer.stable.history + 1)) a.1 in
-    let c = both_true (epoch == state.peer.stable.current) (index == length state.peer.stable.history + 1) b.1 in
-    takes a.0 (eq_is epoch state.peer.stable.promised b.0) (eq_is epoch state.peer.stable.current c.0) (eq_is index (length state.peer.stable.history + 1) c.1)))
+    (let a = both_true (follows state.peer.role from) (is_next state.peer.stable epoch index) is in
+    let next = takes_the_next state.peer.stable epoch index a.1 in
+    takes a.0 next.0 next.1 next.2))
     (λ is. owes_nothing k g state (Ok []) kept within role tt)
   where
     takes : follows state.peer.role from ≡ true → epoch ≡ state.peer.stable.promised → epoch ≡ state.peer.stable.current → index ≡ length state.peer.stable.history + 1 → OwesOf {C = C} k g state (record state { peer = with_history state.peer (state.peer.stable.history ++ entry ∷ []) }, Ok (record { sender = state.peer.me; addressee = from; body = Ack epoch index } ∷ []))
@@ -96,4 +98,5 @@ propose_owes {C} k g state from epoch index entry pos0 share kept within role sa
           me = refl;
           within = omega (arith, length-append h (entry ∷ []));
           more = subst (IsPrefix (told_of state)) (sym (take-append-le state.delivered h (entry ∷ []) within)) (prefix_refl (told_of state));
+          begins = inl (λ e b is. is);
         }

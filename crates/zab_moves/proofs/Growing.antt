@@ -15,7 +15,7 @@ use Rattle.zab_laws.proofs.Keeping.{chosen_grows}
 use Rattle.zab_moves.specs.Told.{core_of, IsReached, IsProposed, BodyFact, MessageFact, Leads, RoleFact, OwesOf, Stands}
 use Rattle.zab_moves.proofs.Leading.{length_grows}
 
-of_leader_grows : (g y : laws.Ghost Entry) → laws.Grows g y → (epoch : ℕ) (h : List Entry) → laws.IsOfLeader g epoch h → laws.IsOfLeader y epoch h
+pub of_leader_grows : (g y : laws.Ghost Entry) → laws.Grows g y → (epoch : ℕ) (h : List Entry) → laws.IsOfLeader g epoch h → laws.IsOfLeader y epoch h
 of_leader_grows g y grows epoch h of =
     let q = grows.held of.began.leader epoch of.longest of.longest_is in
     record {

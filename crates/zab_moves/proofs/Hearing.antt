@@ -1,5 +1,5 @@
 -- What each rule owes at a server where all stands.
-use Rattle.std.proofs.Common.{◌≡◌, ℕ, ℤ, ◌+◌, ◌<◌, ◌≤◌, ◌==◌, ◌&&◌, nat_lt, max, min, not, Bool, true, false, cond, List, [], ◌∷◌, length, take, Option, Some, None, Result, Ok, refl, sym, ap, subst, arith}
+use Rattle.std.proofs.Common.{◌≡◌, ℕ, ℤ, ◌+◌, ◌<◌, ◌≤◌, ◌==◌, ◌&&◌, nat_lt, max, min, not, inl, Bool, true, false, cond, List, [], ◌∷◌, length, take, Option, Some, None, Result, Ok, refl, sym, ap, subst, arith}
 use Rattle.zab_epoch.specs.declared.fault.RuleFault.{RuleFault}
 use Rattle.zab_epoch.specs.declared.history.Entry.{Entry}
 use Rattle.zab_epoch.specs.declared.message.Body.TheVariants as say
@@ -11,6 +11,7 @@ use Rattle.zab_epoch.specs.Roles.{follows, is_choosing}
 use Rattle.zab_epoch.specs.Rules as epoch_rules
 use Rattle.zab_epoch.specs.Rules.{next_epoch, greatest, best_of, history_of}
 use Rattle.zab_epoch.specs.Tables.{silent_servers, put, marks_of}
+use Rattle.zab_epoch.proofs.Guards.{votes_once}
 use Rattle.zab_broadcast.specs.declared.state.State.{State}
 use Rattle.zab_broadcast.specs.Calls.{Setting, is_taken}
 use Rattle.zab_broadcast.specs.Rules as rules
@@ -22,7 +23,7 @@ use Rattle.zab_laws.proofs.PrefixLaws.{prefix_refl}
 use Rattle.zab_laws.proofs.Keeping.{keeps_promise, two_now}
 use Rattle.zab_laws.proofs.Adopting.{begun_above}
 use Rattle.zab_moves.specs.Told.{laws_of, core_of, core_with, told_of, HasLength, IsReached, IsProposed, Leads, Broadcasts, VotesFact, RoleFact, SentFact, OwesOf, Stands}
-use Rattle.zab_moves.proofs.Common.{by_test, eq_is, less_is, stays}
+use Rattle.zab_moves.proofs.Common.{by_test, eq_is, stays}
 use Rattle.zab_moves.proofs.Following.{owes_nothing, follower, commit_owes, propose_owes}
 use Rattle.zab_moves.proofs.Joining.{new_leader_owes}
 use Rattle.zab_moves.proofs.Beginning.{begins_owes}
@@ -44,6 +45,7 @@ turns k g state role out f said sent = record {
   me = refl;
   within = f.within;
   more = prefix_refl (told_of state);
+  begins = inl (λ e b is. is);
 }
 
 -- ---- 1
@@ -91,13 +93,14 @@ promises k g state from epoch f following above = record {
   me = refl;
   within = f.within;
   more = prefix_refl (told_of state);
+  begins = inl (λ e b is. is);
 }
 
 pub hears_new_epoch : {C : Type 0} (k : laws.Setting Entry) (g : laws.Ghost Entry) (state : State) (from epoch : ℕ) → Stands k g state → OwesOf {C = C} k g state (rules.new_epoch state from epoch)
 hears_new_epoch {C} k g state from epoch f =
     by_test (λ (acts : epoch_rules.Acts C). OwesOf {C = C} k g state (by_peer state acts)) (follows state.peer.role from) _ _
-    (λ following. by_test (λ (acts : epoch_rules.Acts C). OwesOf {C = C} k g state (by_peer state acts)) (nat_lt state.peer.stable.promised epoch) _ _
-    (λ less. promises k g state from epoch f following (less_is state.peer.stable.promised epoch less))
+    (λ following. by_test (λ (acts : epoch_rules.Acts C). OwesOf {C = C} k g state (by_peer state acts)) (epoch_rules.is_new state.peer.stable epoch) _ _
+    (λ less. promises k g state from epoch f following (votes_once state.peer.stable epoch less))
     (λ no. by_test (λ (acts : epoch_rules.Acts C). OwesOf {C = C} k g state (by_peer state acts)) (epoch == state.peer.stable.promised) _ _
     (λ same. quiet k g state _ f ((f.above, λ e. absurd cc), tt))
     (λ other. quiet k g state _ f tt)))
@@ -118,6 +121,7 @@ gathering k g state votes joiners f below votes_are =
       me = refl;
       within = omega arith;
       more = subst (λ n. IsPrefix (told_of state) (take n state.peer.stable.history)) m (prefix_refl (told_of state));
+      begins = inl (λ e b is. is);
     }
 
 gathers : {C : Type 0} (passes : List Bool → Bool) (g : laws.Ghost Entry) (state : State) (votes : List (Option Vote)) (joiners : List (Option (Unit {0}))) → laws.Shares (laws_of passes) → Stands (laws_of passes) g state → state.peer.stable.current < state.peer.stable.promised → VotesFact g state.peer.me state.peer.stable.promised votes → OwesOf {C = C} (laws_of passes) g state (begun state (epoch_rules.gathers passes state.peer votes joiners))
@@ -171,6 +175,7 @@ ack_epoch_owes {C} passes g state from epoch vote said (Choose votes joiners) sh
       me = refl;
       within = omega arith;
       more = subst (λ n. IsPrefix (told_of state) (take n state.peer.stable.history)) m (prefix_refl (told_of state));
+      begins = inl (λ e b is. is);
     }))
 ack_epoch_owes passes g state from epoch vote said Sync share f at b pos0 voted = answers_history (laws_of passes) g state from (epoch == state.peer.stable.promised) f b.leads
 ack_epoch_owes passes g state from epoch vote said Broadcast share f at b pos0 voted = answers_history (laws_of passes) g state from (epoch == state.peer.stable.promised) f b.leads

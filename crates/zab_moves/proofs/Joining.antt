@@ -1,11 +1,12 @@
 -- NewLeader at a follower.
-use Rattle.std.proofs.Common.{◌≡◌, ℕ, ◌<◌, ◌≤◌, ◌==◌, ◌&&◌, ◌||◌, nat_lt, min, ◌⊎◌, inl, inr, true, false, List, [], ◌∷◌, ◌++◌, length, take, Some, Ok, refl, sym, ap, subst, ◌∙◌, arith}
+use Rattle.std.proofs.Common.{◌≡◌, ℕ, ◌<◌, ◌≤◌, ◌==◌, ◌&&◌, ◌||◌, nat_lt, min, ◌⊎◌, inl, inr, false, List, [], ◌∷◌, ◌++◌, length, take, Some, Ok, refl, sym, ap, subst, ◌∙◌, arith}
 use Rattle.std.proofs.lemmas.Bool.Decides.{nat_tests}
 use Rattle.std.proofs.lemmas.List.{length-take-le}
 use Rattle.zab_epoch.specs.declared.history.Entry.{Entry}
 use Rattle.zab_epoch.specs.Rules as epoch_rules
 use Rattle.zab_broadcast.specs.declared.state.State.{State}
 use Rattle.zab_epoch.specs.Roles.{follows}
+use Rattle.zab_epoch.proofs.Guards.{cuts_nothing}
 use Rattle.zab_broadcast.specs.Rules as rules
 use Rattle.zab_broadcast.specs.Rules.{Acts, joined, with_peer}
 use Rattle.zab_laws.specs.Prefixes.{IsPrefix}
@@ -18,9 +19,6 @@ use Rattle.zab_laws.proofs.Adopting.{begun_above, keeps_adopt}
 use Rattle.zab_moves.specs.Told.{core_of, core_with, told_of, RoleFact, OwesOf}
 use Rattle.zab_moves.proofs.Common.{by_test, both_true, eq_is, stays}
 use Rattle.zab_moves.proofs.Following.{owes_nothing, follower}
-
-newer_is : (c e m n : ℕ) → (nat_lt c e || ((c == e) && nat_lt m n)) ≡ true → (c < e) ⊎ ((c ≡ e) × (m < n))
-newer_is c e m n is = grind (arith, nat_tests)
 
 not_newer : (c e m n : ℕ) → (nat_lt c e || ((c == e) && nat_lt m n)) ≡ false → e ≤ c
 not_newer c e m n is = grind (arith, nat_tests)
@@ -45,7 +43,7 @@ new_leader_owes {C} k g state from epoch history pos0 share kept within role of 
     (λ is.
     (let p : epoch ≡ state.peer.stable.promised = eq_is epoch state.peer.stable.promised (both_true (follows state.peer.role from) (epoch == state.peer.stable.promised) is).1 in
     by_test (λ (acts : epoch_rules.Acts C). OwesOf {C = C} k g state (joined state acts)) (epoch_rules.is_behind state.peer.stable epoch history) _ _
-    (λ newer. takes p (newer_is state.peer.stable.current epoch (length state.peer.stable.history) (length history) newer))
+    (λ newer. takes p (cuts_nothing state.peer.stable epoch history newer))
     (λ older. (let low : epoch ≤ state.peer.stable.current = not_newer state.peer.stable.current epoch (length state.peer.stable.history) (length history) older in
     let high : state.peer.stable.current ≤ state.peer.stable.promised = kept.sound.current in
     let same : state.peer.stable.current ≡ epoch = omega arith in
@@ -57,8 +55,9 @@ new_leader_owes {C} k g state from epoch history pos0 share kept within role of 
       me = refl;
       within = omega arith;
       more = same_told;
+      begins = inl (λ e b is. is);
     }))))
-    (λ is. record { ghost = g; keeps = same_core; role = follower k g (with_peer state state.peer state.has) state.peer.role from following; sent = tt; me = refl; within = omega arith; more = same_told }))
+    (λ is. record { ghost = g; keeps = same_core; role = follower k g (with_peer state state.peer state.has) state.peer.role from following; sent = tt; me = refl; within = omega arith; more = same_told; begins = inl (λ e b is. is) }))
     (λ is. owes_nothing k g state (Ok []) kept within role tt)
   where
     same_told : IsPrefix (told_of state) (take (min state.delivered (length state.peer.stable.history)) state.peer.stable.history)
@@ -96,4 +95,5 @@ new_leader_owes {C} k g state from epoch history pos0 share kept within role of 
           me = refl;
           within = omega arith;
           more = subst (IsPrefix (told_of state)) list (prefix_refl (told_of state));
+          begins = inl (λ e b is. is);
         }

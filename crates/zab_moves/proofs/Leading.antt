@@ -6,6 +6,7 @@ use Rattle.std.specs.List.{AllByRecursion}
 use Rattle.zab_epoch.specs.declared.history.Entry.{Entry}
 use Rattle.zab_epoch.specs.declared.role.Role.{Role}
 use Rattle.zab_epoch.specs.declared.role.Role.TheVariants.{Looking, Discover, Choose, Sync, Broadcast, Following}
+use Rattle.zab_epoch.specs.declared.stable.Stable.{Stable}
 use Rattle.zab_epoch.specs.Tables.{put, marks_of, said_by, said_of}
 use Rattle.zab_broadcast.specs.declared.state.State.{State}
 use Rattle.zab_broadcast.proofs.CommitCounts.{greatest_reached}
@@ -58,6 +59,7 @@ pub record Settles (C : Type 0) (k : laws.Setting Entry) (g : laws.Ghost Entry) 
   pub keeps : laws.Keeps k g g state.peer.me (core_of settled.0)
   pub same : settled.0.peer.role ≡ state.peer.role
   pub me : settled.0.peer.me ≡ state.peer.me
+  pub stable : settled.0.peer.stable ≡ state.peer.stable
   pub within : settled.0.delivered ≤ length settled.0.peer.stable.history
   pub more : IsPrefix (told_of state) (told_of settled.0)
   pub role : Broadcasts k g settled.0
@@ -96,6 +98,7 @@ settles_owes C k g state kept within b =
       keeps = keeps;
       same = refl;
       me = refl;
+      stable = refl;
       within = omega arith;
       more = more_told state.delivered count state.peer.stable.history;
       role = broadcasts_more k g state count b;
@@ -106,6 +109,7 @@ settles_owes C k g state kept within b =
       keeps = stays k g state.peer.me (core_of state) kept;
       same = refl;
       me = refl;
+      stable = refl;
       within = within;
       more = prefix_refl (told_of state);
       role = b;
@@ -162,7 +166,7 @@ ack_owes {C} k g state from epoch count Broadcast kept within at b pos0 said =
     (λ is.
     (let leads = raised_leads g state from epoch count b.leads pos0 said (eq_is epoch state.peer.stable.promised is) in
     let s = settles_owes C k g (raised state from count) kept within (record { leads = leads; own = b.own; history = b.history; made = b.made; chosen = b.chosen }) in
-    record { ghost = g; keeps = s.keeps; role = subst (RoleFact k g _) (sym (s.same ∙ at)) s.role; sent = s.news None (length state.peer.stable.history); me = s.me; within = s.within; more = s.more }))
+    record { ghost = g; keeps = s.keeps; role = subst (RoleFact k g _) (sym (s.same ∙ at)) s.role; sent = s.news None (length state.peer.stable.history); me = s.me; within = s.within; more = s.more; begins = inl (λ e b is. is) }))
     (λ is. owes_nothing k g state (Ok []) kept within (subst (RoleFact k g state) (sym at) b) tt)
 ack_owes {C} k g state from epoch count Sync kept within at b pos0 said = owes_nothing k g state (Ok []) kept within (subst (RoleFact k g state) (sym at) b) tt
 ack_owes {C} k g state from epoch count Looking kept within at b pos0 said = owes_nothing k g state (Ok []) kept within (subst (RoleFact k g state) (sym at) tt) tt
@@ -213,6 +217,7 @@ enters_owes {C} k g state kept within b quorum =
       me = refl;
       within = omega arith;
       more = more_told state.delivered count state.peer.stable.history;
+      begins = inl (λ e b is. is);
     }
 
 pub ack_leader_owes : {C : Type 0} (k : laws.Setting Entry) (g : laws.Ghost Entry) (state : State) (from epoch count : ℕ) (role : Role) → laws.IsKept k g state.peer.me (core_of state) → state.delivered ≤ length state.peer.stable.history → state.peer.role ≡ role → RoleFact k g state role → 0 < from → HasLength g from epoch count → epoch ≡ state.peer.stable.promised → OwesOf {C = C} k g state (ack_leader_as k.passes state from count role)
@@ -225,7 +230,7 @@ ack_leader_owes {C} k g state from epoch count Sync kept within at b pos0 said i
 ack_leader_owes {C} k g state from epoch count Broadcast kept within at b pos0 said is =
     let leads = raised_leads g state from epoch count b.leads pos0 said is in
     let s = settles_owes C k g (raised state from count) kept within (record { leads = leads; own = b.own; history = b.history; made = b.made; chosen = b.chosen }) in
-    record { ghost = g; keeps = s.keeps; role = subst (RoleFact k g _) (sym (s.same ∙ at)) s.role; sent = s.catches from count; me = s.me; within = s.within; more = s.more }
+    record { ghost = g; keeps = s.keeps; role = subst (RoleFact k g _) (sym (s.same ∙ at)) s.role; sent = s.catches from count; me = s.me; within = s.within; more = s.more; begins = inl (λ e b is. is) }
 ack_leader_owes {C} k g state from epoch count Looking kept within at b pos0 said is = owes_nothing k g state (Ok []) kept within (subst (RoleFact k g state) (sym at) tt) tt
 ack_leader_owes {C} k g state from epoch count (Discover heard) kept within at b pos0 said is = owes_nothing k g state (Ok []) kept within (subst (RoleFact k g state) (sym at) tt) tt
 ack_leader_owes {C} k g state from epoch count (Choose votes joiners) kept within at b pos0 said is = owes_nothing k g state (Ok []) kept within (subst (RoleFact k g state) (sym at) b) tt
@@ -296,11 +301,12 @@ appends_owes {C} k g state entry zxid kept within pos0 at b key_is next =
     let s = settles_owes C k y (took state entry) keeps.kept fits broadcasts in
     record {
       ghost = y;
-      keeps = keeps_both k g y y me (core_of (took state entry)) _ keeps s.keeps;
+      keeps = keeps_both k g y y me (core_of (took state entry)) (core_of (settles k.passes (took state entry)).0) (ap (λ (x : Stable). x.current) (sym s.stable)) (ap (λ (x : Stable). x.history) (sym s.stable)) keeps s.keeps;
       role = subst (RoleFact k y _) (sym (s.same ∙ at)) s.role;
       sent = s.news None (length h);
       me = s.me;
       within = s.within;
       more = prefix_trans (told_of state) (told_of (took state entry)) _
           (subst (IsPrefix (told_of state)) (sym (take-append-le state.delivered h (entry ∷ []) within)) (prefix_refl (told_of state))) s.more;
+      begins = inl (λ e b is. is);
     }

@@ -1,5 +1,5 @@
 -- What messages and roles say of a run.
-use Rattle.std.specs.Prelude.{◌≡◌, ℕ, ℤ, ◌+◌, ◌<◌, ◌≤◌, Bool, true, List, [], ◌∷◌, ◌++◌, length, take, Option, Some, Result, Ok, Err, slice_get}
+use Rattle.std.specs.Prelude.{◌≡◌, ℕ, ℤ, ◌+◌, ◌<◌, ◌≤◌, ◌⊎◌, Bool, true, List, [], ◌∷◌, ◌++◌, length, take, Option, Some, Result, Ok, Err, slice_get}
 use Rattle.std.specs.List.{AllByRecursion}
 use Rattle.zab_epoch.specs.declared.fault.RuleFault.{RuleFault}
 use Rattle.zab_epoch.specs.declared.history.Entry.{Entry}
@@ -111,6 +111,11 @@ RoleFact k g state _ = Unit {0}
 abbrev pub told_of : State → List Entry
 told_of state = take state.delivered state.peer.stable.history
 
+-- epochs are begun by leaders that synchronize alone
+abbrev pub BeginsInSync : laws.Ghost Entry → laws.Ghost Entry → Role → Type 0
+BeginsInSync g later role =
+    ((epoch : ℕ) (began : laws.Began Entry) → later.began epoch ≡ Some began → g.began epoch ≡ Some began) ⊎ (role ≡ Sync)
+
 -- what a rule owes at a server that had delivered these: a later ghost, in which all is kept
 pub record Owes {C : Type 0} (k : laws.Setting Entry) (g : laws.Ghost Entry) (s : ℕ) (told : List Entry) (acts : Acts C) : Type 0 where
   pub ghost : laws.Ghost Entry
@@ -120,6 +125,7 @@ pub record Owes {C : Type 0} (k : laws.Setting Entry) (g : laws.Ghost Entry) (s 
   pub me : acts.0.peer.me ≡ s
   pub within : acts.0.delivered ≤ length acts.0.peer.stable.history
   pub more : IsPrefix told (told_of acts.0)
+  pub begins : BeginsInSync g ghost acts.0.peer.role
 
 abbrev pub OwesOf : {C : Type 0} → laws.Setting Entry → laws.Ghost Entry → State → Acts C → Type 0
 OwesOf k g state acts = Owes k g state.peer.me (told_of state) acts

@@ -1,5 +1,5 @@
 -- Each event keeps what is known of promises, epochs and histories.
-use Rattle.std.proofs.Common.{◌≡◌, ◌≢◌, ℕ, ◌-◌, ◌==◌, ◌&&◌, not, inl, inr, true, false, List, [], length, set, Option, Some, None, Result, Ok, Err, refl, sym, ap, subst, ◌∙◌, arith, slice_get}
+use Rattle.std.proofs.Common.{◌≡◌, ◌≢◌, ℕ, ◌-◌, ◌==◌, ◌&&◌, not, ◌⊎◌, inl, inr, true, false, List, [], length, set, Option, Some, None, Result, Ok, Err, refl, sym, ap, subst, ◌∙◌, arith, slice_get}
 use Rattle.std.specs.List.{AllByRecursion}
 use Rattle.zab_epoch.specs.declared.fault.RuleFault.{RuleFault}
 use Rattle.zab_epoch.specs.declared.history.Entry.{Entry}
@@ -13,8 +13,8 @@ use Rattle.zab_laws.specs.Prefixes.{IsPrefix}
 use Rattle.zab_laws.specs.Cores as laws
 use Rattle.zab_laws.proofs.PrefixLaws.{prefix_refl}
 use Rattle.zab_laws.proofs.Keeping.{grows_refl, keeps_crash}
-use Rattle.zab_moves.specs.Told.{laws_of, core_of, told_of, BodyFact, MessageFact, SentFact, OwesOf, Stands}
-use Rattle.zab_moves.proofs.Common.{by_test}
+use Rattle.zab_moves.specs.Told.{laws_of, core_of, told_of, BodyFact, MessageFact, SentFact, Owes, OwesOf, Stands}
+use Rattle.zab_moves.proofs.Common.{by_test, stays}
 use Rattle.zab_moves.proofs.Telling.{all_append}
 use Rattle.zab_moves.proofs.Growing.{messages_grow, stands_after, stands_still}
 use Rattle.zab_moves.proofs.Hearing.{CarriesZxid, lead_owes, follow_owes, hears_c_epoch, hears_new_epoch, hears_ack_epoch, hears_new_leader, hears_ack_leader, hears_propose, hears_ack, hears_commit, hears_request, submit_owes}
@@ -25,6 +25,7 @@ use Rattle.zab_runs.specs.declared.fault.WorldFault.{WorldFault}
 use Rattle.zab_runs.specs.Standings.{Standing, standing}
 use Rattle.zab_runs.specs.Worlds.{World, Profile, Answer, is_server, server_at, running, resting, told, said, with_server, acts, receives, message_at, arrives, spends, submits, crashed, crashes, restarts, happens}
 use Rattle.zab_runs.specs.Runs.{delivered_list, delivered_of}
+use Rattle.zab_runs.specs.Moments.{Holds, Synchronizes}
 use Rattle.zab_runs.proofs.ServerLists.{found, same_place, other_place, other_same, up_is, down_is}
 
 -- ---- what is known of a world
@@ -39,12 +40,21 @@ pub record WorldStands {C : Type 0} (k : laws.Setting Entry) (g : laws.Ghost Ent
   pub servers : (n : ℕ) (it : Standing) → server_at w.servers n ≡ Some it → IsNumbered k g n it.state
   pub messages : AllByRecursion (MessageFact k g) w.messages
 
+-- what is newly written is what a server now has
+pub record Writes (g after : laws.Ghost Entry) (servers : List Standing) : Type 0 where
+  pub held : (n epoch : ℕ) (h : List Entry) → after.held n epoch ≡ Some h → (g.held n epoch ≡ Some h) ⊎ Holds servers n epoch h
+  pub began : (epoch : ℕ) (b : laws.Began Entry) → after.began epoch ≡ Some b → (g.began epoch ≡ Some b) ⊎ Synchronizes servers b.leader epoch b.start
+
+nothing_written : (g : laws.Ghost Entry) (servers : List Standing) → Writes g g servers
+nothing_written g servers = record { held = λ n epoch h is. inl is; began = λ epoch b is. inl is }
+
 -- an event keeps it, and nobody that it spares delivers less
 pub record KeepsAll {C : Type 0} (k : laws.Setting Entry) (g : laws.Ghost Entry) (spares : ℕ → Type 0) (w next : World C) : Type 0 where
   pub after : laws.Ghost Entry
   pub grows : laws.Grows g after
   pub stands : WorldStands k after next
   pub more : (n : ℕ) → spares n → IsPrefix (delivered_of w n) (delivered_of next n)
+  pub writes : Writes g after next.servers
 
 same_world : {C : Type 0} (k : laws.Setting Entry) (g : laws.Ghost Entry) (spares : ℕ → Type 0) (w : World C) → WorldStands k g w → KeepsAll k g spares w w
 same_world k g spares w f = record {
@@ -52,6 +62,7 @@ same_world k g spares w f = record {
   grows = grows_refl g;
   stands = f;
   more = λ n spared. prefix_refl (delivered_of w n);
+  writes = nothing_written g w.servers;
 }
 
 -- ---- a server stands otherwise
@@ -88,8 +99,8 @@ more_at servers n it stands is more j =
 
 -- ---- a server acts
 
-told_keeps : {C : Type 0} (k : laws.Setting Entry) (g y : laws.Ghost Entry) (spares : ℕ → Type 0) (w : World C) (n : ℕ) (stands : Standing) (r : Result (List (Message C)) RuleFault) → laws.Grows g y → laws.AreFacts k y → ((j : ℕ) (other : Standing) → server_at (set w.servers (n - 1) stands) j ≡ Some other → IsNumbered k y j other.state) → AllByRecursion (MessageFact k g) w.messages → SentFact k y r → ((j : ℕ) → spares j → IsPrefix (delivered_of w j) (delivered_list (server_at (set w.servers (n - 1) stands) j))) → KeepsAll k g spares w (told (with_server w n stands) (said r)).0
-told_keeps k g y spares w n stands (Ok messages) grows facts servers before sent more = record {
+told_keeps : {C : Type 0} (k : laws.Setting Entry) (g y : laws.Ghost Entry) (spares : ℕ → Type 0) (w : World C) (n : ℕ) (stands : Standing) (r : Result (List (Message C)) RuleFault) → laws.Grows g y → Writes g y (set w.servers (n - 1) stands) → laws.AreFacts k y → ((j : ℕ) (other : Standing) → server_at (set w.servers (n - 1) stands) j ≡ Some other → IsNumbered k y j other.state) → AllByRecursion (MessageFact k g) w.messages → SentFact k y r → ((j : ℕ) → spares j → IsPrefix (delivered_of w j) (delivered_list (server_at (set w.servers (n - 1) stands) j))) → KeepsAll k g spares w (told (with_server w n stands) (said r)).0
+told_keeps k g y spares w n stands (Ok messages) grows writes facts servers before sent more = record {
   after = y;
   grows = grows;
   stands = record {
@@ -98,13 +109,47 @@ told_keeps k g y spares w n stands (Ok messages) grows facts servers before sent
     messages = all_append (MessageFact k y) w.messages messages (messages_grow k g y grows w.messages before) sent;
   };
   more = more;
+  writes = writes;
 }
-told_keeps k g y spares w n stands (Err fault) grows facts servers before sent more = record {
+told_keeps k g y spares w n stands (Err fault) grows writes facts servers before sent more = record {
   after = y;
   grows = grows;
   stands = record { facts = facts; servers = servers; messages = messages_grow k g y grows w.messages before };
   more = more;
+  writes = writes;
 }
+
+-- what a rule writes is what its server now has
+act_writes : {C : Type 0} (k : laws.Setting Entry) (g : laws.Ghost Entry) (servers : List Standing) (n s : ℕ) (it next : Standing) (before : List Entry) (acts : rules.Acts C) → server_at servers n ≡ Some it → s ≡ n → next.state ≡ acts.0 → (o : Owes k g s before acts) → Writes g o.ghost (set servers (n - 1) next)
+act_writes {C} k g servers n s it next before acts is here same o = record {
+  held = λ m epoch h at. elim (o.keeps.held_new m epoch h at) [
+    | inl old ↦ inl old
+    | inr now ↦ inr (record {
+      stands = next;
+      is = there m (now.server ∙ here);
+      current = ap (λ (x : State). x.peer.stable.current) same ∙ sym now.epoch;
+      history_is = ap (λ (x : State). x.peer.stable.history) same ∙ sym now.history;
+    })
+  ];
+  began = λ epoch b at. elim (o.keeps.began_new epoch b at) [
+    | inl old ↦ inl old
+    | inr now ↦ elim o.begins [
+      | inl none ↦ inl (none epoch b at)
+      | inr sync ↦ inr (record {
+        holds = record {
+          stands = next;
+          is = there b.leader (now.server ∙ here);
+          current = ap (λ (x : State). x.peer.stable.current) same ∙ sym now.epoch;
+          history_is = ap (λ (x : State). x.peer.stable.history) same ∙ sym now.history;
+        };
+        role = ap (λ (x : State). x.peer.role) same ∙ sync;
+      })
+    ]
+  ];
+}
+  where
+    there : (m : ℕ) → m ≡ n → server_at (set servers (n - 1) next) m ≡ Some next
+    there m e = subst (λ u. server_at (set servers (n - 1) next) u ≡ Some next) (sym e) (same_place servers n it next (found servers n it is))
 
 acts_keep : {C : Type 0} (k : laws.Setting Entry) (g : laws.Ghost Entry) (spares : ℕ → Type 0) (w : World C) (n : ℕ) (rule : State → rules.Acts C) (r : Result Standing WorldFault) → WorldStands k g w → ((it : Standing) → r ≡ Ok it → server_at w.servers n ≡ Some it) → ((state : State) → n ≡ state.peer.me → Stands k g state → OwesOf k g state (rule state)) → KeepsAll k g spares w (acts w n rule r).0
 acts_keep k g spares w n rule (Err fault) f is owes = same_world k g spares w f
@@ -113,7 +158,8 @@ acts_keep k g spares w n rule (Ok it) f is owes =
     let at = f.servers n it here in
     let o = owes it.state (sym at.me) at.stands in
     let next : Standing = standing it.up (rule it.state).0 in
-    told_keeps k g o.ghost spares w n next (rule it.state).1 o.keeps.grows o.keeps.kept.facts
+    let writes : Writes g o.ghost (set w.servers (n - 1) next) = act_writes k g w.servers n it.state.peer.me it next (told_of it.state) (rule it.state) here at.me refl o in
+    told_keeps k g o.ghost spares w n next (rule it.state).1 o.keeps.grows writes o.keeps.kept.facts
     (numbered_at k g o.ghost w.servers n it.state.peer.me (core_of (rule it.state).0) it next here at.me o.keeps f.servers
     (record { me = o.me ∙ at.me; stands = stands_after k g it.state (rule it.state) at.stands.above o }))
     f.messages o.sent
@@ -160,6 +206,7 @@ spends_keep k g spares w t (v, Ok numbers) f = record {
   grows = f.grows;
   stands = record { facts = f.stands.facts; servers = f.stands.servers; messages = f.stands.messages };
   more = f.more;
+  writes = f.writes;
 }
 spends_keep k g spares w t (v, Err fault) f = f
 
@@ -184,7 +231,7 @@ crashes_keep k g w n (Ok it) f is =
     let place = found w.servers n it here in
     let next : Standing = standing false (crashed it.state) in
     let keeps = keeps_crash k g (core_of it.state) it.state.peer.me at.stands.kept in
-    told_keeps k g g (λ j. j ≢ n) w n next (Ok []) (grows_refl g) f.facts
+    told_keeps k g g (λ j. j ≢ n) w n next (Ok []) (grows_refl g) (nothing_written g (set w.servers (n - 1) next)) f.facts
     (numbered_at k g g w.servers n it.state.peer.me (core_of (crashed it.state)) it next here at.me keeps f.servers
     (record { me = at.me; stands = record { kept = keeps.kept; role = tt; within = omega arith; above = at.stands.above } }))
     f.messages tt
@@ -197,9 +244,9 @@ restarts_keep k g spares w n (Ok it) f is =
     let here = is it refl in
     let at = f.servers n it here in
     let next : Standing = standing true it.state in
-    told_keeps k g g spares w n next (Ok []) (grows_refl g) f.facts
+    told_keeps k g g spares w n next (Ok []) (grows_refl g) (nothing_written g (set w.servers (n - 1) next)) f.facts
     (numbered_at k g g w.servers n it.state.peer.me (core_of it.state) it next here at.me
-    (record { kept = at.stands.kept; grows = grows_refl g; others = λ t d other old. old }) f.servers at)
+    (stays k g it.state.peer.me (core_of it.state) at.stands.kept) f.servers at)
     f.messages tt
     (λ j spared. more_at w.servers n it next here (prefix_refl (told_of it.state)) j)
 
@@ -230,6 +277,7 @@ happens_keeps {C} profile law share g w (Crash n) f =
       grows = c.grows;
       stands = c.stands;
       more = λ j spared. c.more j (λ same. spared (ap (λ m. Crash m) (sym same)));
+      writes = c.writes;
     }
 happens_keeps {C} profile law share g w (Restart n) f =
     restarts_keep (laws_of profile.setting.passes) g (Spares {C = C} (Restart n)) w n (resting w.servers n) f (λ it is. down_is (server_at w.servers n) it is)

@@ -1,6 +1,8 @@
 -- What the contracts of this crate cite.
 pub mod Agreement
+pub mod Facts
 pub mod Laws
+pub mod Moments
 pub mod Refusals
 pub mod Runs
 pub mod Standings

@@ -5,6 +5,8 @@
 #![tactic(auto)]
 
 #[cfg(test)]
+mod agreement_rows;
+#[cfg(test)]
 mod scripts;
 #[cfg(test)]
 mod world_rows;
