@@ -1,0 +1,5 @@
+pub mod Deadlines
+pub mod Refusals
+pub mod Requests
+pub mod Overlays
+pub mod Preparing
