@@ -81,6 +81,11 @@ impl Acls {
         self.entries.as_slice()
     }
 
+    /// What the list's memory comes from.
+    pub(crate) fn allocator(&self) -> Global {
+        *self.entries.allocator()
+    }
+
     /// The same list once more, over the same entries: no memory is taken. [`NoMemory`] says that the count of the
     /// list's owners is full.
     pub fn copy(&self) -> Result<Acls, NoMemory>

@@ -1,3 +1,4 @@
 pub mod PathLaws
 pub mod Paths
 pub mod Plain
+pub mod Sequences

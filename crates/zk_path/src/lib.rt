@@ -8,7 +8,9 @@ mod grammar;
 pub mod laws;
 mod memory;
 mod path;
+mod sequences;
 
 pub use fault::PathFault;
 pub use memory::NoMemory;
 pub use path::Path;
+pub use sequences::sequence;

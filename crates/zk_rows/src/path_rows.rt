@@ -5,7 +5,7 @@ ghost use Rattle.std.specs.List.{AllByRecursion};
 ghost use Rattle.zk_path.specs.Paths.{is_slash};
 
 use std::alloc::Global;
-use zk_path::{NoMemory, Path, PathFault};
+use zk_path::{NoMemory, Path, PathFault, sequence};
 
 /// Whether a text is refused with the fault of this code, and whether it is a path where the code is `-`.
 fn is_told(alloc: Global, text: &str, code: &str) -> Result<bool, NoMemory> {
@@ -113,4 +113,24 @@ fn want_of_memory_has_its_code(rt: HostRuntime) {
         is_shown_as(rt.alloc(), PathFault::from(NoMemory), "P7"),
         Ok(true)
     );
+}
+
+/// Whether a number stands so at the end of a sequential node's name.
+fn is_spelled(alloc: Global, number: i32, text: &str) -> bool {
+    matches!(sequence(alloc, number), Ok(spelled) if spelled.as_str() == text)
+}
+
+#[test]
+fn sequential_names_wrap(rt: HostRuntime) {
+    for (number, text) in [
+        (0, "0000000000"),
+        (2, "0000000002"),
+        (3, "0000000003"),
+        (i32::MAX, "2147483647"),
+        (i32::MIN, "-2147483648"),
+        (-2147483647, "-2147483647"),
+        (-5, "-000000005"),
+    ] {
+        assert!(rt; is_spelled(rt.alloc(), number, text), "{number}");
+    }
 }
