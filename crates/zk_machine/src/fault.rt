@@ -8,7 +8,7 @@ use zk_path::NoMemory;
 /// Why a machine refused a call.
 #[derive(Clone, Copy, Debug, PartialEq, Eq, Error)]
 pub enum MachineFault {
-    /// Memory was refused in the middle of a change: the machine has failed.
+    /// Memory was refused. In the middle of a change the machine has failed then, after a read it is as it was.
     #[error("M1")]
     NoMemory,
     /// The machine has failed in an earlier call.

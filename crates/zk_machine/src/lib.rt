@@ -10,6 +10,7 @@ mod fault;
 mod machine;
 mod noted_tree;
 mod operations;
+mod reading;
 mod restore;
 mod sessions;
 mod table;

@@ -1,6 +1,7 @@
 ghost use Rattle.std.specs.Prelude.{◌≡◌, ◌<◌, ◌+◌, ◌-◌, ◌^◌, ℕ, Bool, true, false, pos, Some, None, IfOk, IfErr, OnOk, OnErr, IsTrue, if◌then◌else◌};
 ghost use Rattle.std.specs.FinMap as finite;
 ghost use Rattle.zk_machine.specs.declared.fault.MachineFault.TheVariants as faults;
+ghost use Rattle.zk_table.specs.Reads.{reply_to};
 ghost use Rattle.zk_table.specs.States.{start_state};
 ghost use Rattle.zk_table.specs.Steps.{step};
 ghost use Rattle.zk_machine.specs.Changes.{changes_of};
@@ -10,14 +11,16 @@ ghost use Rattle.zk_machine.specs.Undoing.{IsState, restored};
 use crate::applied::Applied;
 use crate::fault::{MachineFault, UndoFault};
 use crate::noted_tree::NotedTree;
+use crate::reading::reply_from;
 use crate::sessions::Sessions;
 use crate::table::Table;
 use crate::touched::Touched;
 use crate::undo::Undo;
 use std::alloc::Global;
 use std::marker::Model;
+use zk_acl::Id;
 use zk_path::NoMemory;
-use zk_table::Txn;
+use zk_table::{ReadCall, ReadReply, Txn};
 use zk_tree::Tree;
 
 /// The table over an indexed tree. A machine that is refused memory in the middle of a change has failed for good:
@@ -57,6 +60,18 @@ impl Machine {
                 sessions: Sessions::new(alloc),
                 last: 0,
             },
+            steps: 0,
+            failed: false,
+        })
+    }
+
+    /// A machine in the same state, which has applied nothing yet: records of the first one's steps are not its own.
+    pub fn copy(&self) -> Result<Machine, NoMemory>
+        requires { self.now.failed ≡ false }
+        ensures { IfOk result (λ copy. copy ≡ record { state = self.now.state; steps = 0; failed = false }) }
+    {
+        Ok(Machine {
+            table: self.table.copy()?,
             steps: 0,
             failed: false,
         })
@@ -129,6 +144,15 @@ impl Machine {
     {
         self.running()?;
         Ok(&self.table.nodes.tree)
+    }
+
+    /// What a caller is told who has proved these identities. Want of memory fails only the call.
+    pub fn read(&self, call: &ReadCall, auths: &[Id]) -> Result<ReadReply, MachineFault>
+        ensures reply { IfOk result (λ reply. (self.now.failed ≡ false) × (reply ≡ reply_to self.now.state call.now auths.now)) }
+        ensures fault { IfErr result (λ fault. fault ≡ (if self.now.failed then faults.Failed else faults.NoMemory)) }
+    {
+        self.running()?;
+        Ok(reply_from(&self.table.nodes.tree, call, auths)?)
     }
 
     /// The open sessions, by the unsigned number that their sixteen digits spell, and their timeouts in milliseconds,

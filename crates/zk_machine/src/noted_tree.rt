@@ -26,6 +26,17 @@ pub(crate) struct NotedTree {
 }
 
 impl NotedTree {
+    /// The same tree once more, of which nothing is noted.
+    pub(crate) fn copy(&self) -> Result<NotedTree, NoMemory>
+        ensures { IfOk result (λ copy. copy.tree ≡ self.now.tree) }
+    {
+        Ok(NotedTree {
+            alloc: self.alloc,
+            tree: self.tree.copy()?,
+            touched: Touched::new(self.alloc),
+        })
+    }
+
     /// Forgets what was touched.
     pub(crate) fn begin(&mut self)
         ensures tree { self.new.tree ≡ self.old.tree }

@@ -54,6 +54,15 @@ impl Sessions {
         }
     }
 
+    /// The same sessions once more.
+    pub(crate) fn copy(&self) -> Result<Sessions, NoMemory>
+        ensures { IfOk result (λ copy. copy ≡ self.now) }
+    {
+        Ok(Sessions {
+            entries: self.entries.clone()?,
+        })
+    }
+
     /// The sessions and their timeouts, in order.
     pub(crate) fn as_slice(&self) -> &[(u64, i32)]
         ensures { result.now ≡ finite.entries self.now }

@@ -29,6 +29,17 @@ pub(crate) struct Table {
 }
 
 impl Table {
+    /// The same table once more.
+    pub(crate) fn copy(&self) -> Result<Table, NoMemory>
+        ensures { IfOk result (λ copy. state_of copy ≡ state_of self.now) }
+    {
+        Ok(Table {
+            nodes: self.nodes.copy()?,
+            sessions: self.sessions.copy()?,
+            last: self.last,
+        })
+    }
+
     /// Applies a transaction, which is the so many-th.
     pub(crate) fn apply(&mut self, txn: &Txn, number: u64) -> Result<Applied, NoMemory>
         requires { 0 < number }

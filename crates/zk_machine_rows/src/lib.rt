@@ -6,4 +6,6 @@
 #[cfg(test)]
 mod machine_rows;
 #[cfg(test)]
+mod read_rows;
+#[cfg(test)]
 mod tree_rows;

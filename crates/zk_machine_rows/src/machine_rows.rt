@@ -15,12 +15,12 @@ use zk_tree::Tree;
 // debugging, field by field.
 
 /// A machine in the start state.
-fn new_machine(alloc: Global) -> Result<Machine, MachineFault> {
+pub(crate) fn new_machine(alloc: Global) -> Result<Machine, MachineFault> {
     Ok(Machine::new(alloc)?)
 }
 
 /// The transactions of a listing.
-fn txns_of(alloc: Global, listing: &str) -> Result<Vec<Txn>, NoMemory> {
+pub(crate) fn txns_of(alloc: Global, listing: &str) -> Result<Vec<Txn>, NoMemory> {
     assemble(alloc, listing).map_err(|_| NoMemory)
 }
 
@@ -73,7 +73,7 @@ fn shown(
 }
 
 /// Applies a transaction, of which there are few.
-fn applied(machine: &mut Machine, txn: &Txn) -> Result<Applied, MachineFault>
+pub(crate) fn applied(machine: &mut Machine, txn: &Txn) -> Result<Applied, MachineFault>
     ensures undone { IfOk result (λ applied. restored applied.undo machine.new.state ≡ machine.old.state) }
     ensures last_step { IfOk result (λ applied. applied.undo.step ≡ machine.new.steps) }
     ensures stands { OnOk result (IsState machine.old.state.nodes) }
@@ -316,6 +316,50 @@ fn each_comes_back(alloc: Global, listing: &str) -> Result<bool, MachineFault> {
 #[test]
 fn each_step_is_taken_back(rt: HostRuntime) {
     assert_eq!(rt; each_comes_back(rt.alloc(), HISTORY), Ok(true));
+}
+
+/// A copy of a machine that has not failed.
+fn copy_of(machine: &Machine) -> Result<Machine, MachineFault> {
+    machine.steps()?;
+    Ok(machine.copy()?)
+}
+
+/// Session 7's timeout, and how many steps are counted.
+fn session_and_steps(machine: &Machine) -> Result<(Option<i32>, u64), MachineFault> {
+    Ok((machine.session(7)?, machine.steps()?))
+}
+
+/// The same of the copy of a new machine that has applied this.
+fn copied_after(alloc: Global, txn: &Txn) -> Result<(Option<i32>, u64), MachineFault> {
+    let mut machine = new_machine(alloc)?;
+    applied(&mut machine, txn)?;
+    session_and_steps(&copy_of(&machine)?)
+}
+
+/// Whether the copy of a new machine stands as the machine does, and then goes its own way with this.
+fn goes_its_own_way(alloc: Global, txn: &Txn) -> Result<bool, MachineFault> {
+    let machine = new_machine(alloc)?;
+    let before = standing(alloc, &machine)?;
+    let mut copy = copy_of(&machine)?;
+    let same = standing(alloc, &copy)?.as_str() == before.as_str();
+    applied(&mut copy, txn)?;
+    let apart = standing(alloc, &copy)?.as_str() != before.as_str();
+    Ok(same && apart && standing(alloc, &machine)?.as_str() == before.as_str())
+}
+
+/// The first transaction of a listing.
+fn first_txn(alloc: Global, listing: &str) -> Result<Txn, MachineFault> {
+    match txns_of(alloc, listing)?.as_slice() {
+        [first, ..] => Ok(first.copy()?),
+        [] => Err(MachineFault::NotLast),
+    }
+}
+
+#[test]
+fn a_copy_has_the_open_sessions(rt: HostRuntime) {
+    let open = first_txn(rt.alloc(), HISTORY).expect(&rt, "a transaction");
+    assert_eq!(rt; copied_after(rt.alloc(), &open), Ok((Some(4000), 0)));
+    assert_eq!(rt; goes_its_own_way(rt.alloc(), &open), Ok(true));
 }
 
 /// Appends a line for a change: the transaction, what happened, and the path.

@@ -4,7 +4,9 @@ use std::alloc::Global;
 use std::test::Fail;
 use zk_acl::{Acl, Acls, Id, Stat, Text};
 use zk_path::{NoMemory, Path};
-use zk_table::{Content, Node, Op, PartResult, PartResults, Plain, Sub, Subs, Txn, TxnResult};
+use zk_table::{
+    Content, Node, Op, PartResult, PartResults, Plain, ReadCall, ReadReply, Sub, Subs, Txn, TxnResult,
+};
 
 // A test is a table of what is asked, with the answers, and of what stands there afterwards. A proof of a function's
 // safety grows steeply with its exits and with its locals, so helpers are small. What is applied is a copy, and so is what
@@ -250,9 +252,9 @@ fn tells(told: &PartResults, rows: &[Row], stat: Option<Stat>) -> Result<bool, N
     Ok(first_told(answers.as_slice()) == stat && are_told(answers.as_slice(), rows))
 }
 
-/// Whether a node holds this, where none stands for null.
-fn holds(node: &Node, content: Option<&str>) -> bool {
-    match (&node.content, content) {
+/// Whether a content is this, where none stands for null.
+fn is_content(content: &Option<Content>, text: Option<&str>) -> bool {
+    match (content, text) {
         (Some(held), Some(text)) => held.as_slice() == text.as_bytes(),
         (held, text) => held.is_none() && text.is_none(),
     }
@@ -273,7 +275,7 @@ fn is_open(node: &Node, perms: i32) -> bool {
 /// Whether a node is as shown.
 fn is_shown(table: &Plain, path: &Path, node: &Node, shown: &Shown) -> bool {
     path.text() == shown.0
-        && holds(node, shown.1)
+        && is_content(&node.content, shown.1)
         && is_open(node, shown.2)
         && table.stat(path, node) == shown.3
 }
@@ -520,6 +522,9 @@ static NULL_AND_EMPTY: [Row; 4] = [
     (7, Ask::Create, "/n", Some(""), 3, 0),
 ];
 
+/// Null content alone.
+static NULL: [Row; 1] = [(7, Ask::Create, "/n", None, 1, 0)];
+
 /// The stat of a node whose content has no bytes.
 fn bare_stat(zxid: i64) -> Stat {
     Stat {
@@ -528,8 +533,39 @@ fn bare_stat(zxid: i64) -> Stat {
     }
 }
 
+/// Whether a read of `/n` tells this content, and a stat that counts no bytes.
+fn tells_content(
+    alloc: Global,
+    table: &Plain,
+    content: Option<&str>,
+) -> Result<bool, NoMemory> {
+    let call = ReadCall::GetData {
+        path: path_of(alloc, "/n")?,
+    };
+    match table.read(&call, &[])? {
+        ReadReply::Content {
+            content: told,
+            stat,
+        } => Ok(is_content(&told, content) && stat.data_length == 0),
+        _ => Ok(false),
+    }
+}
+
+/// Whether it does so where a new table has answered as these rows say.
+fn tells_content_after(
+    alloc: Global,
+    rows: &[Row],
+    content: Option<&str>,
+) -> Result<bool, NoMemory> {
+    let mut table = Plain::new(alloc)?;
+    let answered = are_answered(alloc, &mut table, rows)?;
+    Ok(answered && tells_content(alloc, &table, content)?)
+}
+
 #[test]
 fn null_and_empty_content(rt: HostRuntime) -> Result<(), Fail> {
+    assert!(rt; tells_content_after(rt.alloc(), &NULL, None)?);
+    assert!(rt; tells_content_after(rt.alloc(), &NULL_AND_EMPTY, Some(""))?);
     let nodes = [
         first("/", 3, 3, 4),
         ("/n", Some(""), 31, bare_stat(4)),

@@ -5,5 +5,6 @@ pub mod Multis
 pub mod Nodes
 pub mod Operations
 pub mod Places
+pub mod Reads
 pub mod States
 pub mod Steps

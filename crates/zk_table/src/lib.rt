@@ -1,4 +1,4 @@
-//! The tree's table: what each transaction does to the nodes and the sessions, and what it answers.
+//! The tree's table: what each transaction does to the nodes and the sessions, what it answers, and what a read is told.
 //!
 //! ZooKeeper Programmer's Guide, "The ZooKeeper Data Model"; `zookeeper.jute`, module `org.apache.zookeeper.txn`.
 #![tactic(auto)]
@@ -6,10 +6,13 @@
 pub mod codes;
 mod content;
 mod multi;
+mod names;
 mod node;
 mod nodes;
 mod operations;
 mod plain;
+mod read;
+mod reading;
 mod result;
 mod sessions;
 mod sub;
@@ -17,8 +20,10 @@ mod txn;
 
 pub use content::Content;
 pub use multi::{answers_unapplied, first_refusal, hold_error};
+pub use names::Names;
 pub use node::Node;
 pub use plain::Plain;
+pub use read::{ReadCall, ReadReply};
 pub use result::{PartResult, PartResults, TxnResult};
 pub use sub::{Sub, Subs};
 pub use txn::{Op, Txn};

@@ -53,7 +53,7 @@ fn place_of(entries: &[(Path, Node)], path: &str) -> Result<usize, usize>
 }
 
 /// Whether the first path is that of a child of the second.
-fn is_child_of(path: &Path, parent: &str) -> bool
+pub(crate) fn is_child_of(path: &Path, parent: &str) -> bool
     ensures { result ≡ is_child_of parent.now path.now }
 {
     path.parent().is_some_and(|above| above == parent)

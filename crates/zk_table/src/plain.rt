@@ -4,18 +4,20 @@ ghost use Rattle.std.specs.FinMap as finite;
 ghost use Rattle.zk_table.specs.States.{start_state, stat_of};
 ghost use Rattle.zk_table.specs.Multis.{multi};
 ghost use Rattle.zk_table.specs.Operations.{plain_answer, told};
+ghost use Rattle.zk_table.specs.Reads.{reply_to};
 ghost use Rattle.zk_table.specs.Steps.{open_session, close_session, step};
 
 use crate::multi::{answers_unapplied, first_refusal, hold_error};
 use crate::node::Node;
 use crate::nodes::Nodes;
+use crate::read::{ReadCall, ReadReply};
 use crate::result::{PartResult, PartResults, TxnResult};
 use crate::sessions::Sessions;
 use crate::sub::Sub;
 use crate::txn::{Op, Txn};
 use std::alloc::Global;
 use std::marker::Model;
-use zk_acl::Stat;
+use zk_acl::{Id, Stat};
 use zk_path::{NoMemory, Path};
 
 /// The table by the plainest means: a list of nodes and a list of sessions.
@@ -143,6 +145,13 @@ impl Plain {
             stat: answer.stat,
             parts: PartResults::new(parts),
         }
+    }
+
+    /// What a caller is told who has proved these identities.
+    pub fn read(&self, call: &ReadCall, auths: &[Id]) -> Result<ReadReply, NoMemory>
+        ensures { IfOk result (λ reply. reply ≡ reply_to self.now call.now auths.now) }
+    {
+        self.nodes.read(call, auths)
     }
 
     /// What a client is told of a node at a path.

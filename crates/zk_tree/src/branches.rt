@@ -54,6 +54,16 @@ impl Branches {
         Ok(Branches { alloc, slots })
     }
 
+    /// The same nodes once more.
+    pub(crate) fn copy(&self) -> Result<Branches, NoMemory>
+        ensures { IfOk result (λ copy. copy ≡ self.now) }
+    {
+        Ok(Branches {
+            alloc: self.alloc,
+            slots: self.slots.copy()?,
+        })
+    }
+
     /// The node at a path.
     pub(crate) fn get(&self, path: &str) -> Option<&Node>
         ensures { option_copied result ≡ finite.get self.now path.now }

@@ -1,4 +1,4 @@
-ghost use Rattle.std.specs.Prelude.{◌≡◌, OnOk, OnErr};
+ghost use Rattle.std.specs.Prelude.{◌≡◌, IfOk, OnOk, OnErr};
 ghost use Rattle.std.specs.FinMap as finite;
 ghost use Rattle.std.specs.Option.{option_copied};
 ghost use Rattle.zk_tree.specs.Owners.{with_owned, without_owned};
@@ -38,6 +38,16 @@ impl Owners {
             alloc,
             sets: BTreeMap::new(alloc),
         }
+    }
+
+    /// The same sessions once more.
+    pub(crate) fn copy(&self) -> Result<Owners, NoMemory>
+        ensures { IfOk result (λ copy. copy ≡ self.now) }
+    {
+        Ok(Owners {
+            alloc: self.alloc,
+            sets: self.sets.clone()?,
+        })
     }
 
     /// The paths of a session's nodes.

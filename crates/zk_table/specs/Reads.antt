@@ -1,0 +1,46 @@
+-- What a read tells: ZooKeeper Programmer's Guide, "Data Access" and "ACL Permissions". A read changes nothing.
+use Rattle.std.specs.Prelude.{ℕ, List, Option, Some, None, map, if◌then◌else◌}
+use Rattle.std.specs.FinMap.{get}
+use Rattle.zk_acl.specs.declared.acl.Id.{Id}
+use Rattle.zk_acl.specs.declared.stat.Stat.{Stat}
+use Rattle.zk_acl.specs.Access.{allows, read_perm}
+use Rattle.zk_path.specs.Paths.{name_of}
+use Rattle.zk_table.specs.declared.node.Node.{Node}
+use Rattle.zk_table.specs.declared.read.ReadCall.{ReadCall}
+use Rattle.zk_table.specs.declared.read.ReadCall.TheVariants.{GetData, Exists, GetChildren, GetAcl}
+use Rattle.zk_table.specs.declared.read.ReadReply.{ReadReply}
+use Rattle.zk_table.specs.declared.read.ReadReply.TheVariants.{Content, Found, Children, AclIs, Refused}
+use Rattle.zk_table.specs.Codes.{no_node, no_auth}
+use Rattle.zk_table.specs.States.{NodeMap, State, children_of, stat_of}
+
+abbrev pub path_read : ReadCall → List ℕ
+path_read (GetData path) = path
+path_read (Exists path) = path
+path_read (GetChildren path) = path
+path_read (GetAcl path) = path
+
+-- the last names of a path's children, in order
+abbrev pub names_below : NodeMap → List ℕ → List (List ℕ)
+names_below nodes path = map name_of (children_of nodes path)
+
+-- of a node that the caller may not read, with these proved identities, neither content nor children are told
+abbrev pub if_readable : Node → List Id → ReadReply → ReadReply
+if_readable node auths reply = if allows node.acl read_perm auths then reply else Refused no_auth
+
+-- Of a node with this stat. That its access control list is told to everyone is this project's own rule.
+abbrev pub told_of : NodeMap → List Id → Node → Stat → ReadCall → ReadReply
+told_of nodes auths node stat (GetData path) = if_readable node auths (Content node.content stat)
+told_of nodes auths node stat (Exists path) = Found stat
+told_of nodes auths node stat (GetChildren path) = if_readable node auths (Children (names_below nodes path) stat)
+told_of nodes auths node stat (GetAcl path) = AclIs node.acl stat
+
+abbrev pub reply_found : NodeMap → ReadCall → List Id → Option Node → ReadReply
+reply_found nodes call auths None = Refused no_node
+reply_found nodes call auths (Some node) = told_of nodes auths node (stat_of nodes (path_read call) node) call
+
+abbrev pub reply_from : NodeMap → ReadCall → List Id → ReadReply
+reply_from nodes call auths = reply_found nodes call auths (get nodes (path_read call))
+
+-- the reply of a server in this state
+abbrev pub reply_to : State → ReadCall → List Id → ReadReply
+reply_to state call auths = reply_from state.nodes call auths

@@ -1,0 +1,25 @@
+-- Containers and their clones stand for the same.
+use Rattle.std.proofs.Common.{◌≡◌, ℕ, List, [], ◌∷◌, map, String, refl, ap, ap₂}
+use Rattle.std.specs.FinMap as finite
+use Rattle.std.specs.List.{AllZip}
+use Rattle.std.specs.String.{string_bytes}
+use Rattle.zk_table.specs.States.{path_cmp}
+use Rattle.zk_tree.specs.Views.{set_of, map_of}
+
+texts_alike : {Y : Type 0} (ks ls : List (String Y)) → AllZip (λ k l. string_bytes l ≡ string_bytes k) ks ls → map (λ l. (string_bytes l, tt {0})) ls ≡ map (λ k. (string_bytes k, tt {0})) ks
+texts_alike [] [] h = refl
+texts_alike [] (l ∷ ls) h = absurd h
+texts_alike (k ∷ ks) [] h = absurd h
+texts_alike (k ∷ ks) (l ∷ ls) h = ap₂ (λ bytes rest. (bytes, tt {0}) ∷ rest) h.0 (texts_alike ks ls h.1)
+
+pub set_cloned : {Y : Type 0} (ks ls : List (String Y)) → AllZip (λ k l. string_bytes l ≡ string_bytes k) ks ls → set_of ls ≡ set_of ks
+set_cloned ks ls h = ap (finite.from_entries {R = path_cmp}) (texts_alike ks ls h)
+
+entries_alike : {X Y : Type 0} (ds es : List (String Y × X)) → AllZip (λ d e. (string_bytes e.0 ≡ string_bytes d.0) × (e.1 ≡ d.1)) ds es → map (λ e. (string_bytes e.0, e.1)) es ≡ map (λ d. (string_bytes d.0, d.1)) ds
+entries_alike [] [] h = refl
+entries_alike [] (e ∷ es) h = absurd h
+entries_alike (d ∷ ds) [] h = absurd h
+entries_alike (d ∷ ds) (e ∷ es) h = ap₂ (λ entry rest. entry ∷ rest) (ap₂ (λ bytes x. (bytes, x)) h.0.0 h.0.1) (entries_alike ds es h.1)
+
+pub map_cloned : {X Y : Type 0} (ds es : List (String Y × X)) → AllZip (λ d e. (string_bytes e.0 ≡ string_bytes d.0) × (e.1 ≡ d.1)) ds es → map_of es ≡ map_of ds
+map_cloned ds es h = ap (finite.from_entries {R = path_cmp}) (entries_alike ds es h)
