@@ -1,9 +1,10 @@
-ghost use Rattle.std.specs.Prelude.{◌≡◌};
+ghost use Rattle.std.specs.Prelude.{◌≡◌, IfOk};
 ghost use Rattle.zk_prepare.specs.Requests.{closing_call};
 
 use std::alloc::Global;
 use std::marker::Model;
 use zk_acl::{Acls, Ids, Text};
+use zk_path::NoMemory;
 use zk_table::Content;
 
 /// What a client asks of the leader. A version of -1 matches any; flags are 0 plain, 1 ephemeral, 2 sequential, 3 both.
@@ -100,6 +101,17 @@ impl Parts {
         ensures { result.now ≡ self.now }
     {
         self.parts.as_slice()
+    }
+
+    /// The same parts once more.
+    pub fn copy(&self) -> Result<Parts, NoMemory>
+        ensures { IfOk result (λ copy. copy ≡ self.now) }
+    {
+        let mut parts = Vec::new(*self.parts.allocator());
+        for part in &self.parts {
+            parts.push(part.copy()?)?;
+        }
+        Ok(Parts { parts })
     }
 }
 

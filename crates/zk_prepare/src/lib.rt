@@ -4,6 +4,7 @@
 #![tactic(auto)]
 
 mod call;
+mod copies;
 mod create;
 mod delete;
 mod making;

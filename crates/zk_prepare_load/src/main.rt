@@ -38,6 +38,7 @@ fn count_of(rt: &HostRuntime) -> Result<u32> {
 }
 
 /// A leader with nothing but a session, and the list that opens a node to all.
+#[derive(Drop)]
 struct Leader {
     alloc: Global,
     prep: Prep,
@@ -57,25 +58,6 @@ fn open_to_all(alloc: Global) -> Result<Acls, NoMemory> {
     Acls::new(alloc, entries)
 }
 
-fn leader(alloc: Global) -> Result<Leader, NoMemory> {
-    let machine = Machine::new(alloc)?;
-    let mut tail = Vec::new(alloc);
-    tail.push(Txn {
-        session: SESSION,
-        cxid: 0,
-        zxid: 1,
-        time: 0,
-        op: Op::OpenSession { timeout: 30000 },
-    })?;
-    Ok(Leader {
-        alloc,
-        prep: Prep::start(alloc, &machine, tail.as_slice())?,
-        zxid: 1,
-        open_to_all: open_to_all(alloc)?,
-        content: Content::read(alloc, b"content")?,
-    })
-}
-
 /// The text of a node's path: every hundredth stands below the root, and the others below it.
 fn path_of(alloc: Global, number: u32) -> Result<Text, NoMemory> {
     let family = number / FAMILY;
@@ -88,6 +70,25 @@ fn path_of(alloc: Global, number: u32) -> Result<Text, NoMemory> {
 }
 
 impl Leader {
+    fn new(alloc: Global) -> Result<Leader, NoMemory> {
+        let machine = Machine::new(alloc)?;
+        let mut tail = Vec::new(alloc);
+        tail.push(Txn {
+            session: SESSION,
+            cxid: 0,
+            zxid: 1,
+            time: 0,
+            op: Op::OpenSession { timeout: 30000 },
+        })?;
+        Ok(Leader {
+            alloc,
+            prep: Prep::start(alloc, &machine, tail.as_slice())?,
+            zxid: 1,
+            open_to_all: open_to_all(alloc)?,
+            content: Content::read(alloc, b"content")?,
+        })
+    }
+
     /// Prepares a request and takes what it comes to. Whether it was refused.
     fn ask(&mut self, request: Request) -> Result<bool, NoMemory> {
         if self.prep.has_failed() {
@@ -140,7 +141,7 @@ impl Leader {
 
 /// Creates so many nodes and sets one after each. How many of these were refused.
 fn prepare_all(alloc: Global, count: u32) -> Result<u64, NoMemory> {
-    let mut leader = leader(alloc)?;
+    let mut leader = Leader::new(alloc)?;
     let mut refused: u64 = 0;
     for number in 0..count {
         let created = leader.create(number)?;

@@ -25,6 +25,7 @@ pub(crate) const HISTORY: &str = "0000000000000001 0000000000000007 0 1000 creat
 const HEADER: &str = "0000000000000000 0000000000000007 3 2000 ";
 
 /// The fields of a line that are not read yet.
+#[derive(Drop)]
 struct Fields<'a> {
     alloc: Global,
     rest: &'a str,
