@@ -5,12 +5,12 @@ ghost use Rattle.std.specs.String.{string_bytes};
 ghost use Rattle.zk_prepare.specs.Refusals.{Gives};
 ghost use Rattle.zk_prepare.specs.Requests.{are_flags, is_ephemeral, is_sequential, numbered, path_in, place_below, create_below, create};
 
-use crate::overlay::Overlay;
 use crate::refusal::Refusal;
 use crate::texts::{copy_of, demand, is_legible, kept_acl, path_in, text_above};
 use crate::versions::one_more;
 use std::alloc::Global;
 use zk_acl::{Acls, CREATE, Id, allows};
+use zk_overlay::Overlay;
 use zk_path::{NoMemory, Path, sequence};
 use zk_table::codes::{BAD_ARGUMENTS, NO_AUTH, NO_CHILDREN_FOR_EPHEMERALS, NO_NODE, NODE_EXISTS};
 use zk_table::{Content, Node, Sub};
@@ -47,12 +47,7 @@ fn numbered(alloc: Global, text: &str, flags: i32, creates: i32) -> Result<Strin
 }
 
 /// The path that the text of a request comes to, below this parent.
-fn numbered_path(
-    alloc: Global,
-    text: &str,
-    flags: i32,
-    creates: i32,
-) -> Result<Path, Refusal>
+fn numbered_path(alloc: Global, text: &str, flags: i32, creates: i32) -> Result<Path, Refusal>
     ensures { Gives result (path_in (numbered text.now flags creates)) }
 {
     let path = numbered(alloc, text, flags, creates)?;

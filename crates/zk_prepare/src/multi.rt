@@ -8,10 +8,10 @@ ghost use Rattle.zk_prepare.specs.Requests.{part_on, next_part, parts_on};
 use crate::call::Part;
 use crate::create::create;
 use crate::delete::delete;
-use crate::overlay::Overlay;
 use crate::refusal::Refusal;
 use crate::versions::{check, set_data};
 use zk_acl::Id;
+use zk_overlay::Overlay;
 use zk_path::NoMemory;
 use zk_table::codes::RUNTIME_INCONSISTENCY;
 use zk_table::{Sub, Txn};
@@ -38,12 +38,7 @@ fn part_on(nodes: &Overlay<'_>, auths: &[Id], part: &Part) -> Result<Sub, Refusa
 }
 
 /// What a part comes to, or the error in its place. Behind a refused part no part is looked at.
-fn next_part(
-    nodes: &Overlay<'_>,
-    auths: &[Id],
-    refused: bool,
-    part: &Part,
-) -> Result<Sub, NoMemory>
+fn next_part(nodes: &Overlay<'_>, auths: &[Id], refused: bool, part: &Part) -> Result<Sub, NoMemory>
     ensures { IfOk result (λ made. made ≡ next_part nodes.now auths.now refused part.now) }
 {
     if refused {

@@ -48,13 +48,26 @@ fn limits_of_numbers_and_deadlines(rt: HostRuntime) {
     assert_eq!(rt; clamp(30000), 30000);
     assert_eq!(rt; clamp(50000), 40000);
     let told = around_a_deadline(rt.alloc());
-    assert!(rt; matches!(&told, Ok(told) if told.as_str() == "[] [7] [] []"), "{told:?}");
+    assert!(rt;
+        matches!(&told, Ok(told) if told.as_str() == "[] [7] [] []"),
+        "{told:?}"
+    );
     let told = in_order(rt.alloc());
     let expected = "[1, -9223372036854775808] [1, -9223372036854775808, -1]";
-    assert!(rt; matches!(&told, Ok(told) if told.as_str() == expected), "{told:?}");
-    let told = ops_of(rt.alloc(), HISTORY, &["createSession 1000", "createSession 50000"]);
+    assert!(rt;
+        matches!(&told, Ok(told) if told.as_str() == expected),
+        "{told:?}"
+    );
+    let told = ops_of(
+        rt.alloc(),
+        HISTORY,
+        &["createSession 1000", "createSession 50000"],
+    );
     let expected = "createSession 4000\ncreateSession 40000\n";
-    assert!(rt; matches!(&told, Ok(told) if told.as_str() == expected), "{told:?}");
+    assert!(rt;
+        matches!(&told, Ok(told) if told.as_str() == expected),
+        "{told:?}"
+    );
 }
 
 /// What setting so many bytes of `/a` comes to: the size of its record, and the code where it is an error.
@@ -85,10 +98,16 @@ fn sized(alloc: Global, prep: &Prep, bytes: usize) -> Result<(u64, Option<i32>),
 /// The longest content whose record is prepared, and one byte more.
 fn around_the_limit(alloc: Global) -> Result<((u64, Option<i32>), (u64, Option<i32>)), ListCause> {
     let prep = leader_after(alloc, HISTORY)?;
-    Ok((sized(alloc, &prep, 1_048_530)?, sized(alloc, &prep, 1_048_531)?))
+    Ok((
+        sized(alloc, &prep, 1_048_530)?,
+        sized(alloc, &prep, 1_048_531)?,
+    ))
 }
 
 #[test]
 fn largest_prepared_record(rt: HostRuntime) {
-    assert_eq!(rt; around_the_limit(rt.alloc()), Ok(((1_048_576, None), (36, Some(-8)))));
+    assert_eq!(rt;
+        around_the_limit(rt.alloc()),
+        Ok(((1_048_576, None), (36, Some(-8))))
+    );
 }

@@ -33,8 +33,12 @@ fn refusals_of_creates_come_in_their_order(rt: HostRuntime) {
             "create \"/e/f\" x 1 31 \"world\" \"anyone\" 2",
         ],
     );
-    let expected = "error -8\nerror -8\nerror -114\nerror -114\nerror -101\nerror -102\nerror -8\nerror -8\nerror -8\nerror -8\nerror -110\nerror -110\nerror -108\n";
-    assert!(rt; matches!(&told, Ok(told) if told.as_str() == expected), "{told:?}");
+    let expected =
+        "error -8\nerror -8\nerror -114\nerror -114\nerror -101\nerror -102\nerror -8\nerror -8\nerror -8\nerror -8\nerror -110\nerror -110\nerror -108\n";
+    assert!(rt;
+        matches!(&told, Ok(told) if told.as_str() == expected),
+        "{told:?}"
+    );
 }
 
 #[test]
@@ -55,8 +59,12 @@ fn refusals_of_deletes_come_in_their_order(rt: HostRuntime) {
             "delete \"/a\" -1",
         ],
     );
-    let expected = "error -8\nerror -8\nerror -8\nerror -8\nerror -101\nerror -102\nerror -103\nerror -111\ndelete \"/a/b\"\ndelete \"/a\"\n";
-    assert!(rt; matches!(&told, Ok(told) if told.as_str() == expected), "{told:?}");
+    let expected =
+        "error -8\nerror -8\nerror -8\nerror -8\nerror -101\nerror -102\nerror -103\nerror -111\ndelete \"/a/b\"\ndelete \"/a\"\n";
+    assert!(rt;
+        matches!(&told, Ok(told) if told.as_str() == expected),
+        "{told:?}"
+    );
 }
 
 #[test]
@@ -86,7 +94,10 @@ fn refusals_of_sets_and_checks_come_in_their_order(rt: HostRuntime) {
     let expected = "error -8\nerror -101\nerror -102\nerror -103\nsetData \"/a\" - 1\n\
         error -8\nerror -114\nerror -101\nerror -102\nerror -103\nsetACL \"/a\" 1 31 \"world\" \"anyone\" 1\n\
         multi ; error -8\nmulti ; error -101\nmulti ; error -102\nmulti ; error -103\nmulti ; check \"/a\" 2\n";
-    assert!(rt; matches!(&told, Ok(told) if told.as_str() == expected), "{told:?}");
+    assert!(rt;
+        matches!(&told, Ok(told) if told.as_str() == expected),
+        "{told:?}"
+    );
 }
 
 #[test]
@@ -111,5 +122,8 @@ fn without_a_session_all_is_refused_but_opening_one(rt: HostRuntime) {
         0000000000000014 0000000000000007 3 2000 error -112\n\
         0000000000000015 0000000000000007 3 2000 error -112\n\
         0000000000000016 0000000000000016 3 2000 createSession 30000\n";
-    assert!(rt; matches!(&told, Ok(told) if told.as_str() == expected), "{told:?}");
+    assert!(rt;
+        matches!(&told, Ok(told) if told.as_str() == expected),
+        "{told:?}"
+    );
 }

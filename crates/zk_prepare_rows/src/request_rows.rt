@@ -1,6 +1,8 @@
 //! What requests come to.
 
-use crate::asking::{HISTORY, call_of, leader_after, lines_of, machine_after, ops_of, submit, txns_of};
+use crate::asking::{
+    HISTORY, call_of, leader_after, lines_of, machine_after, ops_of, submit, txns_of,
+};
 use std::alloc::Global;
 use zk_listing::{ListCause, push_line, push_result_line};
 use zk_machine::{Machine, MachineFault};
@@ -31,7 +33,10 @@ fn two_creates_of_one_path(rt: HostRuntime) {
         "0000000000000002 0000000000000007 3 2000 create \"/q\" x 1 31 \"world\" \"anyone\" p 1\n\
         0000000000000003 0000000000000007 3 2000 error -110\n\
         0000000000000004 0000000000000007 3 2000 error -110\n";
-    assert!(rt; matches!(&told, Ok(told) if told.as_str() == expected), "{told:?}");
+    assert!(rt;
+        matches!(&told, Ok(told) if told.as_str() == expected),
+        "{told:?}"
+    );
 }
 
 const FAILED_MULTI: &str =
@@ -53,15 +58,27 @@ fn last_answer(alloc: Global, history: &str, line: &str) -> Result<String, Machi
 
 #[test]
 fn failed_multi_changes_nothing(rt: HostRuntime) {
-    let told = lines_of(rt.alloc(), HISTORY, &[FAILED_MULTI, "delete \"/b\" -1", "delete \"/a\" 0"]);
-    let expected = "0000000000000010 0000000000000007 3 2000 multi ; create \"/b\" x 1 31 \"world\" \"anyone\" p 2 ; error -103 ; error -2\n\
+    let told = lines_of(
+        rt.alloc(),
+        HISTORY,
+        &[FAILED_MULTI, "delete \"/b\" -1", "delete \"/a\" 0"],
+    );
+    let expected =
+        "0000000000000010 0000000000000007 3 2000 multi ; create \"/b\" x 1 31 \"world\" \"anyone\" p 2 ; error -103 ; error -2\n\
         0000000000000011 0000000000000007 3 2000 error -101\n\
         0000000000000012 0000000000000007 3 2000 delete \"/a\"\n";
-    assert!(rt; matches!(&told, Ok(told) if told.as_str() == expected), "{told:?}");
-    let multi = "0000000000000010 0000000000000007 3 2000 multi ; create \"/b\" x 1 31 \"world\" \"anyone\" p 2 ; error -103 ; error -2\n";
+    assert!(rt;
+        matches!(&told, Ok(told) if told.as_str() == expected),
+        "{told:?}"
+    );
+    let multi =
+        "0000000000000010 0000000000000007 3 2000 multi ; create \"/b\" x 1 31 \"world\" \"anyone\" p 2 ; error -103 ; error -2\n";
     let answer = last_answer(rt.alloc(), HISTORY, multi);
     let expected = "result 0000000000000010 -103 - - ; 0 \"/b\" - ; -103 - - ; -2 - -";
-    assert!(rt; matches!(&answer, Ok(answer) if answer.as_str() == expected), "{answer:?}");
+    assert!(rt;
+        matches!(&answer, Ok(answer) if answer.as_str() == expected),
+        "{answer:?}"
+    );
 }
 
 #[test]
@@ -78,13 +95,17 @@ fn later_parts_see_what_earlier_ones_changed(rt: HostRuntime) {
             "multi",
         ],
     );
-    let expected = "multi ; create \"/b\" x 1 31 \"world\" \"anyone\" p 2 ; setData \"/b\" x6869 1 ; error -8\n\
+    let expected =
+        "multi ; create \"/b\" x 1 31 \"world\" \"anyone\" p 2 ; setData \"/b\" x6869 1 ; error -8\n\
         multi ; create \"/b\" x 1 31 \"world\" \"anyone\" p 2 ; create \"/b/0000000000\" x 1 31 \"world\" \"anyone\" p 1 ; error -111 ; error -2\n\
         multi ; create \"/b\" x 1 31 \"world\" \"anyone\" p 2 ; create \"/b/0000000000\" x 1 31 \"world\" \"anyone\" p 1 ; create \"/b/0000000001\" x 1 31 \"world\" \"anyone\" p 2 ; delete \"/b/0000000000\" ; delete \"/b/0000000001\" ; delete \"/b\" ; create \"/b\" - 1 31 \"world\" \"anyone\" e 3 ; error -108\n\
         multi ; setData \"/a\" x 1 ; setData \"/a\" - 2 ; check \"/a\" 3 ; error -103\n\
         multi ; delete \"/a\" ; create \"/a\" - 1 31 \"world\" \"anyone\" p 2 ; check \"/a\" 1 ; delete \"/a\"\n\
         multi\n";
-    assert!(rt; matches!(&told, Ok(told) if told.as_str() == expected), "{told:?}");
+    assert!(rt;
+        matches!(&told, Ok(told) if told.as_str() == expected),
+        "{told:?}"
+    );
 }
 
 const SEQUENTIAL: &str = "create \"/s/\" x 1 31 \"world\" \"anyone\" 2";
@@ -123,14 +144,20 @@ fn sequential_names_wrap(rt: HostRuntime) {
         create \"/s/0000000002\" x 1 31 \"world\" \"anyone\" p 3\n\
         delete \"/s/x\"\n\
         create \"/s/0000000003\" x 1 31 \"world\" \"anyone\" p 4\n";
-    assert!(rt; matches!(&told, Ok(told) if told.as_str() == expected), "{told:?}");
+    assert!(rt;
+        matches!(&told, Ok(told) if told.as_str() == expected),
+        "{told:?}"
+    );
     assert_eq!(rt; child_version(rt.alloc(), &asks), Ok(Some(5)));
     let wrapping = "create \"/w/\" x 1 31 \"world\" \"anyone\" 3";
     let told = ops_of(rt.alloc(), PARENTS, &[wrapping, wrapping, wrapping]);
     let expected = "create \"/w/2147483647\" x 1 31 \"world\" \"anyone\" e -2147483648\n\
         create \"/w/-2147483648\" x 1 31 \"world\" \"anyone\" e -2147483647\n\
         create \"/w/-2147483647\" x 1 31 \"world\" \"anyone\" e -2147483646\n";
-    assert!(rt; matches!(&told, Ok(told) if told.as_str() == expected), "{told:?}");
+    assert!(rt;
+        matches!(&told, Ok(told) if told.as_str() == expected),
+        "{told:?}"
+    );
 }
 
 /// What the call comes to that closes the session, at its time, and what a second one does.
@@ -147,5 +174,8 @@ fn a_session_is_closed_once(rt: HostRuntime) {
     let told = closed_twice(rt.alloc());
     let expected = "0000000000000003 0000000000000007 0 3000 closeSession\n\
         0000000000000004 0000000000000007 0 4000 error -112\n";
-    assert!(rt; matches!(&told, Ok(told) if told.as_str() == expected), "{told:?}");
+    assert!(rt;
+        matches!(&told, Ok(told) if told.as_str() == expected),
+        "{told:?}"
+    );
 }

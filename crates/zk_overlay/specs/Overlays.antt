@@ -4,7 +4,7 @@ use Rattle.std.specs.FinMap.{FinMap, entries, get, insert, remove}
 use Rattle.std.specs.Ordering.{eq_by_cmp}
 use Rattle.zk_table.specs.declared.node.Node.{Node}
 use Rattle.zk_table.specs.States.{NodeMap, path_cmp, children_of}
-use Rattle.zk_prepare.specs.declared.shades.Shade.{Shade}
+use Rattle.zk_overlay.specs.declared.shades.Shade.{Shade}
 
 -- paths to what stands there in place of what lies below
 abbrev pub ShadeMap : Type 0

@@ -8,7 +8,7 @@ use Rattle.zk_table.specs.declared.node.Node.{Node}
 use Rattle.zk_table.specs.States.{NodeMap, path_cmp, is_child_of, children_of}
 use Rattle.zk_tree.proofs.Kept.{path_cmp-IsAntisymmetric}
 use Rattle.zk_tree.proofs.Lists.{same_is, rising_keys, keys_are, len-keys, any-children_of}
-use Rattle.zk_prepare.specs.Overlays.{count_of}
+use Rattle.zk_overlay.specs.Overlays.{count_of}
 
 -- ---- the nodes at the paths that pass a test
 

@@ -1,21 +1,21 @@
 -- Nodes with changes laid over them.
-use Rattle.std.proofs.Common.{◌≡◌, ℕ, ◌+◌, ◌-◌, Bool, true, false, cond, not, ◌&&◌, List, [], ◌∷◌, length, Option, Some, None, is_some, is_none, refl, sym, ap, subst, ◌∙◌}
+use Rattle.std.proofs.Common.{◌≡◌, ℕ, pos, ◌+◌, Bool, true, false, cond, not, ◌&&◌, ◌||◌, List, [], ◌∷◌, length, Option, Some, None, is_some, refl, sym, ap, ◌∙◌}
 use Rattle.std.proofs.lemmas.Bool.{false≢true}
 use Rattle.std.proofs.lemmas.Cmp.{nat_list_cmp_total}
 use Rattle.std.specs.FinMap as finite
 use Rattle.std.specs.FinMap.{find}
+use Rattle.std.specs.List.{list_any}
 use Rattle.std.specs.Option.{option_map}
 use Rattle.std.specs.Ordering.{eq_by_cmp}
-use Rattle.zk_path.specs.Paths.{parent_of}
 use Rattle.zk_table.specs.declared.node.Node.{Node}
-use Rattle.zk_table.specs.States.{NodeMap, path_cmp, is_child_of, children_of, changed, changed_found, changed_above, parent_changed}
-use Rattle.zk_tree.specs.Trees.{IsTree}
+use Rattle.zk_table.specs.States.{NodeMap, path_cmp, is_child_of, children_of, changed, changed_found}
+use Rattle.zk_tree.specs.Trees.{IsTree, owner_at}
 use Rattle.zk_tree.proofs.Kept.{path_cmp-IsAntisymmetric}
-use Rattle.zk_tree.proofs.Lists.{same_is, same_itself}
-use Rattle.zk_machine.proofs.Families.{childless}
-use Rattle.zk_prepare.specs.declared.shades.Shade.{Shade}
-use Rattle.zk_prepare.specs.Overlays.{ShadeMap, placed, all_placed, nodes_over, count_of, counted, IsCounted, IsRecount}
-use Rattle.zk_prepare.proofs.Counts.{count-insert, count-remove}
+use Rattle.zk_tree.proofs.Lists.{same_is, same_itself, any-children_of}
+use Rattle.zk_tree.proofs.Branching.{child_parent}
+use Rattle.zk_overlay.specs.declared.shades.Shade.{Shade}
+use Rattle.zk_overlay.specs.Overlays.{ShadeMap, placed, all_placed, nodes_over, count_of, counted, IsCounted, IsRecount}
+use Rattle.zk_overlay.proofs.Counts.{count-insert}
 
 -- ---- what stands at a path
 
@@ -72,9 +72,25 @@ placed_change m path change = by_node (finite.get m path) refl
 pub counted-empty : (m : NodeMap) → IsCounted finite.empty m
 counted-empty m = record { counts = λ q. ap (λ x. counted x (count_of m q)) (finite.get-empty path_cmp q) ∙ ap (λ n. count_of n q) (sym (over-empty m)) }
 
+no_members : (xs : List (List ℕ)) → ((q : List ℕ) → list_any (eq_by_cmp path_cmp q) xs ≡ false) → 0 ≡ length xs
+no_members [] none = refl
+no_members (x ∷ xs) none = absurd (false≢true (sym (none x) ∙ ap (λ b. b || list_any (eq_by_cmp path_cmp x) xs) (same_itself x)))
+
 -- where no node is, none has a child
 pub none_below : (m : NodeMap) (path : List ℕ) → IsTree m → finite.get m path ≡ None → 0 ≡ count_of m path
-none_below m path tree none = sym (childless m path (λ child there is. false≢true (sym (ap (λ x. is_some (option_map (λ (n : Node). n.owner) x)) none) ∙ ap is_some (tree.parents child path there is))))
+none_below m path tree none = no_members (children_of m path) (λ q. sym (any-children_of m path q) ∙ no_child q)
+  where
+    absent : owner_at m path ≡ Some (pos 0) → ⊥
+    absent e = false≢true (sym (ap (λ x. is_some (option_map (λ (n : Node). n.owner) x)) none) ∙ ap is_some e)
+
+    no_child : (q : List ℕ) → (is_child_of path q && finite.contains_key m q) ≡ false
+    no_child q = elim (is_child_of path q) as (λ b. is_child_of path q ≡ b → (b && finite.contains_key m q) ≡ false) [
+      | true ↦ λ c. elim (finite.contains_key m q) as (λ b. finite.contains_key m q ≡ b → b ≡ false) [
+        | true ↦ λ there. absurd (absent (tree.parents q path there (child_parent path q c)))
+        | false ↦ λ _. refl
+      ] refl
+      | false ↦ λ _. refl
+    ] refl
 
 module _ (s : ShadeMap) (m : NodeMap) (is : IsCounted s m) (path above : List ℕ) (own upper : Shade) (recount : IsRecount (nodes_over s m) (placed above upper.node (placed path own.node (nodes_over s m))) path above own.children upper.children) where
   abbrev both : ShadeMap
@@ -99,7 +115,7 @@ module _ (s : ShadeMap) (m : NodeMap) (is : IsCounted s m) (path above : List �
 
 -- ---- a node in the place of another one
 
-some_there : (m : NodeMap) (path : List ℕ) (node : Node) (q : List ℕ) → finite.contains_key m path ≡ true → count_of (finite.insert m path node) q ≡ count_of m q
+pub some_there : (m : NodeMap) (path : List ℕ) (node : Node) (q : List ℕ) → finite.contains_key m path ≡ true → count_of (finite.insert m path node) q ≡ count_of m q
 some_there m path node q there = count-insert m path node q ∙ ap (λ b. cond (is_child_of q path && not b) (count_of m q + 1) (count_of m q)) there ∙ never (is_child_of q path) _ _
   where
     never : (b : Bool) (x y : ℕ) → cond (b && false) x y ≡ y

@@ -29,8 +29,8 @@ impl Model for Shades {
     ghost use Rattle.std.specs.FinMap as finite;
     ghost use Rattle.zk_table.specs.States.{path_cmp};
     ghost use Rattle.zk_tree.specs.Views.{map_of};
-    ghost use Rattle.zk_prepare.specs.declared.shades.Shade.{Shade};
-    ghost use Rattle.zk_prepare.specs.contracts.shades.Shade as shade;
+    ghost use Rattle.zk_overlay.specs.declared.shades.Shade.{Shade};
+    ghost use Rattle.zk_overlay.specs.contracts.shades.Shade as shade;
 
     ghost Value = { finite.FinMap path_cmp Shade };
 

@@ -1,5 +1,3 @@
-//! What the later parts of a multi see: the tree with what the earlier ones change. It costs what they touch.
-
 ghost use Rattle.std.specs.Prelude.{◌≡◌, None, Some, true, IfOk, length, is_some, option_map};
 ghost use Rattle.std.specs.FinMap as finite;
 ghost use Rattle.std.specs.Option.{option_copied};
@@ -7,10 +5,9 @@ ghost use Rattle.zk_table.specs.Multis.{apply_part};
 ghost use Rattle.zk_table.specs.Nodes.{with_child, without_child};
 ghost use Rattle.zk_table.specs.Operations.{create, create_fault, delete, delete_fault, set_data, without};
 ghost use Rattle.zk_table.specs.States.{children_of, parent_changed};
-ghost use Rattle.zk_prepare.specs.Overlays.{placed, IsRecount};
+ghost use Rattle.zk_overlay.specs.Overlays.{placed, IsRecount};
 
 use crate::shades::{Shade, Shades};
-use crate::texts::copy_of;
 use std::alloc::Global;
 use std::marker::Model;
 use zk_acl::Acls;
@@ -20,7 +17,7 @@ use zk_tree::Tree;
 
 /// The nodes of a tree with changes laid over them, which leave the tree as it is. One that is refused memory is gone.
 #[derive(Drop)]
-pub(crate) struct Overlay<'a> {
+pub struct Overlay<'a> {
     alloc: Global,
     tree: &'a Tree,
     shades: Shades,
@@ -31,7 +28,7 @@ impl<'a> Model for Overlay<'a> {
     ghost use Rattle.std.specs.FinMap as finite;
     ghost use Rattle.zk_table.specs.States.{NodeMap};
     ghost use Rattle.zk_table.specs.contracts.node.Node as node;
-    ghost use Rattle.zk_prepare.specs.Overlays.{nodes_over, IsCounted};
+    ghost use Rattle.zk_overlay.specs.Overlays.{nodes_over, IsCounted};
 
     ghost Value = { NodeMap };
 
@@ -53,9 +50,19 @@ fn count_in(tree: &Tree, path: &str) -> usize
     }
 }
 
+/// A node's content once more.
+fn copy_of(content: &Option<Content>) -> Result<Option<Content>, NoMemory>
+    ensures { IfOk result (λ copy. copy ≡ content.now) }
+{
+    match content {
+        Some(content) => Ok(Some(content.copy()?)),
+        None => Ok(None),
+    }
+}
+
 impl<'a> Overlay<'a> {
     /// The nodes of a tree.
-    pub(crate) fn new(alloc: Global, tree: &'a Tree) -> Overlay<'a>
+    pub fn new(alloc: Global, tree: &'a Tree) -> Overlay<'a>
         ensures { result ≡ tree.now }
     {
         Overlay {
@@ -66,12 +73,12 @@ impl<'a> Overlay<'a> {
     }
 
     /// What changes are kept in, and what is made of the nodes.
-    pub(crate) fn allocator(&self) -> Global {
+    pub fn allocator(&self) -> Global {
         self.alloc
     }
 
     /// The node at a path.
-    pub(crate) fn get(&self, path: &str) -> Option<&Node>
+    pub fn get(&self, path: &str) -> Option<&Node>
         ensures { option_copied result ≡ finite.get self.now path.now }
     {
         match self.shades.get(path) {
@@ -81,7 +88,7 @@ impl<'a> Overlay<'a> {
     }
 
     /// How many children a path has.
-    pub(crate) fn child_count(&self, path: &str) -> usize
+    pub fn child_count(&self, path: &str) -> usize
         ensures { result ≡ length (children_of self.now path.now) }
     {
         match self.shades.get(path) {
@@ -91,7 +98,7 @@ impl<'a> Overlay<'a> {
     }
 
     /// The nodes after a part of a multi.
-    pub(crate) fn with_part(self, txn: &Txn, part: &Sub) -> Result<Overlay<'a>, NoMemory>
+    pub fn with_part(self, txn: &Txn, part: &Sub) -> Result<Overlay<'a>, NoMemory>
         ensures { IfOk result (λ after. after ≡ (apply_part txn.now self.entry part.now).nodes) }
     {
         match part {

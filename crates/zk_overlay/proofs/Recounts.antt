@@ -1,6 +1,6 @@
 -- The numbers of children after a node came, or went.
-use Rattle.std.proofs.Common.{◌≡◌, ℕ, zero, suc, ◌+◌, ◌-◌, Bool, true, false, cond, not, ◌&&◌, nat_lt, List, length, Option, Some, None, is_some, is_none, refl, sym, ap, ◌∙◌}
-use Rattle.std.proofs.lemmas.Bool.{false≢true}
+use Rattle.std.proofs.Common.{◌≡◌, ℕ, ◌+◌, ◌-◌, ◌≤◌, Bool, true, false, cond, not, ◌&&◌, nat_lt, List, length, Option, Some, None, is_some, is_none, refl, sym, ap, subst, ◌∙◌, arith}
+use Rattle.std.proofs.lemmas.Bool.{false≢true, ltb-false}
 use Rattle.std.proofs.lemmas.Cmp.{nat_list_cmp_total}
 use Rattle.std.specs.FinMap as finite
 use Rattle.std.specs.Option.{option_map}
@@ -13,9 +13,9 @@ use Rattle.zk_table.specs.Operations.{create_fault, parent_fault, delete_fault}
 use Rattle.zk_table.specs.States.{NodeMap, path_cmp, is_child_of, is_parent, children_of, changed, changed_found, changed_above, parent_changed}
 use Rattle.zk_tree.proofs.Kept.{tests_alike}
 use Rattle.zk_tree.proofs.Lists.{same_is, same_itself, no_children}
-use Rattle.zk_prepare.specs.Overlays.{placed, count_of, IsRecount}
-use Rattle.zk_prepare.proofs.Counts.{count-insert, count-remove}
-use Rattle.zk_prepare.proofs.Laying.{placed_change, some_there}
+use Rattle.zk_overlay.specs.Overlays.{placed, count_of, IsRecount}
+use Rattle.zk_overlay.proofs.Counts.{count-insert, count-remove}
+use Rattle.zk_overlay.proofs.Laying.{placed_change, some_there}
 
 -- a change of a node leaves all numbers as they are
 count-changed : (m : NodeMap) (path : List ℕ) (change : Node → Node) (q : List ℕ) → count_of (changed m path change) q ≡ count_of m q
@@ -140,6 +140,10 @@ module _ (m : NodeMap) (path above : List ℕ) (below : Some above ≡ parent_of
 pub delete_needs_parent : (m : NodeMap) (path : List ℕ) → delete_fault m path ≡ None → None ≡ parent_of path → ⊥
 delete_needs_parent m path e none = none_not_some (ap (λ p. cond (is_none p) (Some bad_arguments) (cond (finite.contains_key m path) (cond (nat_lt 0 (count_of m path)) (Some not_empty) None) (Some no_node))) none ∙ e)
 
+by_test : (n : ℕ) (b : Bool) → nat_lt 0 n ≡ b → cond b (Some not_empty) None ≡ None → n ≡ 0
+by_test n true h e = absurd (none_not_some e)
+by_test n false h e = let least : n ≤ 0 = ltb-false 0 n h in omega arith
+
 module _ (m : NodeMap) (path above : List ℕ) (below : Some above ≡ parent_of path) (fits : delete_fault m path ≡ None) where
   known_node : cond (finite.contains_key m path) (cond (nat_lt 0 (count_of m path)) (Some not_empty) None) (Some no_node) ≡ None
   known_node = ap (λ p. cond (is_none p) (Some bad_arguments) (cond (finite.contains_key m path) (cond (nat_lt 0 (count_of m path)) (Some not_empty) None) (Some no_node))) below ∙ fits
@@ -155,8 +159,7 @@ module _ (m : NodeMap) (path above : List ℕ) (below : Some above ≡ parent_of
   delete_childless = by_count (count_of m path) (ap (λ b. cond b (cond (nat_lt 0 (count_of m path)) (Some not_empty) None) (Some no_node)) (sym delete_there) ∙ known_node)
     where
       by_count : (n : ℕ) → cond (nat_lt 0 n) (Some not_empty) None ≡ None → n ≡ 0
-      by_count zero e = refl
-      by_count (suc n) e = absurd (none_not_some e)
+      by_count n e = by_test n _ refl e
 
   pub delete_apart : eq_by_cmp path_cmp above path ≡ false
   delete_apart = by_test _ refl
@@ -167,3 +170,24 @@ module _ (m : NodeMap) (path above : List ℕ) (below : Some above ≡ parent_of
         where
           own_child : Some path ≡ parent_of path → (is_child_of path path && finite.contains_key m path) ≡ true
           own_child own = (λ i. is_parent (sym own i) path && delete_there i) ∙ ap (λ b. b && true) (tests_alike path path ∙ same_itself path)
+
+-- ---- as the code has it: by the path's text, and with the node above as it was made
+
+module _ (m : NodeMap) (path above key : List ℕ) (text : key ≡ path) (below : Some above ≡ parent_of path) (change : Node → Node) (upper : Option Node) (made : upper ≡ option_map change (finite.get m above)) where
+  module _ (fits : create_fault m path ≡ None) (node : Node) where
+    pub recounted_with : (own others : ℕ) → own ≡ count_of m path → others ≡ count_of m above + 1 → IsRecount m (placed above upper (finite.insert m key node)) key above own others
+    recounted_with own others is more =
+        subst (λ k. IsRecount m (placed above upper (finite.insert m k node)) k above own others) (sym text)
+        (subst (λ u. IsRecount m (placed above u (finite.insert m path node)) path above own others) (sym made) (recount_new m path above below (create_apart m path above below fits) change node (create_free m path above below fits) own others is more))
+
+    pub changed_with : placed above upper (finite.insert m key node) ≡ parent_changed (finite.insert m path node) path change
+    changed_with = (λ i. placed above (made i) (finite.insert m (text i) node)) ∙ with_new_is m path above below (create_apart m path above below fits) change node
+
+  module _ (fits : delete_fault m path ≡ None) where
+    pub recounted_without : (others : ℕ) → others ≡ count_of m above - 1 → IsRecount m (placed above upper (finite.remove m key)) key above 0 others
+    recounted_without others less =
+        subst (λ k. IsRecount m (placed above upper (finite.remove m k)) k above 0 others) (sym text)
+        (subst (λ u. IsRecount m (placed above u (finite.remove m path)) path above 0 others) (sym made) (recount_without m path above below (delete_apart m path above below fits) change (delete_there m path above below fits) (delete_childless m path above below fits) others less))
+
+    pub changed_without : placed above upper (finite.remove m key) ≡ parent_changed (finite.remove m path) path change
+    changed_without = (λ i. placed above (made i) (finite.remove m (text i))) ∙ without_is m path above below (delete_apart m path above below fits) change
