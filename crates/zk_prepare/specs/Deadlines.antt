@@ -1,5 +1,5 @@
 -- Timeouts and deadlines of sessions: ZooKeeper Programmer's Guide, "ZooKeeper Sessions". All are milliseconds.
-use Rattle.std.specs.Prelude.{ℕ, ℤ, pos, ◌+ℤ◌, List, map, filter, int_le}
+use Rattle.std.specs.Prelude.{ℕ, ℤ, pos, ◌+ℤ◌, Bool, List, map, filter, int_le}
 use Rattle.std.specs.Int.{w64, cast_unsigned, cast_signed, saturate_signed, int_max, int_min}
 use Rattle.std.specs.Ordering.{nat_cmp}
 use Rattle.std.specs.FinMap.{FinMap, entries, insert, remove}
@@ -22,6 +22,10 @@ touched deadlines session timeout now = insert deadlines (cast_unsigned w64 sess
 abbrev pub forgotten : DeadlineMap → ℤ → DeadlineMap
 forgotten deadlines session = remove deadlines (cast_unsigned w64 session)
 
--- the sessions whose deadline has come, in the order of their digits; a deadline has come at its own moment
+-- a deadline has come at its own moment
+abbrev pub has_come : ℤ → ℕ × ℤ → Bool
+has_come now entry = int_le entry.1 now
+
+-- the sessions whose deadline has come, in the order of their digits
 abbrev pub expired_at : DeadlineMap → ℤ → List ℤ
-expired_at deadlines now = map (λ e. cast_signed w64 e.0) (filter (λ e. int_le e.1 now) (entries deadlines))
+expired_at deadlines now = map (λ e. cast_signed w64 e.0) (filter (has_come now) (entries deadlines))

@@ -79,6 +79,10 @@ one_more number = int_wrap w32 (number +ℤ pos 1)
 abbrev pub numbered : List ℕ → ℤ → ℤ → List ℕ
 numbered text flags creates = if is_sequential flags then text ++ sequence creates else text
 
+-- a node without owner, below which others may stand
+abbrev pub is_persistent : Node → Bool
+is_persistent node = int_eq node.owner (pos 0)
+
 -- where the node may stand, below this parent
 abbrev pub place_below : NodeMap → List Id → List ℕ → ℤ → Node → Result (List ℕ) ℤ
 place_below nodes auths text flags parent = do
@@ -86,7 +90,7 @@ place_below nodes auths text flags parent = do
   known ← demand (are_flags flags) bad_arguments
   path ← path_in (numbered text flags parent.creates)
   free ← demand (not (contains_key nodes path)) node_exists
-  lasting ← demand (int_eq parent.owner (pos 0)) no_children_for_ephemerals
+  lasting ← demand (is_persistent parent) no_children_for_ephemerals
   Ok path
 
 abbrev pub create_below : NodeMap → List Id → List ℕ → Option (List ℕ) → List Acl → ℤ → Node → Result Sub ℤ

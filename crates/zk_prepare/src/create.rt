@@ -3,7 +3,7 @@
 ghost use Rattle.std.specs.Prelude.{◌≡◌, IfOk};
 ghost use Rattle.std.specs.String.{string_bytes};
 ghost use Rattle.zk_prepare.specs.Refusals.{Gives};
-ghost use Rattle.zk_prepare.specs.Requests.{are_flags, is_ephemeral, is_sequential, numbered, path_in, place_below, create_below, create};
+ghost use Rattle.zk_prepare.specs.Requests.{are_flags, is_persistent, is_ephemeral, is_sequential, numbered, path_in, place_below, create_below, create};
 
 use crate::refusal::Refusal;
 use crate::texts::{copy_of, demand, is_legible, kept_acl, path_in, text_above};
@@ -32,6 +32,13 @@ fn is_sequential(flags: i32) -> bool
     ensures { result ≡ is_sequential flags }
 {
     flags == 2 || flags == 3
+}
+
+/// Whether a node has no owner, so that others may stand below it.
+fn is_persistent(node: &Node) -> bool
+    ensures { result ≡ is_persistent node.now }
+{
+    node.owner == 0
 }
 
 /// The text of the node's path: a sequential one goes on with the number of its parent's creates.
@@ -68,7 +75,7 @@ fn place_below(
     demand(are_flags(flags), BAD_ARGUMENTS)?;
     let path = numbered_path(nodes.allocator(), text, flags, parent.creates)?;
     demand(nodes.get(path.text()).is_none(), NODE_EXISTS)?;
-    demand(parent.owner == 0, NO_CHILDREN_FOR_EPHEMERALS)?;
+    demand(is_persistent(parent), NO_CHILDREN_FOR_EPHEMERALS)?;
     Ok(path)
 }
 

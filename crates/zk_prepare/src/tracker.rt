@@ -2,7 +2,7 @@ ghost use Rattle.std.specs.Prelude.{◌≡◌, ◌<◌, ◌≤◌, length, Match
 ghost use Rattle.std.specs.FinMap as finite;
 ghost use Rattle.std.specs.Ordering.{nat_cmp};
 ghost use Rattle.zk_table.specs.Places.{place_of};
-ghost use Rattle.zk_prepare.specs.Deadlines.{clamp, deadline_of, touched, forgotten, expired_at};
+ghost use Rattle.zk_prepare.specs.Deadlines.{clamp, deadline_of, touched, forgotten, has_come, expired_at};
 
 use std::alloc::Global;
 use std::cmp::Ordering;
@@ -68,6 +68,13 @@ fn deadline_of(now: i64, timeout: i32) -> i64
     now.saturating_add(i64::from(timeout))
 }
 
+/// Whether a session's deadline has come; it has at its own moment.
+fn has_come(entry: &(u64, i64), now: i64) -> bool
+    ensures { result ≡ has_come now entry.exit.now }
+{
+    entry.1 <= now
+}
+
 impl Tracker {
     /// No session.
     pub fn new(alloc: Global) -> Tracker
@@ -91,9 +98,7 @@ impl Tracker {
     pub fn forget(&mut self, session: i64)
         ensures { self.new ≡ forgotten self.old session }
     {
-        if let Ok(at) = place_of(&self.entries, session.cast_unsigned()) {
-            self.entries.remove(at);
-        }
+        self.take(session.cast_unsigned());
     }
 
     /// The sessions whose deadline has come, in the order of their sixteen digits.
@@ -101,9 +106,9 @@ impl Tracker {
         ensures { IfOk result (λ sessions. sessions.items ≡ expired_at self.now now) }
     {
         let mut sessions = Vec::new(*self.entries.allocator());
-        for (session, deadline) in self.as_slice() {
-            if *deadline <= now {
-                sessions.push(session.cast_signed())?;
+        for entry in self.as_slice() {
+            if has_come(entry, now) {
+                sessions.push(entry.0.cast_signed())?;
             }
         }
         Ok(sessions)
@@ -114,6 +119,18 @@ impl Tracker {
         ensures { result.now ≡ finite.entries self.now }
     {
         self.entries.as_slice()
+    }
+
+    /// Takes a session's deadline away.
+    fn take(&mut self, session: u64)
+        ensures { self.new ≡ finite.remove self.old session }
+    {
+        match place_of(&self.entries, session) {
+            Ok(at) => {
+                self.entries.remove(at);
+            }
+            Err(_) => {}
+        }
     }
 
     /// Puts a deadline in place of a session's earlier one.
