@@ -1,5 +1,5 @@
 -- How a list of entries, each once, grows.
-use Rattle.std.proofs.Common.{◌≡◌, ℕ, ℤ, Bool, true, false, not, cond, ◌&&◌, ◌||◌, List, [], ◌∷◌, ◌++◌, filter, refl, ap, ap₂, sym, ◌∙◌, append_assoc, append-nil}
+use Rattle.std.proofs.Common.{◌≡◌, ℕ, ℤ, Bool, true, false, not, cond, ◌&&◌, ◌||◌, List, [], ◌∷◌, ◌++◌, filter, refl, ap, ap₂, sym, ◌∙◌, append-nil}
 use Rattle.std.specs.List.{list_any}
 use Rattle.std.proofs.lemmas.Bool.{and_parts}
 use Rattle.std.proofs.lemmas.Bool.Decides.{Decides-int_eq}
@@ -14,7 +14,7 @@ use Rattle.zk_acl.specs.declared.acl.Id.{Id}
 abbrev id_by : List ℕ → List ℕ → Id
 id_by scheme id = record { scheme = scheme; id = id }
 
-abbrev entry_by : ℤ → Id → Acl
+abbrev pub entry_by : ℤ → Id → Acl
 entry_by perms id = record { perms = perms; id = id }
 
 equal_ids : (a b : Id) → same_id a b ≡ true → a ≡ b
@@ -62,9 +62,6 @@ each_once-more (first ∷ entries) entry =
     ∙ behind_first first (same_acl first entry || (not (same_acl first entry) && is_kept entry kept)) (others first kept) entry
     ∙ ap (λ there. with_entry (same_acl first entry || there) (first ∷ others first kept) entry) (sym (is_kept-others first entry kept))
 
-pub Keeps-none : (kept : List Acl) → Keeps kept kept []
-Keeps-none kept before is = is ∙ ap each_once (sym (append-nil before))
-
 -- an entry that is kept already
 pub Keeps-same : (kept : List Acl) (entry : Acl) → is_kept entry kept ≡ true → Keeps kept kept (entry ∷ [])
 Keeps-same kept entry there before is =
@@ -74,7 +71,3 @@ Keeps-same kept entry there before is =
 pub Keeps-new : (old new : List Acl) (entry : Acl) → is_kept entry old ≡ false → new ≡ old ++ entry ∷ [] → Keeps old new (entry ∷ [])
 Keeps-new old new entry missing more before is =
     more ∙ ap (λ kept. kept ++ entry ∷ []) is ∙ ap (λ there. with_entry there (each_once before) entry) (sym (ap (is_kept entry) (sym is) ∙ missing)) ∙ sym (each_once-more before entry)
-
-pub Keeps-both : (old between new one other : List Acl) → Keeps old between one → Keeps between new other → Keeps old new (one ++ other)
-Keeps-both old between new one other first second before is =
-    second (before ++ one) (first before is) ∙ ap each_once (append_assoc before one other)

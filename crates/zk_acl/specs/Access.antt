@@ -1,5 +1,5 @@
 -- Access control: ZooKeeper Programmer's Guide, "ZooKeeper access control using ACLs".
-use Rattle.std.specs.Prelude.{ℕ, ℤ, pos, Bool, not, ◌&&◌, ◌||◌, ◌==◌, List, [], ◌∷◌, map, length, filter, flat_map, Option, Some, None, if◌then◌else◌, codes, bit_and, int_le}
+use Rattle.std.specs.Prelude.{ℕ, pos, Bool, not, ◌&&◌, ◌||◌, ◌==◌, List, [], ◌∷◌, map, length, filter, flat_map, Option, Some, None, if◌then◌else◌, codes, bit_and, int_le}
 use Rattle.std.specs.Int.{w32, cast_unsigned}
 use Rattle.std.specs.List.{list_any, list_all}
 use Rattle.std.specs.Ordering.{int_eq}

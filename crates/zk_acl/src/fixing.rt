@@ -95,5 +95,6 @@ fn keep(kept: &mut Vec<Acl>, perms: i32, who: &Id) -> Result<(), NoMemory>
 fn is_kept(kept: &[Acl], perms: i32, who: &Id) -> bool
     ensures { let entry : Entry = record { perms = perms; id = who.now } in result ≡ list_any (λ earlier. same_acl earlier entry) kept.now }
 {
-    kept.iter().any(|entry| entry.perms == perms && is_same(&entry.id, who))
+    kept.iter()
+        .any(|entry| entry.perms == perms && is_same(&entry.id, who))
 }

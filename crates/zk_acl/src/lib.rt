@@ -10,6 +10,7 @@ mod digests;
 mod fault;
 mod fixing;
 mod ids;
+mod sharing;
 mod stat;
 mod text;
 

@@ -7,8 +7,8 @@ use Rattle.std.specs.List.{AllByRecursion, flat_map}
 use Rattle.std.specs.Option.{option_and_then}
 use Rattle.std.specs.Str.{IsUtf8}
 use Rattle.zk_acl.specs.declared.acl.Acl.{Acl}
-use Rattle.zk_listing.specs.Spelling.{quoted, acl_entry_text, acl_text}
-use Rattle.zk_listing.specs.Listings.{IsListedAcl, AreListedAcls}
+use Rattle.zk_spelling.specs.Spelling.{quoted, acl_entry_text, acl_text}
+use Rattle.zk_spelling.specs.Listings.{IsListedAcl, AreListedAcls}
 use Rattle.zk_listing.specs.Reading.{IsEnd, behind, both, spaced, int_at, quoted_at, count_of, count_at, many_at, entry_of, entry_at, acl_at, int_from}
 use Rattle.zk_listing.proofs.Exact.{IsExact, bind_some, first_is, second_is, some_is, exact_field, exact_spaced, exact_both, exact_mapped}
 use Rattle.zk_listing.proofs.DecimalLaws.{int_field, IsNarrow, narrow32}

@@ -13,12 +13,13 @@ use Rattle.hex.specs.Hex.{IsBytes, decode_of, decode_sized, decode_pairs, pair_v
 use Rattle.hex.specs.declared.error.FromHexError.{FromHexError}
 use Rattle.hex.specs.declared.error.FromHexError.TheVariants.{InvalidHexCharacter, OddLength}
 use Rattle.hex.proofs.HexLemmas.{decode_of-even, decode_of-ok, decode_of-encode_lower, decode_sized-ok, decode_sized-twice, decode_sized-encode_lower}
-use Rattle.zk_listing.specs.Spelling.{id_digits, sixteen_digits, content_text}
-use Rattle.zk_listing.specs.Listings.{IsListedContent}
+use Rattle.zk_spelling.specs.Spelling.{id_digits, sixteen_digits, content_text}
+use Rattle.zk_spelling.specs.Listings.{IsListedContent}
 use Rattle.zk_listing.specs.Reading.{id_from, id_of_bytes, content_from, content_of_bytes, content_of_digits, is_end, past}
 use Rattle.std.specs.Option.{option_and_then}
 use Rattle.std.specs.Str.{bytes_eq}
 use Rattle.std.proofs.lemmas.Slice.Eq.{bytes_eq-Decides}
+use Rattle.zk_spelling.proofs.HexBytes.{IsBytes-tail, IsBytes-all, all-IsBytes}
 use Rattle.zk_listing.proofs.Exact.{IsExactField, some_is, bind_some, past_is}
 
 -- ---- digits
@@ -94,9 +95,6 @@ lower_again i (a ∷ b ∷ rest) bytes h lower =
     let spelled : encode_lower (p0.0 ∷ p3.0) ≡ a ∷ b ∷ rest = ap (λ (x : ℕ). x ∷ glyph (p0.0 % 16) ∷ encode_lower p3.0) first ∙ ap (λ (x : ℕ). a ∷ x ∷ encode_lower p3.0) second ∙ ap (λ (xs : List ℕ). a ∷ b ∷ xs) more in
     sym (ap encode_lower whole) ∙ spelled
 
-IsBytes-tail : (b : ℕ) (rest : List ℕ) → IsBytes (b ∷ rest) → IsBytes rest
-IsBytes-tail b rest h = λ i. h (suc i)
-
 pub no_capitals : (xs : List ℕ) → IsBytes xs → list_any is_ascii_uppercase (encode_lower xs) ≡ false
 unfolding encode_with
 no_capitals [] h = refl
@@ -154,15 +152,6 @@ id_field = record {
 }
 
 -- ---- contents
-
-IsBytes-all : (xs : List ℕ) → AllByRecursion (λ b. b < 256) xs → IsBytes xs
-IsBytes-all [] h i = omega arith
-IsBytes-all (b ∷ rest) h zero = h.0
-IsBytes-all (b ∷ rest) h (suc i) = IsBytes-all rest h.1 i
-
-pub all-IsBytes : (xs : List ℕ) → IsBytes xs → AllByRecursion (λ b. b < 256) xs
-all-IsBytes [] h = tt
-all-IsBytes (b ∷ rest) h = (h 0, all-IsBytes rest (IsBytes-tail b rest h))
 
 content_of_bytes_is : (r : Result (List ℕ) FromHexError) (content : Option (List ℕ)) → content_of_bytes r ≡ Some content → (bytes : List ℕ) × (r ≡ Ok bytes) × (Some bytes ≡ content)
 content_of_bytes_is (Ok bytes) content h = (bytes, refl, some_is (Some bytes) content h)

@@ -1,18 +1,19 @@
 -- What stands between quotes, character by character.
-use Rattle.std.proofs.Common.{◌≡◌, ◌≢◌, ℕ, zero, suc, ◌+◌, ◌≤◌, ◌<◌, Bool, true, false, cond, eqb, ltb, ◌||◌, ◌&&◌, List, [], ◌∷◌, ◌++◌, length, get_or, Option, Some, None, refl, sym, ap, subst, ◌∙◌, append_assoc, length-append, arith, inl, inr}
+use Rattle.std.proofs.Common.{◌≡◌, ◌≢◌, ℕ, zero, suc, ◌+◌, ◌≤◌, ◌<◌, Bool, true, false, cond, eqb, ltb, ◌||◌, ◌&&◌, List, [], ◌∷◌, ◌++◌, length, Option, Some, None, refl, sym, ap, subst, ◌∙◌, append_assoc, length-append, arith, inl, inr}
 use Rattle.std.specs.Char.{is_ascii_control}
 use Rattle.std.specs.List.{position_or_len, before_first, after_first}
 use Rattle.std.specs.Option.{option_and_then}
 use Rattle.std.proofs.lemmas.Bool.{cases_lt, ltb-true}
 use Rattle.std.proofs.lemmas.Bool.Decides.{nat_tests}
-use Rattle.std.proofs.lemmas.List.{length-drop, append-nil}
+use Rattle.std.proofs.lemmas.List.{length-drop}
 use Rattle.std.proofs.lemmas.Option.{cond_some}
-use Rattle.std.proofs.lemmas.Str.{encode_ascii, inside_one, length-encode, len_utf8_bounds}
+use Rattle.std.proofs.lemmas.Str.{encode_ascii, length-encode, len_utf8_bounds}
 use lib.Utf8.{encode}
 use Rattle.zk_listing.specs.Reading.{inside_at, inside, escape_at, braced_at, control_at, control_from, lower_digit, is_brace, past, behind, Fails}
 use Rattle.zk_listing.specs.declared.fault.ListCause.{ListCause}
 use Rattle.zk_listing.specs.declared.fault.ListCause.TheVariants as causes
 use Rattle.zk_listing.proofs.Exact.{bind_some, past_is, first_is, second_is, some_is}
+use Rattle.zk_spelling.proofs.QuotedBytes.{AllHigh, encode_high}
 
 -- ---- putting in front
 
@@ -28,22 +29,6 @@ behind-behind xs ys (Some x) = ap (λ zs. Some (zs, x.1)) (sym (append_assoc xs 
 
 one_byte : (bytes rest : List ℕ) (c : ℕ) → bytes ≡ encode c ++ rest → c < 128 → bytes ≡ c ∷ rest
 one_byte bytes rest c e small = e ∙ ap (λ xs. xs ++ rest) (encode_ascii c small)
-
--- the bytes of a character that is none of ASCII are none of ASCII
-abbrev pub AllHigh : List ℕ → Type 0
-AllHigh [] = Unit {0}
-AllHigh (b ∷ bs) = (128 ≤ b) × AllHigh bs
-
-high_from : (xs : List ℕ) → ((k : ℕ) → k < length xs → 128 ≤ get_or xs k 0) → AllHigh xs
-high_from [] h = tt
-high_from (b ∷ bs) h = (h 0 (omega arith), high_from bs (λ k lt. h (suc k) (omega arith)))
-
-pub encode_high : (c : ℕ) → 128 ≤ c → AllHigh (encode c)
-encode_high c high = high_from (encode c) (λ k lt.
-    elim (cases_lt (get_or (encode c) k 0) 128) [
-      | inl low ↦ let same : c ≡ get_or (encode c) k 0 = inside_one c [] (encode c) k (sym (append-nil (encode c))) lt low in omega arith
-      | inr ok ↦ ok
-    ])
 
 -- a text that begins with a character that is none of ASCII
 first_byte : (xs rest : List ℕ) → AllHigh xs → 0 < length xs → (b : ℕ) × (bs : List ℕ) × (128 ≤ b) × (xs ++ rest ≡ b ∷ bs)

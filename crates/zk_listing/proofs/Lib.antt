@@ -1,7 +1,5 @@
 pub mod AclLaws
-pub mod Appending
 pub mod DecimalLaws
-pub mod EachLaws
 pub mod Exact
 pub mod FieldLaws
 pub mod HexLaws

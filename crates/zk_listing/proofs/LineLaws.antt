@@ -13,8 +13,8 @@ use Rattle.zk_listing.specs.declared.fault.ListCause.TheVariants as causes
 use Rattle.zk_listing.specs.Promises.{BeginsWithNoLine, ReadsLine, AddsLine, BeginsWithListing, IsFirstFault}
 use Rattle.zk_table.specs.declared.txn.Txn.{Txn}
 use Rattle.zk_table.specs.declared.txn.Op.{Op}
-use Rattle.zk_listing.specs.Spelling.{id_digits}
-use Rattle.zk_listing.specs.Listings.{op_text, header_text, line_of, listing_of, IsListed}
+use Rattle.zk_spelling.specs.Spelling.{id_digits}
+use Rattle.zk_spelling.specs.Listings.{op_text, header_text, line_of, listing_of, IsListed}
 use Rattle.zk_listing.specs.Reading.{both, spaced, past, int_at, id_at, id_from, op_at, Takes, Header, header_at, txn_of, txn_at}
 use Rattle.zk_listing.proofs.Exact.{IsExact, bind_some, past_is, first_is, second_is, exact_field, exact_spaced, exact_both}
 use Rattle.zk_listing.proofs.DecimalLaws.{narrow32, narrow64}

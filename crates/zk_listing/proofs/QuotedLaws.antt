@@ -3,27 +3,26 @@ use Rattle.std.proofs.Common.{◌≡◌, ℕ, zero, suc, ◌+◌, ◌/◌, ◌%�
 use Rattle.std.specs.Prelude.{codes}
 use Rattle.std.specs.Char.{is_ascii_control}
 use Rattle.std.specs.Fmt.{digits, digit_glyph}
-use Rattle.std.specs.List.{position_or_len, before_first, after_first, flat_map, list_any, AllByRecursion}
+use Rattle.std.specs.List.{position_or_len, before_first, after_first, flat_map, AllByRecursion}
 use Rattle.std.specs.Option.{option_and_then, is_none}
 use Rattle.zk_path.specs.Paths.{IsPath, fault_of}
 use Rattle.zk_path.proofs.FaultLaw.{IsPath-from_fault, fault_of-IsPath}
-use Rattle.zk_listing.specs.Listings.{IsListedPath}
-use Rattle.std.specs.Str.{chars, IsUtf8, is_utf8}
+use Rattle.zk_spelling.specs.Listings.{IsListedPath}
+use Rattle.std.specs.Str.{IsUtf8, is_utf8}
 use Rattle.std.specs.String.{string_bytes}
 use Rattle.std.proofs.lemmas.Bool.{cases_eq, cases_lt, ltb-true, lt-ltb, eqb-true, false≢true}
 use Rattle.std.proofs.lemmas.Bool.Decides.{nat_tests}
 use Rattle.std.proofs.lemmas.Fmt.{hex_one_digit, hex_two_digits}
-use Rattle.std.proofs.lemmas.List.{append-nil, take_at, drop_at}
-use Rattle.std.proofs.lemmas.List.Concat.{flat_map-append}
+use Rattle.std.proofs.lemmas.List.{take_at, drop_at}
 use Rattle.std.proofs.lemmas.List.Sums.{split_at_first, passes_at_first}
 use Rattle.std.proofs.lemmas.Option.{cond_some}
-use Rattle.std.proofs.lemmas.Str.{encode_ascii, encodes-chars, IsUtf8-string_bytes, is_utf8-from_IsUtf8, IsUtf8-from_is_utf8}
-use lib.Utf8.{encode, encodes}
-use Rattle.zk_listing.specs.Spelling.{is_escaped, escaped, quoted}
+use Rattle.std.proofs.lemmas.Str.{IsUtf8-string_bytes, is_utf8-from_IsUtf8, IsUtf8-from_is_utf8}
+use Rattle.zk_spelling.specs.Spelling.{quoted}
 use Rattle.zk_listing.specs.Reading.{inside_at, inside, escape_at, braced_at, control_at, control_from, lower_digit, is_brace, past, behind, quoted_at, path_at, path_from, TakesBy}
 use Rattle.zk_listing.specs.declared.fault.ListCause.{ListCause}
 use Rattle.zk_listing.proofs.Exact.{IsExact, bind_some, past_is, first_is, second_is, some_is}
-use Rattle.zk_listing.proofs.InsideQuotes.{AllHigh, encode_high, Fails-then}
+use Rattle.zk_listing.proofs.InsideQuotes.{Fails-then}
+use Rattle.zk_spelling.proofs.QuotedBytes.{escaped_byte, quoted_bytes}
 
 -- ---- the reader of quoted texts
 
@@ -37,59 +36,6 @@ quoted_answers (Ok text) rest new bytes e h =
     let utf8 : is_utf8 (string_bytes text) ≡ true = is_utf8-from_IsUtf8 (string_bytes text) (IsUtf8-string_bytes text) in
     rw (e, h, utf8) refl
 quoted_answers (Err cause) rest new bytes e h = Fails-then cause (inside rest) (quoted_at bytes) (λ none. rw (e, none) refl) h
-
--- ---- bytes between quotes
-
--- a byte as it stands between quotes; those of longer characters stand for themselves
-abbrev pub escaped_byte : ℕ → List ℕ
-escaped_byte b = cond (eqb b 34 || eqb b 92) (92 ∷ b ∷ []) (cond (is_ascii_control b) (codes "\\u{" ++ digits 16 false b ++ codes "}") (b ∷ []))
-
-high_stay : (xs : List ℕ) → AllHigh xs → flat_map escaped_byte xs ≡ xs
-high_stay [] h = refl
-high_stay (b ∷ bs) h =
-    let one : eqb b 34 ≡ false = (let high = h.0 in grind (arith, nat_tests)) in
-    let two : eqb b 92 ≡ false = (let high = h.0 in grind (arith, nat_tests)) in
-    let plain : is_ascii_control b ≡ false = (let high = h.0 in grind (arith, nat_tests)) in
-    rw (one, two, plain) (ap (λ (xs : List ℕ). b ∷ xs) (high_stay bs h.1))
-
-escaped_char : (c : ℕ) → escaped c ≡ flat_map escaped_byte (encode c)
-unfolding escaped
-escaped_char c =
-    elim (cases_lt c 128) [
-      | inl small ↦
-          let itself = encode_ascii c small in
-          rw itself (sym (append-nil (escaped_byte c)))
-      | inr high ↦
-          let one : eqb c 34 ≡ false = grind (arith, nat_tests) in
-          let two : eqb c 92 ≡ false = grind (arith, nat_tests) in
-          let plain : is_ascii_control c ≡ false = grind (arith, nat_tests) in
-          rw (one, two, plain) (sym (high_stay (encode c) (encode_high c high)))
-    ]
-
-escaped_chars : (cs : List ℕ) → flat_map escaped cs ≡ flat_map escaped_byte (encodes cs)
-escaped_chars [] = refl
-escaped_chars (c ∷ cs) = ap (λ (xs : List ℕ). xs ++ flat_map escaped cs) (escaped_char c) ∙ ap (λ (xs : List ℕ). flat_map escaped_byte (encode c) ++ xs) (escaped_chars cs) ∙ sym (flat_map-append escaped_byte (encode c) (encodes cs))
-
-or_false : (a b : Bool) → (a || b) ≡ false → (a ≡ false) × (b ≡ false)
-or_false true b h = absurd (false≢true (sym h))
-or_false false b h = (refl, h)
-
-plain_bytes : (xs : List ℕ) → list_any is_escaped xs ≡ false → flat_map escaped_byte xs ≡ xs
-plain_bytes [] h = refl
-plain_bytes (b ∷ bs) h =
-    let tests = or_false (is_escaped b) (list_any is_escaped bs) h in
-    let parts = or_false (eqb b 34 || eqb b 92) (is_ascii_control b) tests.0 in
-    rw (parts.0, parts.1) (ap (λ (xs : List ℕ). b ∷ xs) (plain_bytes bs tests.1))
-
--- a text with nothing to escape stands for itself
-pub nothing_escaped : (text : List ℕ) → IsUtf8 text → list_any is_escaped text ≡ false → flat_map escaped (chars text) ≡ text
-nothing_escaped text utf8 none = escaped_chars (chars text) ∙ ap (flat_map escaped_byte) (encodes-chars text utf8) ∙ plain_bytes text none
-
-pub quoted_bytes : (text : List ℕ) → IsUtf8 text → quoted text ≡ 34 ∷ flat_map escaped_byte text ++ 34 ∷ []
-unfolding quoted
-quoted_bytes text utf8 =
-    let same : flat_map escaped (chars text) ≡ flat_map escaped_byte text = escaped_chars (chars text) ∙ ap (flat_map escaped_byte) (encodes-chars text utf8) in
-    ap (λ (xs : List ℕ). 34 ∷ xs ++ 34 ∷ []) same
 
 -- ---- escapes
 

@@ -1,6 +1,6 @@
 -- A listing is a text in UTF-8.
-use Rattle.std.proofs.Common.{◌≡◌, ℕ, zero, suc, ◌<◌, ℤ, List, [], ◌∷◌, ◌++◌, Bool, true, false, eqb, ltb, ◌&&◌, inl, inr, length, Option, Some, None, refl, ap, ◌∙◌, arith}
-use Rattle.std.proofs.lemmas.Bool.{cases_lt, ltb-true}
+use Rattle.std.proofs.Common.{◌≡◌, ℕ, zero, suc, ◌<◌, ℤ, List, [], ◌∷◌, ◌++◌, Bool, true, false, eqb, ◌&&◌, inl, inr, length, Option, Some, None, refl, ap, ◌∙◌, arith}
+use Rattle.std.proofs.lemmas.Bool.{cases_lt}
 use Rattle.std.proofs.lemmas.Bool.Decides.{nat_tests}
 use Rattle.std.proofs.lemmas.Fmt.{IsAscii-decimal, IsAscii-signed}
 use Rattle.std.proofs.lemmas.Str.{IsUtf8-append, IsUtf8-from_ascii, IsUtf8-encode, IsUtf8-nil, scalars-chars}
@@ -11,12 +11,11 @@ use Rattle.std.specs.Prelude.{FitsSigned, codes}
 use Rattle.std.specs.Fmt.{decimal, signed_decimal, digits}
 use Rattle.std.specs.Int.{w32, w64, to_be_bytes, cast_unsigned}
 use Rattle.std.specs.List.{flat_map, AllByRecursion}
-use Rattle.std.specs.Str.{IsUtf8, IsAscii, chars}
-use Rattle.hex.proofs.HexLemmas.{IsAscii-encode_with}
-use Rattle.hex.specs.Hex.{encode_lower, lower_digits}
+use Rattle.std.specs.Str.{IsUtf8, chars}
 use Rattle.zk_acl.specs.declared.acl.Acl.{Acl}
-use Rattle.zk_listing.specs.Listings.{create_text, delete_text, set_data_text, set_acl_text, check_text, error_text, ephemeral_text, sub_text, part_text, op_text, header_text, line_of, listing_of, IsListed, IsListedAcl, AreListedAcls, IsListedPath, IsListedSub, IsListedOp}
-use Rattle.zk_listing.specs.Spelling.{escaped, quoted, content_text, acl_entry_text, acl_text, sixteen_digits, id_digits}
+use Rattle.zk_spelling.proofs.HexBytes.{both_true, low, ascii, digits_utf8}
+use Rattle.zk_spelling.specs.Listings.{create_text, delete_text, set_data_text, set_acl_text, check_text, error_text, ephemeral_text, sub_text, part_text, op_text, header_text, line_of, listing_of, IsListed, IsListedAcl, AreListedAcls, IsListedPath, IsListedSub, IsListedOp}
+use Rattle.zk_spelling.specs.Spelling.{escaped, quoted, content_text, acl_entry_text, acl_text, sixteen_digits, id_digits}
 use Rattle.zk_table.specs.declared.sub.Sub.{Sub}
 use Rattle.zk_table.specs.declared.sub.Sub.TheVariants as subs
 use Rattle.zk_table.specs.declared.txn.Op.{Op}
@@ -39,19 +38,6 @@ each text Fits [] f p = IsUtf8-nil
 each text Fits (x ∷ xs) f p = join (f x p.0) (each text Fits xs f p.1)
 
 -- ---- ASCII
-
-both_true : (a b : Bool) → (a && b) ≡ true → (a ≡ true) × (b ≡ true)
-both_true true true e = (refl, refl)
-both_true true false e = absurd (let h : false ≡ true = e in cc)
-both_true false b e = absurd (let h : false ≡ true = e in cc)
-
-abbrev low : List ℕ → Bool
-low [] = true
-low (b ∷ bs) = ltb b 128 && low bs
-
-ascii : (bs : List ℕ) → low bs ≡ true → IsAscii bs
-ascii [] e = IsAscii-nil
-ascii (b ∷ bs) e = let p = both_true (ltb b 128) (low bs) e in IsAscii-cons b bs (ltb-true b 128 p.0) (ascii bs p.1)
 
 word : (bs : List ℕ) → low bs ≡ true → IsUtf8 bs
 word bs e = IsUtf8-from_ascii bs (ascii bs e)
@@ -77,12 +63,9 @@ long z fits = IsUtf8-from_ascii (signed_decimal z) (IsAscii-signed z fits.sfits)
 int : (z : ℤ) → FitsSigned w32 z → IsUtf8 (signed_decimal z)
 int z fits = IsUtf8-from_ascii (signed_decimal z) (IsAscii-signed z (omega (arith, fits.sfits)))
 
-hex : (bytes : List ℕ) → IsUtf8 (encode_lower bytes)
-hex bytes = IsUtf8-from_ascii (encode_lower bytes) (IsAscii-encode_with lower_digits bytes (ascii lower_digits refl))
-
 id : (z : ℤ) → IsUtf8 (id_digits z)
 unfolding sixteen_digits
-id z = hex (to_be_bytes w64 (cast_unsigned w64 z))
+id z = digits_utf8 (to_be_bytes w64 (cast_unsigned w64 z))
 
 -- ---- texts
 
@@ -115,7 +98,7 @@ between_quotes text p = join (after 34 (omega arith) (all_escaped (chars text) (
 content : (bytes : Option (List ℕ)) → IsUtf8 (content_text bytes)
 unfolding content_text
 content None = after 45 (omega arith) IsUtf8-nil
-content (Some bytes) = after 120 (omega arith) (hex bytes)
+content (Some bytes) = after 120 (omega arith) (digits_utf8 bytes)
 
 acl_entry : (acl : Acl) → IsListedAcl acl → IsUtf8 (acl_entry_text acl)
 unfolding acl_entry_text

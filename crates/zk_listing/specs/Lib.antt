@@ -1,5 +1,5 @@
-pub mod Spelling
-pub mod Reports
-pub mod Listings
+pub use Rattle.zk_spelling.specs.Spelling
+pub use Rattle.zk_spelling.specs.Listings
+pub use Rattle.zk_spelling.specs.Reports
 pub mod Promises
 pub mod Reading

@@ -5,7 +5,7 @@ use Rattle.std.specs.Str.{IsUtf8}
 use Rattle.zk_table.specs.declared.txn.Txn.{Txn}
 use Rattle.zk_listing.specs.declared.fault.ListCause.{ListCause}
 use Rattle.zk_listing.specs.declared.fault.ListCause.TheVariants as causes
-use Rattle.zk_listing.specs.Listings.{line_of, listing_of, IsListed}
+use Rattle.zk_spelling.specs.Listings.{line_of, listing_of, IsListed}
 use Rattle.zk_listing.specs.Reading.{IsEnd}
 
 -- ---- fields: view is what contracts see of what the code reads, spell its spelling, Fits what has one

@@ -5,9 +5,9 @@ ghost use Rattle.std.specs.Fmt.{signed_decimal};
 ghost use Rattle.std.specs.Int.{w32, w64};
 ghost use Rattle.std.specs.Str.{IsUtf8};
 ghost use Rattle.std.specs.String.{string_bytes};
-ghost use Rattle.zk_listing.specs.Listings.{IsListedPath, IsListedContent, AreListedAcls};
+ghost use Rattle.zk_spelling.specs.Listings.{IsListedPath, IsListedContent, AreListedAcls};
 ghost use Rattle.zk_listing.specs.Promises.{ReadsFound, ReadsOnly};
-ghost use Rattle.zk_listing.specs.Spelling.{id_digits, quoted, content_text, acl_text};
+ghost use Rattle.zk_spelling.specs.Spelling.{id_digits, quoted, content_text, acl_text};
 
 use crate::fault::ListCause;
 use crate::fields::{content, id, int, long};

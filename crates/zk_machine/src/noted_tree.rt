@@ -6,7 +6,6 @@ ghost use Rattle.zk_table.specs.Nodes.{with_child, without_child};
 ghost use Rattle.zk_table.specs.States.{children_of, parent_changed};
 ghost use Rattle.zk_tree.specs.Trees.{owner_at};
 ghost use Rattle.zk_machine.specs.Changes.{changes_between};
-ghost use Rattle.zk_machine.specs.Notes.{noted};
 ghost use Rattle.zk_machine.specs.Undoing.{nodes_before};
 
 use crate::change::{Change, compare};
@@ -76,30 +75,13 @@ impl NotedTree {
     }
 
     /// Puts another node of the same owner in the place of the one at a path.
-    pub(crate) fn change(&mut self, path: &str, node: Node) -> Result<(), NoMemory>
-        requires { owner_at self.old.tree path.now ≡ Some node.owner }
-        ensures tree { OnOk result (self.new.tree ≡ finite.insert self.old.tree path.now node) }
+    pub(crate) fn change(&mut self, path: Path, node: Node) -> Result<(), NoMemory>
+        requires { owner_at self.old.tree path ≡ Some node.owner }
+        ensures tree { OnOk result (self.new.tree ≡ finite.insert self.old.tree path node) }
         ensures before { OnOk result (nodes_before self.new.touched self.new.tree ≡ nodes_before self.old.touched self.old.tree) }
     {
-        let old = self.tree.change_by_text(path, node);
-        self.note(path, old)?;
-        Ok(())
-    }
-
-    /// Notes the node that stood at a path, where another stands now, if nothing is noted of it.
-    fn note(&mut self, path: &str, before: Node) -> Result<(), NoMemory>
-        requires { finite.contains_key self.old.tree path.now ≡ true }
-        ensures noted { OnOk result (self.new.touched ≡ noted self.old.touched path.now (Some before)) }
-        ensures tree { self.new.tree ≡ self.old.tree }
-    {
-        if self.touched.has(path) {
-            return Ok(());
-        }
-        let Some((path, _)) = self.tree.entry_by_text(path) else {
-            unreachable!()
-        };
-        let path = path.copy()?;
-        self.touched.note(path, Some(before))?;
+        let old = self.tree.change(&path, node);
+        self.touched.note(path, Some(old))?;
         Ok(())
     }
 
@@ -116,9 +98,10 @@ impl NotedTree {
         let Some(parent) = path.parent() else {
             return Ok(());
         };
-        let Some(node) = self.tree.get_by_text(parent) else {
+        let Some((parent, node)) = self.tree.entry_by_text(parent) else {
             return Ok(());
         };
+        let parent = parent.copy()?;
         let mut node = node.copy()?;
         node.add_child(zxid, count);
         self.change(parent, node)?;
@@ -133,9 +116,10 @@ impl NotedTree {
         let Some(parent) = path.parent() else {
             return Ok(());
         };
-        let Some(node) = self.tree.get_by_text(parent) else {
+        let Some((parent, node)) = self.tree.entry_by_text(parent) else {
             return Ok(());
         };
+        let parent = parent.copy()?;
         let mut node = node.copy()?;
         node.lose_child(zxid);
         self.change(parent, node)?;

@@ -67,7 +67,7 @@ impl NotedTree {
         };
         let mut node = node.copy()?;
         node.write(txn, copy_of(content)?, version);
-        self.change(path.text(), node)?;
+        self.change(path.copy()?, node)?;
         Ok(PartResult::done(told, self.tree.stat(path)))
     }
 
@@ -87,7 +87,7 @@ impl NotedTree {
         };
         let mut node = node.copy()?;
         node.guard(acl.copy()?, version);
-        self.change(path.text(), node)?;
+        self.change(path.copy()?, node)?;
         Ok(PartResult::done(told, self.tree.stat(path)))
     }
 

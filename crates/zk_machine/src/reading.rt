@@ -11,11 +11,7 @@ use zk_table::{Node, ReadCall, ReadReply};
 use zk_tree::Tree;
 
 /// What a caller is told of a tree who has proved these identities.
-pub(crate) fn reply_from(
-    tree: &Tree,
-    call: &ReadCall,
-    auths: &[Id],
-) -> Result<ReadReply, NoMemory>
+pub(crate) fn reply_from(tree: &Tree, call: &ReadCall, auths: &[Id]) -> Result<ReadReply, NoMemory>
     ensures { IfOk result (λ reply. reply ≡ reply_from tree.now call.now auths.now) }
 {
     let path = call.path();

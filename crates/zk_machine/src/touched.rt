@@ -58,13 +58,6 @@ impl Touched {
         }
     }
 
-    /// Whether something is noted of a path.
-    pub(crate) fn has(&self, path: &str) -> bool
-        ensures { result ≡ finite.contains_key self.now path.now }
-    {
-        place_of(&self.notes, path).is_ok()
-    }
-
     /// Notes what stood at a path, if nothing is noted of it.
     pub(crate) fn note(&mut self, path: Path, before: Option<Node>) -> Result<(), NoMemory>
         ensures { OnOk result (self.new ≡ noted self.old path before) }

@@ -5,7 +5,7 @@ use Rattle.std.specs.Int.{w64, to_be_bytes, from_be_bytes, bytes_high_first}
 use Rattle.hex.proofs.HexLemmas.{decode_sized-encode_lower}
 use Rattle.hex.specs.Hex.{decode_sized}
 use Rattle.hex.specs.declared.error.FromHexError.{FromHexError}
-use Rattle.zk_listing.specs.Spelling.{sixteen_digits}
+use Rattle.zk_spelling.specs.Spelling.{sixteen_digits}
 
 bytes_fit : (k n i : ℕ) → get_or (bytes_high_first k n) i 0 < 256
 bytes_fit zero n i = omega arith

@@ -4,7 +4,7 @@ use Rattle.std.proofs.lemmas.Int.{to_z-of_z}
 use Rattle.std.specs.Int.{to_be_bytes, cast_unsigned}
 use Rattle.hex.proofs.HexLemmas.{length-encode_with}
 use Rattle.hex.specs.Hex.{encode_lower, lower_digits, decode_sized}
-use Rattle.zk_listing.specs.Spelling.{sixteen_digits, id_digits}
+use Rattle.zk_spelling.specs.Spelling.{sixteen_digits, id_digits}
 use Rattle.zk_orders.specs.Commands.{IsUpto, Names, NamesBy, NamesOnly, script_of, upto_text, values_of}
 use Rattle.zk_orders.specs.declared.command.Order.{Order}
 use Rattle.zk_orders.specs.declared.command.Order.TheVariants as orders

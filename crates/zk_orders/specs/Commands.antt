@@ -2,7 +2,7 @@
 use Rattle.std.specs.Prelude.{◌≡◌, ◌≢◌, ℕ, ℤ, ◌<◌, ◌^◌, ◌==◌, ◌&&◌, Bool, true, false, if◌then◌else◌, List, [], ◌∷◌, Option, Some, None, Result, Ok, Err, FitsSigned, codes, option_map}
 use Rattle.std.specs.Int.{w64}
 use Rattle.std.specs.Str.{bytes_eq}
-use Rattle.zk_listing.specs.Spelling.{sixteen_digits, id_digits}
+use Rattle.zk_spelling.specs.Spelling.{sixteen_digits, id_digits}
 use Rattle.zk_orders.specs.declared.command.Order.{Order}
 use Rattle.zk_orders.specs.declared.command.Order.TheVariants as orders
 use Rattle.zk_orders.specs.declared.command.CommandFault.{CommandFault}

@@ -9,25 +9,27 @@ use crate::grammar::{check_name, check_path};
 use crate::memory::NoMemory;
 use std::alloc::Global;
 use std::marker::Model;
+use std::sync::ArcStr;
 
-/// The path of a node: `/`, or names each preceded by `/`.
+/// The path of a node: `/`, or names each preceded by `/`. Copies share the text.
 ///
 /// ZooKeeper Programmer's Guide, "The ZooKeeper Data Model".
 #[derive(Debug, Drop)]
 pub struct Path {
-    text: String,
+    alloc: Global,
+    text: ArcStr,
 }
 
 impl Model for Path {
     ghost use Rattle.std.specs.Prelude.{◌≡◌, List, ℕ, None};
-    ghost use Rattle.std.specs.String.{string_bytes};
+    ghost use Rattle.std.specs.Arc.{arc_str_bytes};
     ghost use Rattle.zk_path.specs.Paths.{fault_of};
 
     ghost Value = { List ℕ };
 
-    ghost view = { λ path. string_bytes path.text };
+    ghost view = { λ path. arc_str_bytes path.text };
 
-    ghost invariant = { λ path. fault_of (string_bytes path.text) ≡ None };
+    ghost invariant = { λ path. fault_of (arc_str_bytes path.text) ≡ None };
 }
 
 impl Path {
@@ -44,7 +46,8 @@ impl Path {
     {
         check_path(text)?;
         Ok(Path {
-            text: String::from_str(alloc, text)?,
+            alloc,
+            text: ArcStr::from_str(alloc, text)?,
         })
     }
 
@@ -92,17 +95,22 @@ impl Path {
         ensures refused { ForSome (name_fault name.now) (IsErrOf result) }
     {
         check_name(name)?;
-        let mut text = String::from_str(*self.text.allocator(), self.before_names())?;
+        let mut text = String::from_str(self.alloc, self.before_names())?;
         text.push('/')?;
         text.push_str(name)?;
-        Ok(Path { text })
+        Ok(Path {
+            alloc: self.alloc,
+            text: ArcStr::from_string(text)?,
+        })
     }
 
-    /// A path of the same text. Want of memory is the only refusal.
+    /// The same path once more, over the same text: no memory is taken. [`NoMemory`] says that the count of the text's
+    /// owners is full.
     pub fn copy(&self) -> Result<Path, NoMemory>
         ensures { IfOk result (λ copy. copy ≡ self.now) }
     {
         Ok(Path {
+            alloc: self.alloc,
             text: self.text.clone()?,
         })
     }

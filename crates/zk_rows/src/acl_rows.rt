@@ -4,7 +4,8 @@ use base64::engine::general_purpose::STANDARD;
 use sha1::Sha1;
 use std::alloc::Global;
 use zk_acl::{
-    ADMIN, ALL, Acl, AclFault, Acls, CREATE, DELETE, Id, Ids, READ, Text, WRITE, allows, digest_id, fix,
+    ADMIN, ALL, Acl, AclFault, Acls, CREATE, DELETE, Id, Ids, READ, Text, WRITE, allows, digest_id,
+    fix,
 };
 use zk_path::NoMemory;
 
@@ -117,7 +118,10 @@ fn is_fixed(
 
 /// Whether a list is refused.
 fn is_refused(alloc: Global, entries: &[Entry], proved: &[Proved]) -> bool {
-    matches!(is_fixed(alloc, entries, proved, entries), Err(AclFault::Invalid))
+    matches!(
+        is_fixed(alloc, entries, proved, &[]),
+        Err(AclFault::Invalid)
+    )
 }
 
 #[test]
@@ -146,7 +150,10 @@ fn lists_that_no_caller_may_ask_for(rt: HostRuntime) {
         (32, "auth", ""),
     ] {
         let open = (1, "world", "anyone");
-        assert!(rt; is_refused(rt.alloc(), &[open, entry], &[("digest", "a:1")]), "{entry:?}");
+        assert!(rt;
+            is_refused(rt.alloc(), &[open, entry], &[("digest", "a:1")]),
+            "{entry:?}"
+        );
     }
 }
 
@@ -193,7 +200,11 @@ fn entries_allow_by_bit_and_identity(rt: HostRuntime) {
         ((31, "ip", "10.0.0.1"), READ, false),
         ((-1, "world", "anyone"), ALL, true),
     ] {
-        assert_eq!(rt; is_allowed(rt.alloc(), entry, perm), Ok(allowed), "{entry:?} {perm}");
+        assert_eq!(rt;
+            is_allowed(rt.alloc(), entry, perm),
+            Ok(allowed),
+            "{entry:?} {perm}"
+        );
     }
 }
 
@@ -262,5 +273,8 @@ fn is_shown_as(alloc: Global, fault: AclFault, code: &str) -> Result<bool, NoMem
 #[test]
 fn acl_faults_have_their_codes(rt: HostRuntime) {
     assert_eq!(rt; is_shown_as(rt.alloc(), AclFault::Invalid, "A1"), Ok(true));
-    assert_eq!(rt; is_shown_as(rt.alloc(), AclFault::from(NoMemory), "A2"), Ok(true));
+    assert_eq!(rt;
+        is_shown_as(rt.alloc(), AclFault::from(NoMemory), "A2"),
+        Ok(true)
+    );
 }

@@ -5,7 +5,8 @@ use std::test::Fail;
 use zk_acl::{Acl, Acls, Id, Stat, Text};
 use zk_path::{NoMemory, Path};
 use zk_table::{
-    Content, Node, Op, PartResult, PartResults, Plain, ReadCall, ReadReply, Sub, Subs, Txn, TxnResult,
+    Content, Node, Op, PartResult, PartResults, Plain, ReadCall, ReadReply, Sub, Subs, Txn,
+    TxnResult,
 };
 
 // A test is a table of what is asked, with the answers, and of what stands there afterwards. A proof of a function's
@@ -534,11 +535,7 @@ fn bare_stat(zxid: i64) -> Stat {
 }
 
 /// Whether a read of `/n` tells this content, and a stat that counts no bytes.
-fn tells_content(
-    alloc: Global,
-    table: &Plain,
-    content: Option<&str>,
-) -> Result<bool, NoMemory> {
+fn tells_content(alloc: Global, table: &Plain, content: Option<&str>) -> Result<bool, NoMemory> {
     let call = ReadCall::GetData {
         path: path_of(alloc, "/n")?,
     };

@@ -11,9 +11,9 @@ use Rattle.zk_debug.specs.declared.breakpoint.Breakpoint.{Breakpoint}
 use Rattle.zk_debug.specs.declared.breakpoint.Breakpoint.TheVariants as breakpoints
 use Rattle.zk_debug.specs.declared.breakpoint.Kind.{Kind}
 use Rattle.zk_debug.specs.declared.breakpoint.Kind.TheVariants as kinds
-use Rattle.zk_listing.specs.Listings.{IsListedPath}
+use Rattle.zk_spelling.specs.Listings.{IsListedPath}
 use Rattle.zk_listing.specs.Reading.{id_at, path_at}
-use Rattle.zk_listing.specs.Spelling.{id_digits, quoted}
+use Rattle.zk_spelling.specs.Spelling.{id_digits, quoted}
 use Rattle.zk_listing.proofs.Exact.{bind_some, some_is}
 use Rattle.zk_listing.proofs.LineLaws.{id_exact}
 use Rattle.zk_listing.proofs.QuotedLaws.{path_exact}

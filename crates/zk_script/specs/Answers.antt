@@ -7,8 +7,8 @@ use Rattle.zk_debug.specs.declared.breakpoint.Breakpoint.{Breakpoint}
 use Rattle.zk_debug.specs.declared.fault.DebugFault.{DebugFault}
 use Rattle.zk_debug.specs.declared.fault.DebugFault.TheVariants as faults
 use Rattle.zk_debug.specs.declared.stop.Stop.{Stop}
-use Rattle.zk_listing.specs.Reports.{node_line, result_line}
-use Rattle.zk_listing.specs.Spelling.{id_digits}
+use Rattle.zk_spelling.specs.Reports.{node_line, result_line}
+use Rattle.zk_spelling.specs.Spelling.{id_digits}
 use Rattle.zk_path.specs.declared.memory.NoMemory.{NoMemory}
 use Rattle.zk_table.specs.declared.node.Node.{Node}
 use Rattle.zk_table.specs.declared.result.TxnResult.{TxnResult}

@@ -6,8 +6,8 @@ use Rattle.zk_debug.specs.declared.breakpoint.Breakpoint.{Breakpoint}
 use Rattle.zk_debug.specs.declared.breakpoint.Breakpoint.TheVariants as breakpoints
 use Rattle.zk_debug.specs.declared.breakpoint.Kind.{Kind}
 use Rattle.zk_debug.specs.declared.breakpoint.Kind.TheVariants as kinds
-use Rattle.zk_listing.specs.Listings.{IsListedPath}
-use Rattle.zk_listing.specs.Spelling.{id_digits, quoted}
+use Rattle.zk_spelling.specs.Listings.{IsListedPath}
+use Rattle.zk_spelling.specs.Spelling.{id_digits, quoted}
 use Rattle.zk_script.specs.declared.command.Command.{Command}
 use Rattle.zk_script.specs.declared.command.Command.TheVariants as commands
 use Rattle.zk_script.specs.declared.fault.CommandFault.{CommandFault}

@@ -3,8 +3,8 @@ use Rattle.std.specs.Prelude.{ℕ, ℤ, List, [], ◌∷◌, ◌++◌, Option, S
 use Rattle.std.specs.Fmt.{signed_decimal}
 use Rattle.std.specs.FinMap.{get, entries}
 use Rattle.std.specs.List.{flat_map}
-use Rattle.zk_listing.specs.Reports.{node_line}
-use Rattle.zk_listing.specs.Spelling.{sixteen_digits, id_digits}
+use Rattle.zk_spelling.specs.Reports.{node_line}
+use Rattle.zk_spelling.specs.Spelling.{sixteen_digits, id_digits}
 use Rattle.zk_table.specs.declared.node.Node.{Node}
 use Rattle.zk_table.specs.States.{NodeMap, State, stat_of}
 

@@ -14,21 +14,13 @@ use zk_path::{NoMemory, Path};
 #[derive(Debug, Drop)]
 pub enum ReadCall {
     /// A node's content.
-    GetData {
-        path: Path,
-    },
+    GetData { path: Path },
     /// Whether there is a node.
-    Exists {
-        path: Path,
-    },
+    Exists { path: Path },
     /// The names of a node's children.
-    GetChildren {
-        path: Path,
-    },
+    GetChildren { path: Path },
     /// A node's access control list.
-    GetAcl {
-        path: Path,
-    },
+    GetAcl { path: Path },
 }
 
 impl ReadCall {

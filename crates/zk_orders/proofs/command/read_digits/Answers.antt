@@ -2,7 +2,7 @@ use Rattle.std.proofs.Common.{◌≡◌, ◌++◌, true, false, Ok, sym, ap, ◌
 use Rattle.std.proofs.lemmas.Slice.Eq.{bytes_eq-Decides}
 use Rattle.std.specs.Str.{bytes_eq}
 use Rattle.hex.specs.Hex.{decode_sized}
-use Rattle.zk_listing.specs.Spelling.{sixteen_digits}
+use Rattle.zk_spelling.specs.Spelling.{sixteen_digits}
 use Rattle.zk_orders.proofs.DigitsLaws.{same_bits, digits_are_read}
 use Rattle.zk_orders.proofs.command.read_digits.Goals as goal
 

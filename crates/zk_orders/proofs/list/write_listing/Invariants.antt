@@ -1,7 +1,7 @@
 -- The lines so far are out, or on the page.
 use Rattle.std.proofs.Common.{take}
 use Rattle.std.specs.String.{string_bytes}
-use Rattle.zk_listing.specs.Listings.{listing_of}
+use Rattle.zk_spelling.specs.Listings.{listing_of}
 use Rattle.zk_orders.proofs.PageLaws.{OnPage}
 use Rattle.zk_orders.proofs.list.write_listing.Given as goal
 

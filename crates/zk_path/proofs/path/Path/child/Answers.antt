@@ -16,4 +16,4 @@ invariant_of-result c =
     let slashed = pushed (encode_utf8 47) c.in_ok-text.ensures.ok c.in_ok-push.was c.push.ensures.bytes in
     let written = pushed c.args.name.now slashed c.in_ok-push_str.was c.push_str.ensures.bytes in
     let is = child_of-written c.args.self.now c.args.name.now _ _ _ c.before_names.ensures (encode_ascii 47 (lit< tt)) written in
-    ap fault_of is ∙ child_has_no_fault c.args.self.now c.args.name.now (rw (← c.self.view_is) c.self.invariant) c.requires.whole (sym c.in_ok-check_name.ensures)
+    ap fault_of (c.in_ok-from_string.ensures.ok ∙ is) ∙ child_has_no_fault c.args.self.now c.args.name.now (rw (← c.self.view_is) c.self.invariant) c.requires.whole (sym c.in_ok-check_name.ensures)
