@@ -5,7 +5,6 @@ use Rattle.zk_overlay.proofs.Laying.{over_other, other_counted}
 use Rattle.zk_overlay.proofs.overlay.Overlay.with_other_node.Goals as goal
 use Rattle.zk_overlay.proofs.overlay.Overlay.with_other_node.Goals.{In_ok-set}
 
-
 there : (c : In_ok-set) → finite.contains_key (nodes_over c.self.inside.shades c.self.inside.tree.now) c.text-2.result.now ≡ true
 there c = ap (λ m. finite.contains_key m c.text-2.result.now) c.self.view_is ∙ ap (finite.contains_key c.args.self) c.text-2.ensures.text ∙ c.requires
 
