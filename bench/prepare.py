@@ -1,0 +1,38 @@
+#!/usr/bin/env python3
+"""Measures what a request costs that a leader prepares and takes, while its tree grows.
+
+usage: bench/prepare.py     in a checkout where `rt ci`, or `rt run` in crates/zk_prepare_load, has left the proved program
+
+The program is run with 50,000 creates and as many sets, and with 100,000; the second half is what the longer run takes
+beyond the shorter one. The least of several runs counts.
+"""
+import os
+import subprocess
+import sys
+
+HERE = os.path.dirname(os.path.abspath(__file__))
+LOAD = os.path.join(HERE, "..", "crates", "zk_prepare_load", "out", "zk_prepare_load")
+HALF = 50000
+TURNS = 5
+
+
+def seconds(count):
+    """The CPU seconds of a run."""
+    child = subprocess.Popen([LOAD, str(count)], stdout=subprocess.PIPE)
+    told = child.stdout.read().decode()
+    _, status, usage = os.wait4(child.pid, 0)
+    if status or told != "%d creates and as many sets, 0 refused\n" % count:
+        sys.exit("%d: status %d, %r" % (count, os.waitstatus_to_exitcode(status), told))
+    return usage.ru_utime + usage.ru_stime
+
+
+def main():
+    first = min(seconds(HALF) for _ in range(TURNS))
+    both = min(seconds(2 * HALF) for _ in range(TURNS))
+    second = both - first
+    print("first half  %.3f s, %.2f microseconds a request" % (first, first / HALF / 2 * 1e6))
+    print("second half %.3f s, %.2f microseconds a request, %.2f times the first" % (second, second / HALF / 2 * 1e6, second / first))
+
+
+if __name__ == "__main__":
+    main()

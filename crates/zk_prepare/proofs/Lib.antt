@@ -1,0 +1,2 @@
+pub mod Slashless
+pub mod Tails

@@ -1,0 +1,31 @@
+-- Timeouts and deadlines of sessions: ZooKeeper Programmer's Guide, "ZooKeeper Sessions". All are milliseconds.
+use Rattle.std.specs.Prelude.{ℕ, ℤ, pos, ◌+ℤ◌, Bool, List, map, filter, int_le}
+use Rattle.std.specs.Int.{w64, cast_unsigned, cast_signed, saturate_signed, int_max, int_min}
+use Rattle.std.specs.Ordering.{nat_cmp}
+use Rattle.std.specs.FinMap.{FinMap, entries, insert, remove}
+
+-- a session gets the timeout that it asks for, from 2 to 20 ticks of 2,000 milliseconds
+abbrev pub clamp : ℤ → ℤ
+clamp timeout = int_max (pos 4000) (int_min timeout (pos 40000))
+
+-- Sessions to deadlines. The key is the unsigned number of the session's 64 bits, which its sixteen digits spell.
+abbrev pub DeadlineMap : Type 0
+DeadlineMap = FinMap nat_cmp ℤ
+
+-- so long from now, or else the nearest number of 64 bits
+abbrev pub deadline_of : ℤ → ℤ → ℤ
+deadline_of now timeout = saturate_signed w64 (now +ℤ timeout)
+
+abbrev pub touched : DeadlineMap → ℤ → ℤ → ℤ → DeadlineMap
+touched deadlines session timeout now = insert deadlines (cast_unsigned w64 session) (deadline_of now timeout)
+
+abbrev pub forgotten : DeadlineMap → ℤ → DeadlineMap
+forgotten deadlines session = remove deadlines (cast_unsigned w64 session)
+
+-- a deadline has come at its own moment
+abbrev pub has_come : ℤ → ℕ × ℤ → Bool
+has_come now entry = int_le entry.1 now
+
+-- the sessions whose deadline has come, in the order of their digits
+abbrev pub expired_at : DeadlineMap → ℤ → List ℤ
+expired_at deadlines now = map (λ e. cast_signed w64 e.0) (filter (has_come now) (entries deadlines))

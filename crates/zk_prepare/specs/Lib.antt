@@ -1,0 +1,4 @@
+pub mod Deadlines
+pub mod Refusals
+pub mod Requests
+pub mod Preparing

@@ -1,0 +1,132 @@
+ghost use Rattle.std.specs.Prelude.{◌≡◌, ◌<◌, ◌≤◌, ◌-◌, ◌^◌, List, [], ◌∷◌, ◌++◌, take, drop, length, true, false, IfOk, OnOk, OnErr};
+ghost use Rattle.zk_table.specs.declared.txn.Txn.{Txn as Taken};
+ghost use Rattle.zk_table.specs.Histories.{state_after};
+ghost use Rattle.zk_table.specs.States.{State};
+ghost use Rattle.zk_table.specs.Steps.{step};
+ghost use Rattle.zk_prepare.specs.Preparing.{StandsFor};
+ghost use Rattle.zk_prepare.specs.Requests.{meaning_of};
+
+use crate::call::Call;
+use crate::making::meaning_of;
+use std::alloc::Global;
+use std::marker::Model;
+use zk_machine::Machine;
+use zk_path::NoMemory;
+use zk_table::Txn;
+
+/// A leader's state for preparing: a committed state and a tail of transactions that are taken and not yet delivered. What
+/// is kept is a machine that runs ahead of the committed one by the whole tail, so that a call costs what it touches.
+///
+/// One that was refused memory in [`Prep::taken`] has failed for good: of its calls only [`Prep::has_failed`] may be made.
+#[derive(Drop)]
+pub struct Prep {
+    alloc: Global,
+    ahead: Machine,
+    failed: bool,
+}
+
+impl Model for Prep {
+    ghost use Rattle.std.specs.Prelude.{◌≡◌, false};
+    ghost use Rattle.zk_table.specs.contracts.node.Node as node;
+    ghost use Rattle.zk_prepare.specs.Preparing.{PrepView, prep_code};
+
+    ghost Value = { PrepView };
+
+    ghost coded = { prep_code node.the_row.coded };
+
+    ghost view = { λ prep. record { state = prep.ahead.state; failed = prep.failed } };
+
+    ghost invariant = { λ prep. prep.failed ≡ false → prep.ahead.failed ≡ false };
+}
+
+impl Prep {
+    /// Stands for the state of a machine that has not failed, and for a tail behind it.
+    pub fn start(alloc: Global, committed: &Machine, tail: &[Txn]) -> Result<Prep, NoMemory>
+        requires { committed.now.failed ≡ false }
+        ensures stands { IfOk result (λ prep. StandsFor prep committed.now.state tail.now) }
+        ensures running { IfOk result (λ prep. prep.failed ≡ false) }
+    {
+        let mut ahead = committed.copy()?;
+        for txn in tail {
+            apply(&mut ahead, txn)?;
+        }
+        Ok(Prep {
+            alloc,
+            ahead,
+            failed: false,
+        })
+    }
+
+    /// The transaction that a call is, at a zxid, on the state that the tail leads to: an error where the request is
+    /// refused.
+    pub fn make(&self, call: &Call, zxid: i64) -> Result<Txn, NoMemory>
+        requires { self.now.failed ≡ false }
+        ensures { (committed : State) (tail : List Taken) → StandsFor self.now committed tail
+            → IfOk result (λ txn. txn ≡ meaning_of (state_after committed tail) call.exit.now zxid) }
+    {
+        meaning_of(self.alloc, &self.ahead, call, zxid)
+    }
+
+    /// The tail goes on with a transaction. After want of memory this has failed.
+    pub fn taken(&mut self, txn: &Txn) -> Result<(), NoMemory>
+        requires { self.old.failed ≡ false }
+        ensures taken { (committed : State) (tail : List Taken) → StandsFor self.old committed tail
+            → OnOk result (StandsFor self.new committed (tail ++ txn.now ∷ [])) }
+        ensures running { OnOk result (self.new.failed ≡ false) }
+        ensures failed { OnErr result (self.new.failed ≡ true) }
+    {
+        let Ok(()) = apply(&mut self.ahead, txn) else {
+            self.failed = true;
+            return Err(NoMemory);
+        };
+        Ok(())
+    }
+
+    /// So many of the tail's first transactions are delivered, and belong to the committed state from now on. It takes no
+    /// memory.
+    pub fn delivered(&mut self, count: usize)
+        requires { self.old.failed ≡ false }
+        ensures delivered { (committed : State) (tail : List Taken) → StandsFor self.old committed tail → count ≤ length tail
+            → StandsFor self.new (state_after committed (take count tail)) (drop count tail) }
+        // What leads there is the same.
+        ensures unchanged { self.new ≡ self.old }
+    {
+        let _ = count;
+    }
+
+    /// Whether memory was refused in [`Prep::taken`].
+    pub fn has_failed(&self) -> bool
+        ensures { result ≡ self.now.failed }
+    {
+        self.failed
+    }
+}
+
+/// Applies a transaction to a machine of which no step is taken back. Where memory is refused, nothing more is said of it.
+fn apply(machine: &mut Machine, txn: &Txn) -> Result<(), NoMemory>
+    requires { machine.old.failed ≡ false }
+    ensures stepped { OnOk result (machine.new.state ≡ (step machine.old.state txn.now).0) }
+    ensures running { OnOk result (machine.new.failed ≡ false) }
+{
+    make_countable(machine)?;
+    let Ok(_) = machine.apply(txn) else {
+        return Err(NoMemory);
+    };
+    Ok(())
+}
+
+/// A machine counts its steps in 64 bits, and a copy begins to count again.
+fn make_countable(machine: &mut Machine) -> Result<(), NoMemory>
+    requires { machine.old.failed ≡ false }
+    ensures state { OnOk result (machine.new.state ≡ machine.old.state) }
+    ensures running { OnOk result (machine.new.failed ≡ false) }
+    ensures room { OnOk result (machine.new.steps < 2 ^ 64 - 1) }
+{
+    let Ok(steps) = machine.steps() else {
+        unreachable!()
+    };
+    if steps == u64::MAX {
+        *machine = machine.copy()?;
+    }
+    Ok(())
+}
