@@ -26,7 +26,9 @@ pub const ADMIN: u32 = 16;
 pub const ALL: u32 = 31;
 
 /// Whether a list allows what this bit stands for to a caller who has proved these identities: it is empty, or an entry
-/// has the bit and names everyone, or a digest among them.
+/// has the bit and names everyone, or a digest among them. Of several bits one is enough.
+///
+/// ZooKeeper Programmer's Guide, "ACL Permissions" and "Builtin ACL Schemes".
 pub fn allows(acl: &[Acl], perm: u32, auths: &[Id]) -> bool
     ensures { result ≡ allows acl.now perm auths.now }
 {
