@@ -25,7 +25,8 @@ type Row = (Ask, &'static str, &'static str, &'static str);
 
 /// Nodes with content, with none, and with empty content and an empty access control list; and one that everyone may
 /// write, and kim alone read.
-const NODES: &str = "0000000000000001 0000000000000007 0 1000 create \"/a\" x6869 1 31 \"world\" \"anyone\" p -1\n\
+const NODES: &str =
+    "0000000000000001 0000000000000007 0 1000 create \"/a\" x6869 1 31 \"world\" \"anyone\" p -1\n\
     0000000000000002 0000000000000007 0 1000 create \"/a/z\" - 1 31 \"world\" \"anyone\" e -1\n\
     0000000000000003 0000000000000007 0 1000 create \"/a/b\" x 0 p -1\n\
     0000000000000004 0000000000000007 0 1000 create \"/w\" x6f6b 2 2 \"world\" \"anyone\" 1 \"digest\" \"kim:k\" p -1\n";
@@ -186,11 +187,7 @@ fn count_told(alloc: Global, plain: &Plain, machine: &Machine) -> Result<usize, 
     Ok(count)
 }
 
-fn apply_all(
-    plain: &mut Plain,
-    machine: &mut Machine,
-    txns: &[Txn],
-) -> Result<(), MachineFault> {
+fn apply_all(plain: &mut Plain, machine: &mut Machine, txns: &[Txn]) -> Result<(), MachineFault> {
     for txn in txns {
         plain.apply(txn)?;
         applied(machine, txn)?;
