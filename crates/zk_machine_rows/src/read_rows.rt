@@ -178,10 +178,10 @@ fn both_tell(
 
 /// How many of the rows both tell.
 fn count_told(alloc: Global, plain: &Plain, machine: &Machine) -> Result<usize, MachineFault> {
-    let mut count = 0;
+    let mut count: usize = 0;
     for row in &READS {
         if both_tell(alloc, plain, machine, row)? {
-            count += 1;
+            count = count.saturating_add(1);
         }
     }
     Ok(count)
