@@ -310,9 +310,7 @@ impl<P: Primary> Server<P> {
         ensures err { OnErr result (self.new.peer.stable ≡ self.old.peer.stable) }
     {
         let count = self.counted(alloc, quorums)?;
-        let mut primary = P::start(alloc, self.state.peer.stable.history.as_slice())?;
-        primary.delivered(self.state.delivered);
-        self.primary = Some(primary);
+        self.primary = Some(self.start_primary(alloc)?);
         self.deliver(count as usize);
         self.state.peer.role = Role::Broadcast;
         self.state.made = 0;
@@ -320,6 +318,15 @@ impl<P: Primary> Server<P> {
         self.state.top = count;
         let above = self.state.peer.stable.history.len();
         self.state.news(alloc, None, above, Some(count))
+    }
+
+    /// A primary that stands for the history, with what is delivered of it.
+    fn start_primary(&self, alloc: Global) -> Result<P, NoMemory>
+        ensures { IfOk result (λ primary. P.stands_for primary self.now.peer.stable.history self.now.delivered) }
+    {
+        let mut primary = P::start(alloc, self.state.peer.stable.history.as_slice())?;
+        primary.delivered(self.state.delivered);
+        Ok(primary)
     }
 
     /// What is sent when a server has said that it has so many.
@@ -409,7 +416,7 @@ impl<P: Primary> Server<P> {
             return Err(RuleFault::EpochFull);
         };
         let above = self.state.peer.stable.history.len();
-        self.take_call(call, zxid)?;
+        self.take_call(alloc, call, zxid)?;
         match self.announce(alloc, quorums, above) {
             Ok(messages) => Ok(messages),
             Err(NoMemory) => {
@@ -419,16 +426,25 @@ impl<P: Primary> Server<P> {
         }
     }
 
+    /// Takes the primary out. It is gone where an earlier call was refused memory: then another is begun.
+    fn take_primary(&mut self, alloc: Global) -> Result<P, NoMemory>
+        ensures stands { IfOk result (λ primary. P.stands_for primary self.old.peer.stable.history self.old.delivered) }
+        ensures same { self.new ≡ self.old }
+    {
+        match self.primary.take() {
+            Some(primary) => Ok(primary),
+            None => self.start_primary(alloc),
+        }
+    }
+
     /// Makes an entry of a call and takes it.
-    fn take_call(&mut self, call: &P::Call, zxid: i64) -> Result<(), NoMemory>
+    fn take_call(&mut self, alloc: Global, call: &P::Call, zxid: i64) -> Result<(), NoMemory>
         requires { self.old.made < 4294967295 }
         ensures took { OnOk result
             (self.new ≡ took self.old (P.made_of self.old.peer.stable.history call.now zxid)) }
         ensures err { OnErr result (self.new.peer.stable ≡ self.old.peer.stable) }
     {
-        let Some(mut primary) = self.primary.take() else {
-            return Err(NoMemory);
-        };
+        let mut primary = self.take_primary(alloc)?;
         let entry = primary.make(call, zxid)?;
         primary.taken(&entry)?;
         self.state.taken.push(entry.tag)?;

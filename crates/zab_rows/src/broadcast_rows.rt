@@ -124,7 +124,7 @@ fn echoed(alloc: Global, call: &EchoCall, zxid: i64) -> Result<String, NoMemory>
 
 #[test]
 fn an_echo_is_an_error_with_its_tag(rt: HostRuntime) {
-    let call = Echo::closing(7, 1, 1000);
+    let call = Echo::closing(rt.alloc(), 7, 1, 1000);
     assert_eq!(rt; Echo::tag(&call), 7);
     let entry = echoed(rt.alloc(), &call, 9).expect(&rt, "memory");
     assert_eq!(rt;

@@ -7,3 +7,5 @@
 mod broadcast_rows;
 #[cfg(test)]
 mod epoch_rows;
+#[cfg(test)]
+mod refusal_rows;

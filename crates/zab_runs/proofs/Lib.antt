@@ -1,9 +1,9 @@
 pub mod AgreeEvents
 pub mod AgreeRuns
+pub mod Deliveries
 pub mod FactRuns
 pub mod Numbering
 pub mod OneOrder
 pub mod RunLaws
 pub mod ServerLists
-pub mod TagRuns
 pub mod WholeRuns

@@ -4,19 +4,12 @@ ghost use Rattle.zab_runs.specs.Agreement.{Agrees};
 ghost use Rattle.zab_runs.specs.Facts.{OneLeaderAnEpoch, AcknowledgedLasts};
 ghost use Rattle.zab_runs.specs.Facts.{HistoriesBeginWithTheirEpoch, DeliveredWasAcknowledged};
 ghost use Rattle.zab_runs.specs.Facts.{FactsGiveOneOrder};
-ghost use Rattle.zab_runs.specs.Laws.{IsTaggedOnce};
 ghost use Rattle.zab_runs.specs.declared.event.Event.TheVariants as events;
 ghost use Rattle.zab_runs.specs.Worlds.{World, happens, profile_of};
 ghost use Rattle.zab_runs.specs.Runs.{stable_of};
 
 use zab_broadcast::Primary;
 use zab_epoch::Quorums;
-
-/// In every run, of any number of servers, a tag belongs to at most one entry.
-pub fn one_entry_for_a_tag<P: Primary, Q: Quorums>(_quorums: &Q)
-    ensures { (servers : ℕ) (events : List (Event P.Call))
-        → IsTaggedOnce (profile_of (Q.passes _quorums.now) P.made_of P.tag_of P.closing_of) servers events }
-{}
 
 /// A crash keeps a server's stable part, and a restart gives it back.
 pub fn stable_part_outlasts_crashes<P: Primary, Q: Quorums>(_quorums: &Q)

@@ -15,44 +15,44 @@ use Rattle.zab_broadcast.specs.declared.state.State.{State}
 use Rattle.zab_broadcast.specs.Calls.{is_taken}
 use Rattle.zab_broadcast.specs.Rules as rules
 
--- the entry that was made of a tag's call; the leader and the epoch that the call was sent to
-pub record Owners : Type 0 where
+-- the entry that was made of a tag's call; the leader and the epoch that the call was sent to, and the call
+pub record Owners (C : Type 0) : Type 0 where
   pub owner : ℕ → Option Entry
-  pub asked : ℕ → Option (ℕ × ℕ)
+  pub asked : ℕ → Option (ℕ × ℕ × C)
 
-abbrev pub nobody : Owners
-nobody = record { owner = λ tag. None; asked = λ tag. None }
+abbrev pub nobody : (C : Type 0) → Owners C
+nobody C = record { owner = λ tag. None; asked = λ tag. None }
 
 abbrev pub at_key : {Y : Type 0} → (ℕ → Y) → ℕ → Y → ℕ → Y
 at_key f key value = λ k. cond (k == key) value (f k)
 
 -- ---- what servers and messages carry
 
-abbrev pub IsOwned : Owners → Entry → Type 0
+abbrev pub IsOwned : {C : Type 0} → Owners C → Entry → Type 0
 IsOwned g entry = g.owner entry.tag ≡ Some entry
 
-abbrev pub AreOwned : Owners → List Entry → Type 0
+abbrev pub AreOwned : {C : Type 0} → Owners C → List Entry → Type 0
 AreOwned g entries = AllByRecursion (IsOwned g) entries
 
-abbrev pub SlotFact : Owners → Option Vote → Type 0
+abbrev pub SlotFact : {C : Type 0} → Owners C → Option Vote → Type 0
 SlotFact g None = Unit {0}
 SlotFact g (Some vote) = AreOwned g vote.history
 
-abbrev pub RoleFact : Owners → Role → Type 0
+abbrev pub RoleFact : {C : Type 0} → Owners C → Role → Type 0
 RoleFact g (Choose votes joiners) = AllByRecursion (SlotFact g) votes
 RoleFact g _ = Unit {0}
 
-abbrev pub BodyFact : {C : Type 0} → (C → ℕ) → Owners → ℕ → Body C → Type 0
+abbrev pub BodyFact : {C : Type 0} → (C → ℕ) → Owners C → ℕ → Body C → Type 0
 BodyFact tag g to (AckEpoch epoch vote current history) = AreOwned g history
 BodyFact tag g to (NewLeader epoch history) = AreOwned g history
 BodyFact tag g to (Propose epoch index entry) = IsOwned g entry
-BodyFact tag g to (Request epoch call) = g.asked (tag call) ≡ Some (to, epoch)
+BodyFact tag g to (Request epoch call) = g.asked (tag call) ≡ Some (to, epoch, call)
 BodyFact tag g to _ = Unit {0}
 
-abbrev pub MessageFact : {C : Type 0} → (C → ℕ) → Owners → Message C → Type 0
+abbrev pub MessageFact : {C : Type 0} → (C → ℕ) → Owners C → Message C → Type 0
 MessageFact tag g m = BodyFact tag g m.addressee m.body
 
-abbrev pub SentFact : {C : Type 0} → (C → ℕ) → Owners → Result (List (Message C)) RuleFault → Type 0
+abbrev pub SentFact : {C : Type 0} → (C → ℕ) → Owners C → Result (List (Message C)) RuleFault → Type 0
 SentFact tag g (Ok messages) = AllByRecursion (MessageFact tag g) messages
 SentFact tag g (Err fault) = Unit {0}
 
@@ -67,45 +67,45 @@ PastRole _ taken = Unit {0}
 abbrev pub IsPast : ℕ → Role → List ℕ → ℕ → ℕ → Type 0
 IsPast promised role taken epoch tag = (epoch < promised) ⊎ ((epoch ≡ promised) × PastRole role (is_taken tag taken))
 
-pub record Holds (g : Owners) (n : ℕ) (history : List Entry) (role : Role) (promised : ℕ) (taken : List ℕ) : Type 0 where
+pub record Holds {C : Type 0} (g : Owners C) (n : ℕ) (history : List Entry) (role : Role) (promised : ℕ) (taken : List ℕ) : Type 0 where
   pub owned : AreOwned g history
   pub votes : RoleFact g role
-  pub past : (tag epoch : ℕ) (entry : Entry) → g.asked tag ≡ Some (n, epoch) → g.owner tag ≡ Some entry → IsPast promised role taken epoch tag
+  pub past : (tag epoch : ℕ) (call : C) (entry : Entry) → g.asked tag ≡ Some (n, epoch, call) → g.owner tag ≡ Some entry → IsPast promised role taken epoch tag
 
-abbrev pub ServerFact : Owners → ℕ → State → Type 0
+abbrev pub ServerFact : {C : Type 0} → Owners C → ℕ → State → Type 0
 ServerFact g n state = Holds g n state.peer.stable.history state.peer.role state.peer.stable.promised state.taken
 
 -- what a server did
-pub record ActsFact {C : Type 0} (tag : C → ℕ) (g : Owners) (n : ℕ) (acts : rules.Acts C) : Type 0 where
+pub record ActsFact {C : Type 0} (tag : C → ℕ) (g : Owners C) (n : ℕ) (acts : rules.Acts C) : Type 0 where
   pub server : ServerFact g n acts.0
   pub sent : SentFact tag g acts.1
 
 -- ---- it grows
 
-pub record Grows (g g' : Owners) : Type 0 where
+pub record Grows {C : Type 0} (g g' : Owners C) : Type 0 where
   pub owner : (tag : ℕ) (entry : Entry) → g.owner tag ≡ Some entry → g'.owner tag ≡ Some entry
-  pub asked : (tag : ℕ) (whom : ℕ × ℕ) → g.asked tag ≡ Some whom → g'.asked tag ≡ Some whom
+  pub asked : (tag : ℕ) (whom : ℕ × ℕ × C) → g.asked tag ≡ Some whom → g'.asked tag ≡ Some whom
 
-pub grows_refl : (g : Owners) → Grows g g
+pub grows_refl : {C : Type 0} (g : Owners C) → Grows g g
 grows_refl g = record { owner = λ tag entry is. is; asked = λ tag whom is. is }
 
-pub grows_trans : (a b c : Owners) → Grows a b → Grows b c → Grows a c
+pub grows_trans : {C : Type 0} (a b c : Owners C) → Grows a b → Grows b c → Grows a c
 grows_trans a b c p q = record {
   owner = λ tag entry is. q.owner tag entry (p.owner tag entry is);
   asked = λ tag whom is. q.asked tag whom (p.asked tag whom is);
 }
 
-pub owned_grows : (g g' : Owners) (entries : List Entry) → Grows g g' → AreOwned g entries → AreOwned g' entries
+pub owned_grows : {C : Type 0} (g g' : Owners C) (entries : List Entry) → Grows g g' → AreOwned g entries → AreOwned g' entries
 owned_grows g g' [] grows owned = tt
 owned_grows g g' (entry ∷ entries) grows owned =
     (grows.owner entry.tag entry owned.0, owned_grows g g' entries grows owned.1)
 
-slots_grow : (g g' : Owners) (votes : List (Option Vote)) → Grows g g' → AllByRecursion (SlotFact g) votes → AllByRecursion (SlotFact g') votes
+slots_grow : {C : Type 0} (g g' : Owners C) (votes : List (Option Vote)) → Grows g g' → AllByRecursion (SlotFact g) votes → AllByRecursion (SlotFact g') votes
 slots_grow g g' [] grows f = tt
 slots_grow g g' (None ∷ votes) grows f = (tt, slots_grow g g' votes grows f.1)
 slots_grow g g' ((Some vote) ∷ votes) grows f = (owned_grows g g' vote.history grows f.0, slots_grow g g' votes grows f.1)
 
-pub role_grows : (g g' : Owners) (role : Role) → Grows g g' → RoleFact g role → RoleFact g' role
+pub role_grows : {C : Type 0} (g g' : Owners C) (role : Role) → Grows g g' → RoleFact g role → RoleFact g' role
 role_grows g g' Looking grows f = tt
 role_grows g g' (Discover heard) grows f = tt
 role_grows g g' (Choose votes joiners) grows f = slots_grow g g' votes grows f
@@ -113,7 +113,7 @@ role_grows g g' Sync grows f = tt
 role_grows g g' Broadcast grows f = tt
 role_grows g g' (Following leader synced) grows f = tt
 
-body_grows : {C : Type 0} (tag : C → ℕ) (g g' : Owners) (to : ℕ) (body : Body C) → Grows g g' → BodyFact tag g to body → BodyFact tag g' to body
+body_grows : {C : Type 0} (tag : C → ℕ) (g g' : Owners C) (to : ℕ) (body : Body C) → Grows g g' → BodyFact tag g to body → BodyFact tag g' to body
 body_grows tag g g' to (say.CEpoch promised) grows f = tt
 body_grows tag g g' to (say.NewEpoch epoch) grows f = tt
 body_grows tag g g' to (AckEpoch epoch vote current history) grows f = owned_grows g g' history grows f
@@ -122,9 +122,9 @@ body_grows tag g g' to (say.AckLeader epoch count) grows f = tt
 body_grows tag g g' to (Propose epoch index entry) grows f = grows.owner entry.tag entry f
 body_grows tag g g' to (say.Ack epoch count) grows f = tt
 body_grows tag g g' to (say.Commit epoch count) grows f = tt
-body_grows tag g g' to (Request epoch call) grows f = grows.asked (tag call) (to, epoch) f
+body_grows tag g g' to (Request epoch call) grows f = grows.asked (tag call) (to, epoch, call) f
 
-pub messages_grow : {C : Type 0} (tag : C → ℕ) (g g' : Owners) (messages : List (Message C)) → Grows g g' → AllByRecursion (MessageFact tag g) messages → AllByRecursion (MessageFact tag g') messages
+pub messages_grow : {C : Type 0} (tag : C → ℕ) (g g' : Owners C) (messages : List (Message C)) → Grows g g' → AllByRecursion (MessageFact tag g) messages → AllByRecursion (MessageFact tag g') messages
 messages_grow tag g g' [] grows f = tt
 messages_grow tag g g' (m ∷ messages) grows f =
     (body_grows tag g g' m.addressee m.body grows f.0, messages_grow tag g g' messages grows f.1)
@@ -135,22 +135,22 @@ abbrev pub IsIdle : Role → Type 0
 IsIdle role = (taken : Bool) → PastRole role taken
 
 -- it does not lead
-pub idles : (g : Owners) (n : ℕ) (history later : List Entry) (role other : Role) (promised : ℕ) (taken newer : List ℕ) → Holds g n history role promised taken → AreOwned g later → RoleFact g other → IsIdle other → Holds g n later other promised newer
+pub idles : {C : Type 0} (g : Owners C) (n : ℕ) (history later : List Entry) (role other : Role) (promised : ℕ) (taken newer : List ℕ) → Holds g n history role promised taken → AreOwned g later → RoleFact g other → IsIdle other → Holds g n later other promised newer
 idles g n history later role other promised taken newer f owned votes idle = record {
   owned = owned;
   votes = votes;
-  past = λ tag epoch entry asked made. elim (f.past tag epoch entry asked made) [
+  past = λ tag epoch call entry asked made. elim (f.past tag epoch call entry asked made) [
     | inl less ↦ inl less
     | inr same ↦ inr (same.0, idle (is_taken tag newer))
   ];
 }
 
 -- it promises a greater epoch
-pub rises : (g : Owners) (n : ℕ) (history : List Entry) (role other : Role) (promised more : ℕ) (taken newer : List ℕ) → Holds g n history role promised taken → RoleFact g other → promised < more → Holds g n history other more newer
+pub rises : {C : Type 0} (g : Owners C) (n : ℕ) (history : List Entry) (role other : Role) (promised more : ℕ) (taken newer : List ℕ) → Holds g n history role promised taken → RoleFact g other → promised < more → Holds g n history other more newer
 rises g n history role other promised more taken newer f votes above = record {
   owned = f.owned;
   votes = votes;
-  past = λ tag epoch entry asked made. elim (f.past tag epoch entry asked made) [
+  past = λ tag epoch call entry asked made. elim (f.past tag epoch call entry asked made) [
     | inl less ↦ inl (omega arith)
     | inr same ↦ inl (let is : epoch ≡ promised = same.0 in omega arith)
   ];

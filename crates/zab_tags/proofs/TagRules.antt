@@ -22,31 +22,31 @@ use Rattle.zab_tags.proofs.TagFacts.{Owners, AreOwned, IsOwned, SlotFact, BodyFa
 
 -- ---- messages
 
-to_others_fact : {C : Type 0} (tag : C → ℕ) (g : Owners) (me at : ℕ) (body : Body C) (marks : List Bool) → ((to : ℕ) → BodyFact tag g to body) → AllByRecursion (MessageFact tag g) (to_others me at body marks)
+to_others_fact : {C : Type 0} (tag : C → ℕ) (g : Owners C) (me at : ℕ) (body : Body C) (marks : List Bool) → ((to : ℕ) → BodyFact tag g to body) → AllByRecursion (MessageFact tag g) (to_others me at body marks)
 to_others_fact tag g me at body [] f = tt
 to_others_fact tag g me at body (mark ∷ marks) f =
     all_append (MessageFact tag g) (cond (mark && not (at == me)) (message me at body ∷ []) []) (to_others me (at + 1) body marks)
     (by_test (AllByRecursion (MessageFact tag g)) (mark && not (at == me)) (message me at body ∷ []) [] (λ e. (f at, tt)) (λ e. tt))
     (to_others_fact tag g me (at + 1) body marks f)
 
-proposals_fact : {C : Type 0} (tag : C → ℕ) (g : Owners) (me to epoch index : ℕ) (entries : List Entry) → AreOwned g entries → AllByRecursion (MessageFact tag g) (proposals me to epoch index entries)
+proposals_fact : {C : Type 0} (tag : C → ℕ) (g : Owners C) (me to epoch index : ℕ) (entries : List Entry) → AreOwned g entries → AllByRecursion (MessageFact tag g) (proposals me to epoch index entries)
 proposals_fact tag g me to epoch index [] f = tt
 proposals_fact tag g me to epoch index (entry ∷ entries) f = (f.0, proposals_fact tag g me to epoch (index + 1) entries f.1)
 
-commits_fact : {C : Type 0} (tag : C → ℕ) (g : Owners) (me to epoch : ℕ) (commit : Option ℕ) → AllByRecursion (MessageFact tag g) (commits me to epoch commit)
+commits_fact : {C : Type 0} (tag : C → ℕ) (g : Owners C) (me to epoch : ℕ) (commit : Option ℕ) → AllByRecursion (MessageFact tag g) (commits me to epoch commit)
 commits_fact tag g me to epoch None = tt
 commits_fact tag g me to epoch (Some count) = (tt, tt)
 
-tells_all_fact : {C : Type 0} (tag : C → ℕ) (g : Owners) (me to epoch index : ℕ) (entries : List Entry) (commit : Option ℕ) → AreOwned g entries → AllByRecursion (MessageFact tag g) (tells_all me to epoch index entries commit)
+tells_all_fact : {C : Type 0} (tag : C → ℕ) (g : Owners C) (me to epoch index : ℕ) (entries : List Entry) (commit : Option ℕ) → AreOwned g entries → AllByRecursion (MessageFact tag g) (tells_all me to epoch index entries commit)
 tells_all_fact tag g me to epoch index entries commit f =
     all_append (MessageFact tag g) (proposals me to epoch index entries) (commits me to epoch commit)
     (proposals_fact tag g me to epoch index entries f) (commits_fact tag g me to epoch commit)
 
-entries_fact : (g : Owners) (whom : Option ℕ) (to : ℕ) (entries : List Entry) → AreOwned g entries → AreOwned g (entries_for whom to entries)
+entries_fact : {C : Type 0} (g : Owners C) (whom : Option ℕ) (to : ℕ) (entries : List Entry) → AreOwned g entries → AreOwned g (entries_for whom to entries)
 entries_fact g None to entries f = f
 entries_fact g (Some one) to entries f = by_test (AreOwned g) (to == one) entries [] (λ e. f) (λ e. tt)
 
-news_fact : {C : Type 0} (tag : C → ℕ) (g : Owners) (me at epoch : ℕ) (whom : Option ℕ) (index : ℕ) (entries : List Entry) (commit : Option ℕ) (marks : List Bool) → AreOwned g entries → AllByRecursion (MessageFact tag g) (news me at epoch whom index entries commit marks)
+news_fact : {C : Type 0} (tag : C → ℕ) (g : Owners C) (me at epoch : ℕ) (whom : Option ℕ) (index : ℕ) (entries : List Entry) (commit : Option ℕ) (marks : List Bool) → AreOwned g entries → AllByRecursion (MessageFact tag g) (news me at epoch whom index entries commit marks)
 news_fact tag g me at epoch whom index entries commit [] f = tt
 news_fact tag g me at epoch whom index entries commit (mark ∷ marks) f =
     all_append (MessageFact tag g)
@@ -57,7 +57,7 @@ news_fact tag g me at epoch whom index entries commit (mark ∷ marks) f =
     (λ e. tt))
     (news_fact tag g me (at + 1) epoch whom index entries commit marks f)
 
-pub news_of_fact : {C : Type 0} (tag : C → ℕ) (g : Owners) (state : State) (whom : Option ℕ) (above : ℕ) (commit : Option ℕ) → AreOwned g state.peer.stable.history → AllByRecursion (MessageFact tag g) (rules.news_of state whom above commit)
+pub news_of_fact : {C : Type 0} (tag : C → ℕ) (g : Owners C) (state : State) (whom : Option ℕ) (above : ℕ) (commit : Option ℕ) → AreOwned g state.peer.stable.history → AllByRecursion (MessageFact tag g) (rules.news_of state whom above commit)
 news_of_fact tag g state whom above commit f =
     news_fact tag g state.peer.me 1 state.peer.stable.promised whom (above + 1) (drop above state.peer.stable.history) commit
     (marks_of state.has) (all_drop (IsOwned g) above state.peer.stable.history f)
@@ -65,17 +65,17 @@ news_of_fact tag g state whom above commit f =
 -- ---- discovery and synchronization
 
 -- what a peer did, at a server whose tags are these
-record PeerFact {C : Type 0} (tag : C → ℕ) (g : Owners) (n : ℕ) (taken : List ℕ) (acts : epoch_rules.Acts C) : Type 0 where
+record PeerFact {C : Type 0} (tag : C → ℕ) (g : Owners C) (n : ℕ) (taken : List ℕ) (acts : epoch_rules.Acts C) : Type 0 where
   pub server : Holds g n acts.0.stable.history acts.0.role acts.0.stable.promised taken
   pub sent : SentFact tag g acts.1
 
-abbrev Peers : Owners → ℕ → List ℕ → Peer → Type 0
+abbrev Peers : {C : Type 0} → Owners C → ℕ → List ℕ → Peer → Type 0
 Peers g n taken peer = Holds g n peer.stable.history peer.role peer.stable.promised taken
 
-quiet : {C : Type 0} (tag : C → ℕ) (g : Owners) (n : ℕ) (taken : List ℕ) (peer : Peer) → Peers g n taken peer → PeerFact tag g n taken (epoch_rules.silent {C = C} peer)
+quiet : {C : Type 0} (tag : C → ℕ) (g : Owners C) (n : ℕ) (taken : List ℕ) (peer : Peer) → Peers g n taken peer → PeerFact tag g n taken (epoch_rules.silent {C = C} peer)
 quiet tag g n taken peer f = record { server = f; sent = tt }
 
-answers : {C : Type 0} (tag : C → ℕ) (g : Owners) (n : ℕ) (taken : List ℕ) (peer : Peer) (to : ℕ) (body : Body C) → Peers g n taken peer → BodyFact tag g to body → PeerFact tag g n taken (epoch_rules.tells peer to body)
+answers : {C : Type 0} (tag : C → ℕ) (g : Owners C) (n : ℕ) (taken : List ℕ) (peer : Peer) (to : ℕ) (body : Body C) → Peers g n taken peer → BodyFact tag g to body → PeerFact tag g n taken (epoch_rules.tells peer to body)
 answers tag g n taken peer to body f b = record { server = f; sent = (b, tt) }
 
 -- a new epoch is above what was promised
@@ -88,7 +88,7 @@ next_above heard promised epoch is =
     let next : max heard promised + 1 ≡ epoch = next_is (nat_lt (max heard promised) 2147483647) (max heard promised) epoch is in
     omega arith
 
-chooses_fact : {C : Type 0} (tag : C → ℕ) (g : Owners) (n : ℕ) (taken : List ℕ) (peer : Peer) (heard : List Bool) (next : Option ℕ) → Peers g n taken peer → ((epoch : ℕ) → next ≡ Some epoch → peer.stable.promised < epoch) → PeerFact tag g n taken (epoch_rules.chooses {C = C} peer heard next)
+chooses_fact : {C : Type 0} (tag : C → ℕ) (g : Owners C) (n : ℕ) (taken : List ℕ) (peer : Peer) (heard : List Bool) (next : Option ℕ) → Peers g n taken peer → ((epoch : ℕ) → next ≡ Some epoch → peer.stable.promised < epoch) → PeerFact tag g n taken (epoch_rules.chooses {C = C} peer heard next)
 chooses_fact tag g n taken peer heard None f above = record {
   server = idles g n peer.stable.history peer.stable.history peer.role Looking peer.stable.promised taken taken f f.owned tt (λ b. tt);
   sent = tt;
@@ -100,7 +100,7 @@ chooses_fact tag g n taken peer heard (Some epoch) f above = record {
   sent = to_others_fact tag g peer.me 1 (say.NewEpoch epoch) heard (λ to. tt);
 }
 
-c_epoch_fact : {C : Type 0} (tag : C → ℕ) (passes : List Bool → Bool) (g : Owners) (n : ℕ) (taken : List ℕ) (peer : Peer) (from promised : ℕ) (role : Role) → Peers g n taken peer → PeerFact tag g n taken (epoch_rules.c_epoch_as {C = C} passes peer from promised role)
+c_epoch_fact : {C : Type 0} (tag : C → ℕ) (passes : List Bool → Bool) (g : Owners C) (n : ℕ) (taken : List ℕ) (peer : Peer) (from promised : ℕ) (role : Role) → Peers g n taken peer → PeerFact tag g n taken (epoch_rules.c_epoch_as {C = C} passes peer from promised role)
 c_epoch_fact tag passes g n taken peer from promised (Discover heard) f =
     by_test (PeerFact tag g n taken) (passes (marks_of (put heard from promised)))
     (epoch_rules.chooses peer (marks_of (put heard from promised)) (next_epoch (max (greatest (put heard from promised)) peer.stable.promised)))
@@ -120,7 +120,7 @@ c_epoch_fact tag passes g n taken peer from promised (Following leader synced) f
 less_is : (a b : ℕ) → nat_lt a b ≡ true → a < b
 less_is a b e = grind (arith, nat_tests)
 
-new_epoch_fact : {C : Type 0} (tag : C → ℕ) (g : Owners) (n : ℕ) (taken : List ℕ) (peer : Peer) (from epoch : ℕ) → Peers g n taken peer → PeerFact tag g n taken (epoch_rules.new_epoch {C = C} peer from epoch)
+new_epoch_fact : {C : Type 0} (tag : C → ℕ) (g : Owners C) (n : ℕ) (taken : List ℕ) (peer : Peer) (from epoch : ℕ) → Peers g n taken peer → PeerFact tag g n taken (epoch_rules.new_epoch {C = C} peer from epoch)
 new_epoch_fact tag g n taken peer from epoch f =
     by_test (PeerFact tag g n taken) (follows peer.role from) (epoch_rules.promises peer from epoch) (epoch_rules.silent peer)
     (λ follower. by_test (PeerFact tag g n taken) (nat_lt peer.stable.promised epoch) _ _
@@ -133,7 +133,7 @@ new_epoch_fact tag g n taken peer from epoch f =
     (λ other. quiet tag g n taken peer f)))
     (λ other. quiet tag g n taken peer f)
 
-best_fact : (g : Owners) (best : Option Vote) (votes : List (Option Vote)) → SlotFact g best → AllByRecursion (SlotFact g) votes → SlotFact g (best_of best votes)
+best_fact : {C : Type 0} (g : Owners C) (best : Option Vote) (votes : List (Option Vote)) → SlotFact g best → AllByRecursion (SlotFact g) votes → SlotFact g (best_of best votes)
 best_fact g best [] b v = b
 best_fact g best (None ∷ votes) b v = best_fact g best votes b v.1
 best_fact g None ((Some vote) ∷ votes) b v = best_fact g (Some vote) votes v.0 v.1
@@ -141,11 +141,11 @@ best_fact g (Some old) ((Some vote) ∷ votes) b v =
     best_fact g (Some (better_of (Some old) vote)) votes
     (by_test (λ (w : Vote). AreOwned g w.history) (is_better vote old) vote old (λ e. v.0) (λ e. b)) v.1
 
-history_fact : (g : Owners) (own : List Entry) (best : Option Vote) → AreOwned g own → SlotFact g best → AreOwned g (history_of own best)
+history_fact : {C : Type 0} (g : Owners C) (own : List Entry) (best : Option Vote) → AreOwned g own → SlotFact g best → AreOwned g (history_of own best)
 history_fact g own None o b = o
 history_fact g own (Some vote) o b = b
 
-gathers_fact : {C : Type 0} (tag : C → ℕ) (passes : List Bool → Bool) (g : Owners) (n : ℕ) (taken : List ℕ) (peer : Peer) (before votes : List (Option Vote)) (were joiners : List (Option (Unit {0}))) → Holds g n peer.stable.history (Choose before were) peer.stable.promised taken → AllByRecursion (SlotFact g) votes → PeerFact tag g n taken (epoch_rules.gathers {C = C} passes peer votes joiners)
+gathers_fact : {C : Type 0} (tag : C → ℕ) (passes : List Bool → Bool) (g : Owners C) (n : ℕ) (taken : List ℕ) (peer : Peer) (before votes : List (Option Vote)) (were joiners : List (Option (Unit {0}))) → Holds g n peer.stable.history (Choose before were) peer.stable.promised taken → AllByRecursion (SlotFact g) votes → PeerFact tag g n taken (epoch_rules.gathers {C = C} passes peer votes joiners)
 gathers_fact tag passes g n taken peer before votes were joiners f v =
     let history = history_fact g peer.stable.history (best_of None votes) f.owned (best_fact g None votes tt v) in
     by_test (PeerFact tag g n taken) (passes (marks_of votes))
@@ -157,7 +157,7 @@ gathers_fact tag passes g n taken peer before votes were joiners f v =
     })
     (λ e. record { server = record { owned = f.owned; votes = v; past = f.past }; sent = tt })
 
-ack_epoch_as_fact : {C : Type 0} (tag : C → ℕ) (passes : List Bool → Bool) (g : Owners) (n : ℕ) (taken : List ℕ) (peer : Peer) (from : ℕ) (vote : Bool) (said : Vote) (role : Role) → Peers g n taken peer → Holds g n peer.stable.history role peer.stable.promised taken → AreOwned g said.history → PeerFact tag g n taken (epoch_rules.ack_epoch_as {C = C} passes peer from vote said role)
+ack_epoch_as_fact : {C : Type 0} (tag : C → ℕ) (passes : List Bool → Bool) (g : Owners C) (n : ℕ) (taken : List ℕ) (peer : Peer) (from : ℕ) (vote : Bool) (said : Vote) (role : Role) → Peers g n taken peer → Holds g n peer.stable.history role peer.stable.promised taken → AreOwned g said.history → PeerFact tag g n taken (epoch_rules.ack_epoch_as {C = C} passes peer from vote said role)
 ack_epoch_as_fact tag passes g n taken peer from vote said (Choose votes joiners) f r s =
     gathers_fact tag passes g n taken peer votes (cond vote (put votes from said) votes) joiners (put joiners from tt) r
     (by_test (AllByRecursion (SlotFact g)) vote (put votes from said) votes (λ e. all_set (SlotFact g) votes (from - 1) (Some said) r.votes s) (λ e. r.votes))
@@ -167,19 +167,19 @@ ack_epoch_as_fact tag passes g n taken peer from vote said Looking f r s = quiet
 ack_epoch_as_fact tag passes g n taken peer from vote said (Discover heard) f r s = quiet tag g n taken peer f
 ack_epoch_as_fact tag passes g n taken peer from vote said (Following leader synced) f r s = quiet tag g n taken peer f
 
-peer_ack_epoch_fact : {C : Type 0} (tag : C → ℕ) (passes : List Bool → Bool) (g : Owners) (n : ℕ) (taken : List ℕ) (peer : Peer) (from epoch : ℕ) (vote : Bool) (said : Vote) → Peers g n taken peer → AreOwned g said.history → PeerFact tag g n taken (epoch_rules.ack_epoch {C = C} passes peer from epoch vote said)
+peer_ack_epoch_fact : {C : Type 0} (tag : C → ℕ) (passes : List Bool → Bool) (g : Owners C) (n : ℕ) (taken : List ℕ) (peer : Peer) (from epoch : ℕ) (vote : Bool) (said : Vote) → Peers g n taken peer → AreOwned g said.history → PeerFact tag g n taken (epoch_rules.ack_epoch {C = C} passes peer from epoch vote said)
 peer_ack_epoch_fact tag passes g n taken peer from epoch vote said f s =
     by_test (PeerFact tag g n taken) (epoch == peer.stable.promised) _ _
     (λ e. ack_epoch_as_fact tag passes g n taken peer from vote said peer.role f f s)
     (λ e. quiet tag g n taken peer f)
 
-joins_fact : {C : Type 0} (tag : C → ℕ) (g : Owners) (n : ℕ) (taken : List ℕ) (peer : Peer) (from epoch current : ℕ) (history : List Entry) → Peers g n taken peer → AreOwned g history → PeerFact tag g n taken (epoch_rules.joins {C = C} peer from epoch current history)
+joins_fact : {C : Type 0} (tag : C → ℕ) (g : Owners C) (n : ℕ) (taken : List ℕ) (peer : Peer) (from epoch current : ℕ) (history : List Entry) → Peers g n taken peer → AreOwned g history → PeerFact tag g n taken (epoch_rules.joins {C = C} peer from epoch current history)
 joins_fact tag g n taken peer from epoch current history f h = record {
   server = idles g n peer.stable.history history peer.role (Following from true) peer.stable.promised taken taken f h tt (λ b. tt);
   sent = (tt, tt);
 }
 
-peer_new_leader_fact : {C : Type 0} (tag : C → ℕ) (g : Owners) (n : ℕ) (taken : List ℕ) (peer : Peer) (from epoch : ℕ) (history : List Entry) → Peers g n taken peer → AreOwned g history → PeerFact tag g n taken (epoch_rules.new_leader {C = C} peer from epoch history)
+peer_new_leader_fact : {C : Type 0} (tag : C → ℕ) (g : Owners C) (n : ℕ) (taken : List ℕ) (peer : Peer) (from epoch : ℕ) (history : List Entry) → Peers g n taken peer → AreOwned g history → PeerFact tag g n taken (epoch_rules.new_leader {C = C} peer from epoch history)
 peer_new_leader_fact tag g n taken peer from epoch history f h =
     by_test (PeerFact tag g n taken) (follows peer.role from && (epoch == peer.stable.promised)) _ _
     (λ e. by_test (PeerFact tag g n taken) (is_behind peer.stable epoch history) _ _
@@ -189,30 +189,30 @@ peer_new_leader_fact tag g n taken peer from epoch history f h =
 
 -- ---- the same at a server
 
-by_peer_fact : {C : Type 0} (tag : C → ℕ) (g : Owners) (n : ℕ) (state : State) (acts : epoch_rules.Acts C) → PeerFact tag g n state.taken acts → ActsFact tag g n (rules.by_peer state acts)
+by_peer_fact : {C : Type 0} (tag : C → ℕ) (g : Owners C) (n : ℕ) (state : State) (acts : epoch_rules.Acts C) → PeerFact tag g n state.taken acts → ActsFact tag g n (rules.by_peer state acts)
 by_peer_fact tag g n state acts f = record { server = f.server; sent = f.sent }
 
-pub lead_fact : {C : Type 0} (tag : C → ℕ) (g : Owners) (n : ℕ) (state : State) → ServerFact g n state → ActsFact tag g n (rules.lead {C = C} state)
+pub lead_fact : {C : Type 0} (tag : C → ℕ) (g : Owners C) (n : ℕ) (state : State) → ServerFact g n state → ActsFact tag g n (rules.lead {C = C} state)
 lead_fact tag g n state f = record {
   server = idles g n state.peer.stable.history state.peer.stable.history state.peer.role (Discover (put (silent_servers state.peer.servers) state.peer.me state.peer.stable.promised)) state.peer.stable.promised state.taken state.taken f f.owned tt (λ b. tt);
   sent = tt;
 }
 
-pub follow_fact : {C : Type 0} (tag : C → ℕ) (g : Owners) (n : ℕ) (state : State) (leader : ℕ) → ServerFact g n state → ActsFact tag g n (rules.follow {C = C} state leader)
+pub follow_fact : {C : Type 0} (tag : C → ℕ) (g : Owners C) (n : ℕ) (state : State) (leader : ℕ) → ServerFact g n state → ActsFact tag g n (rules.follow {C = C} state leader)
 follow_fact tag g n state leader f = record {
   server = idles g n state.peer.stable.history state.peer.stable.history state.peer.role (Following leader false) state.peer.stable.promised state.taken state.taken f f.owned tt (λ b. tt);
   sent = (tt, tt);
 }
 
-pub hears_c_epoch : {C : Type 0} (tag : C → ℕ) (passes : List Bool → Bool) (g : Owners) (n : ℕ) (state : State) (from promised : ℕ) → ServerFact g n state → ActsFact tag g n (rules.c_epoch {C = C} passes state from promised)
+pub hears_c_epoch : {C : Type 0} (tag : C → ℕ) (passes : List Bool → Bool) (g : Owners C) (n : ℕ) (state : State) (from promised : ℕ) → ServerFact g n state → ActsFact tag g n (rules.c_epoch {C = C} passes state from promised)
 hears_c_epoch tag passes g n state from promised f =
     by_peer_fact tag g n state (epoch_rules.c_epoch passes state.peer from promised) (c_epoch_fact tag passes g n state.taken state.peer from promised state.peer.role f)
 
-pub hears_new_epoch : {C : Type 0} (tag : C → ℕ) (g : Owners) (n : ℕ) (state : State) (from epoch : ℕ) → ServerFact g n state → ActsFact tag g n (rules.new_epoch {C = C} state from epoch)
+pub hears_new_epoch : {C : Type 0} (tag : C → ℕ) (g : Owners C) (n : ℕ) (state : State) (from epoch : ℕ) → ServerFact g n state → ActsFact tag g n (rules.new_epoch {C = C} state from epoch)
 hears_new_epoch tag g n state from epoch f =
     by_peer_fact tag g n state (epoch_rules.new_epoch state.peer from epoch) (new_epoch_fact tag g n state.taken state.peer from epoch f)
 
-pub hears_ack_epoch : {C : Type 0} (tag : C → ℕ) (passes : List Bool → Bool) (g : Owners) (n : ℕ) (state : State) (from epoch : ℕ) (vote : Bool) (said : Vote) → ServerFact g n state → AreOwned g said.history → ActsFact tag g n (rules.ack_epoch {C = C} passes state from epoch vote said)
+pub hears_ack_epoch : {C : Type 0} (tag : C → ℕ) (passes : List Bool → Bool) (g : Owners C) (n : ℕ) (state : State) (from epoch : ℕ) (vote : Bool) (said : Vote) → ServerFact g n state → AreOwned g said.history → ActsFact tag g n (rules.ack_epoch {C = C} passes state from epoch vote said)
 hears_ack_epoch tag passes g n state from epoch vote said f s =
     let p = peer_ack_epoch_fact tag passes g n state.taken state.peer from epoch vote said f s in
     by_test (ActsFact tag g n) (is_choosing state.peer.role)
@@ -221,10 +221,10 @@ hears_ack_epoch tag passes g n state from epoch vote said f s =
     (λ e. record { server = p.server; sent = p.sent })
     (λ e. record { server = p.server; sent = p.sent })
 
-still : {C : Type 0} (tag : C → ℕ) (g : Owners) (n : ℕ) (state : State) → ServerFact g n state → ActsFact tag g n (rules.silent {C = C} state)
+still : {C : Type 0} (tag : C → ℕ) (g : Owners C) (n : ℕ) (state : State) → ServerFact g n state → ActsFact tag g n (rules.silent {C = C} state)
 still tag g n state f = record { server = f; sent = tt }
 
-pub hears_new_leader : {C : Type 0} (tag : C → ℕ) (g : Owners) (n : ℕ) (state : State) (from epoch : ℕ) (history : List Entry) → ServerFact g n state → AreOwned g history → ActsFact tag g n (rules.new_leader {C = C} state from epoch history)
+pub hears_new_leader : {C : Type 0} (tag : C → ℕ) (g : Owners C) (n : ℕ) (state : State) (from epoch : ℕ) (history : List Entry) → ServerFact g n state → AreOwned g history → ActsFact tag g n (rules.new_leader {C = C} state from epoch history)
 hears_new_leader tag g n state from epoch history f h =
     let p = peer_new_leader_fact tag g n state.taken state.peer from epoch history f h in
     by_test (ActsFact tag g n) (follows state.peer.role from)
@@ -235,16 +235,16 @@ hears_new_leader tag g n state from epoch history f h =
 -- ---- broadcast
 
 -- what is settled changes nothing that is known of tags
-pub settles_fact : {C : Type 0} (tag : C → ℕ) (passes : List Bool → Bool) (g : Owners) (n : ℕ) (state : State) (tells : Settled → rules.Acts C) → ((next : State) (commit : Option ℕ) → ServerFact g n next → ActsFact tag g n (tells (next, commit))) → ServerFact g n state → ActsFact tag g n (tells (settles passes state))
+pub settles_fact : {C : Type 0} (tag : C → ℕ) (passes : List Bool → Bool) (g : Owners C) (n : ℕ) (state : State) (tells : Settled → rules.Acts C) → ((next : State) (commit : Option ℕ) → ServerFact g n next → ActsFact tag g n (tells (next, commit))) → ServerFact g n state → ActsFact tag g n (tells (settles passes state))
 settles_fact tag passes g n state tells told f =
     by_test (λ (s : Settled). ActsFact tag g n (tells s)) (nat_lt state.top (counted passes state)) _ _
     (λ e. told (record state { top = counted passes state; delivered = max state.delivered (counted passes state) }) (Some (counted passes state)) f)
     (λ e. told state None f)
 
-pub tells_news_fact : {C : Type 0} (tag : C → ℕ) (g : Owners) (n : ℕ) (whom : Option ℕ) (above : ℕ) (next : State) (commit : Option ℕ) → ServerFact g n next → ActsFact tag g n (rules.tells_news {C = C} whom above (next, commit))
+pub tells_news_fact : {C : Type 0} (tag : C → ℕ) (g : Owners C) (n : ℕ) (whom : Option ℕ) (above : ℕ) (next : State) (commit : Option ℕ) → ServerFact g n next → ActsFact tag g n (rules.tells_news {C = C} whom above (next, commit))
 tells_news_fact tag g n whom above next commit f = record { server = f; sent = news_of_fact tag g next whom above commit f.owned }
 
-catching_up_fact : {C : Type 0} (tag : C → ℕ) (passes : List Bool → Bool) (g : Owners) (n to above : ℕ) (next : State) (commit : Option ℕ) → ServerFact g n next → ActsFact tag g n (rules.catching_up {C = C} passes to above (next, commit))
+catching_up_fact : {C : Type 0} (tag : C → ℕ) (passes : List Bool → Bool) (g : Owners C) (n to above : ℕ) (next : State) (commit : Option ℕ) → ServerFact g n next → ActsFact tag g n (rules.catching_up {C = C} passes to above (next, commit))
 catching_up_fact tag passes g n to above next None f = record {
   server = f;
   sent = tells_all_fact tag g next.peer.me to next.peer.stable.promised (above + 1) (drop above next.peer.stable.history) (Some (counted passes next))
@@ -260,15 +260,15 @@ not_in_sync promised taken newer epoch tag past = elim past [
   | inr same ↦ absurd (let no : false ≡ true = same.1 in cc)
 ]
 
-enters_fact : {C : Type 0} (tag : C → ℕ) (passes : List Bool → Bool) (g : Owners) (n : ℕ) (state : State) → Holds g n state.peer.stable.history Sync state.peer.stable.promised state.taken → ActsFact tag g n (rules.enters {C = C} passes state)
+enters_fact : {C : Type 0} (tag : C → ℕ) (passes : List Bool → Bool) (g : Owners C) (n : ℕ) (state : State) → Holds g n state.peer.stable.history Sync state.peer.stable.promised state.taken → ActsFact tag g n (rules.enters {C = C} passes state)
 enters_fact tag passes g n state f = tells_news_fact tag g n None (length state.peer.stable.history) (entered state (counted passes state)) (Some (counted passes state))
     (record {
       owned = f.owned;
       votes = tt;
-      past = λ t epoch entry asked made. not_in_sync state.peer.stable.promised state.taken [] epoch t (f.past t epoch entry asked made);
+      past = λ t epoch call entry asked made. not_in_sync state.peer.stable.promised state.taken [] epoch t (f.past t epoch call entry asked made);
     })
 
-ack_leader_as_fact : {C : Type 0} (tag : C → ℕ) (passes : List Bool → Bool) (g : Owners) (n : ℕ) (state : State) (from count : ℕ) (role : Role) → ServerFact g n state → Holds g n state.peer.stable.history role state.peer.stable.promised state.taken → ActsFact tag g n (rules.ack_leader_as {C = C} passes state from count role)
+ack_leader_as_fact : {C : Type 0} (tag : C → ℕ) (passes : List Bool → Bool) (g : Owners C) (n : ℕ) (state : State) (from count : ℕ) (role : Role) → ServerFact g n state → Holds g n state.peer.stable.history role state.peer.stable.promised state.taken → ActsFact tag g n (rules.ack_leader_as {C = C} passes state from count role)
 ack_leader_as_fact tag passes g n state from count Sync f r =
     by_test (ActsFact tag g n) (passes (marks_of (raised state from count).has))
     (rules.enters passes (raised state from count)) (rules.silent (raised state from count))
@@ -282,13 +282,13 @@ ack_leader_as_fact tag passes g n state from count (Discover heard) f r = still 
 ack_leader_as_fact tag passes g n state from count (Choose votes joiners) f r = still tag g n state f
 ack_leader_as_fact tag passes g n state from count (Following leader synced) f r = still tag g n state f
 
-pub hears_ack_leader : {C : Type 0} (tag : C → ℕ) (passes : List Bool → Bool) (g : Owners) (n : ℕ) (state : State) (from epoch count : ℕ) → ServerFact g n state → ActsFact tag g n (rules.ack_leader {C = C} passes state from epoch count)
+pub hears_ack_leader : {C : Type 0} (tag : C → ℕ) (passes : List Bool → Bool) (g : Owners C) (n : ℕ) (state : State) (from epoch count : ℕ) → ServerFact g n state → ActsFact tag g n (rules.ack_leader {C = C} passes state from epoch count)
 hears_ack_leader tag passes g n state from epoch count f =
     by_test (ActsFact tag g n) (epoch == state.peer.stable.promised) _ _
     (λ e. ack_leader_as_fact tag passes g n state from count state.peer.role f f)
     (λ e. still tag g n state f)
 
-pub hears_propose : {C : Type 0} (tag : C → ℕ) (g : Owners) (n : ℕ) (state : State) (from epoch index : ℕ) (entry : Entry) → ServerFact g n state → IsOwned g entry → ActsFact tag g n (rules.propose {C = C} state from epoch index entry)
+pub hears_propose : {C : Type 0} (tag : C → ℕ) (g : Owners C) (n : ℕ) (state : State) (from epoch index : ℕ) (entry : Entry) → ServerFact g n state → IsOwned g entry → ActsFact tag g n (rules.propose {C = C} state from epoch index entry)
 hears_propose tag g n state from epoch index entry f owned =
     by_test (ActsFact tag g n) (follows state.peer.role from && is_next state.peer.stable epoch index) _ _
     (λ e. record {
@@ -301,7 +301,7 @@ hears_propose tag g n state from epoch index entry f owned =
     })
     (λ e. still tag g n state f)
 
-ack_as_fact : {C : Type 0} (tag : C → ℕ) (passes : List Bool → Bool) (g : Owners) (n : ℕ) (state : State) (from epoch count : ℕ) (role : Role) → ServerFact g n state → ActsFact tag g n (rules.ack_as {C = C} passes state from epoch count role)
+ack_as_fact : {C : Type 0} (tag : C → ℕ) (passes : List Bool → Bool) (g : Owners C) (n : ℕ) (state : State) (from epoch count : ℕ) (role : Role) → ServerFact g n state → ActsFact tag g n (rules.ack_as {C = C} passes state from epoch count role)
 ack_as_fact tag passes g n state from epoch count Broadcast f =
     by_test (ActsFact tag g n) (epoch == state.peer.stable.promised) _ _
     (λ e. settles_fact tag passes g n (raised state from count) (rules.tells_news None (length state.peer.stable.history))
@@ -313,10 +313,10 @@ ack_as_fact tag passes g n state from epoch count (Choose votes joiners) f = sti
 ack_as_fact tag passes g n state from epoch count Sync f = still tag g n state f
 ack_as_fact tag passes g n state from epoch count (Following leader synced) f = still tag g n state f
 
-pub hears_ack : {C : Type 0} (tag : C → ℕ) (passes : List Bool → Bool) (g : Owners) (n : ℕ) (state : State) (from epoch count : ℕ) → ServerFact g n state → ActsFact tag g n (rules.ack {C = C} passes state from epoch count)
+pub hears_ack : {C : Type 0} (tag : C → ℕ) (passes : List Bool → Bool) (g : Owners C) (n : ℕ) (state : State) (from epoch count : ℕ) → ServerFact g n state → ActsFact tag g n (rules.ack {C = C} passes state from epoch count)
 hears_ack tag passes g n state from epoch count f = ack_as_fact tag passes g n state from epoch count state.peer.role f
 
-pub hears_commit : {C : Type 0} (tag : C → ℕ) (g : Owners) (n : ℕ) (state : State) (from epoch count : ℕ) → ServerFact g n state → ActsFact tag g n (rules.commit {C = C} state from epoch count)
+pub hears_commit : {C : Type 0} (tag : C → ℕ) (g : Owners C) (n : ℕ) (state : State) (from epoch count : ℕ) → ServerFact g n state → ActsFact tag g n (rules.commit {C = C} state from epoch count)
 hears_commit tag g n state from epoch count f =
     by_test (ActsFact tag g n) (follows state.peer.role from && (epoch == state.peer.stable.current)) _ _
     (λ e. still tag g n (record state { delivered = max state.delivered (min (length state.peer.stable.history) count) }) f)

@@ -284,7 +284,7 @@ pub(crate) fn take_step<P: Primary, Q: Quorums>(
             session,
             now,
         } => {
-            let call = P::closing(tag, session, now);
+            let call = P::closing(alloc, tag, session, now);
             submit(alloc, quorums, places, messages, tags, server, call)
         }
         Event::Crash { server } => crash(alloc, places, server),

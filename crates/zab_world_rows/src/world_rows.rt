@@ -254,6 +254,18 @@ fn reads_behind_and_refused_events(rt: HostRuntime) -> Result<(), Fail> {
 }
 
 #[test]
+fn which_servers_run(rt: HostRuntime) -> Result<(), Fail> {
+    let mut world = EchoWorld::new(rt.alloc(), 3)?;
+    walk(&mut world, vec![in rt.alloc(); crash(2)]?)?;
+    assert_eq!(rt; world.running(1), Ok(()));
+    assert_eq!(rt; world.running(2), Err(WorldFault::Down));
+    assert_eq!(rt; world.running(4), Err(WorldFault::NoServer));
+    walk(&mut world, vec![in rt.alloc(); restart(2)]?)?;
+    assert_eq!(rt; world.running(2), Ok(()));
+    Ok(())
+}
+
+#[test]
 fn replay_gives_the_same_world(rt: HostRuntime) -> Result<(), Fail> {
     let world = EchoWorld::new(rt.alloc(), 3)?;
     let events = vec![in rt.alloc();
