@@ -1,0 +1,6 @@
+pub mod Kept
+pub mod Search
+pub mod Quiet
+pub mod Ranges
+pub mod Guide
+pub mod Live

@@ -1,0 +1,3 @@
+pub mod Watching
+pub mod Places
+pub mod WatchLaws

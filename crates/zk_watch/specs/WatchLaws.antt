@@ -1,0 +1,43 @@
+-- What the guide says of watches, told of every list of them: ZooKeeper Programmer's Guide, "ZooKeeper Watches".
+use Rattle.std.specs.Prelude.{◌≡◌, ℕ, Bool, true, false, not, ◌==◌, List, [], map, filter}
+use Rattle.std.specs.List.{list_any}
+use Rattle.std.specs.List.Sorted.{IsStrictlySortedBy}
+use Rattle.std.specs.declared.cmp.Ordering.{Ordering}
+use Rattle.std.specs.Ordering.{nat_cmp, ordering_then}
+use Rattle.zk_machine.specs.declared.change.Change.{Change}
+use Rattle.zk_table.specs.States.{path_cmp}
+use Rattle.zk_watch.specs.declared.watch.Fired.{Fired}
+use Rattle.zk_watch.specs.declared.watch.Watch.{Watch}
+use Rattle.zk_watch.specs.declared.watch.WatchKind.{WatchKind}
+use Rattle.zk_watch.specs.Watching.{IsWatchList, hears, told_by, after_change, fired_by, with_watch, without_session}
+
+abbrev pub is_told : ℕ → List Fired → Bool
+is_told session events = list_any (λ e. e.session == session) events
+
+-- a watch is told once: after a change nobody waits for another like it
+abbrev pub WatchesAreToldOnce : Type 0
+WatchesAreToldOnce = (change : Change) (ws : List Watch) → told_by change (after_change change ws) ≡ []
+
+-- a session that has set a watch is told of the next change that such a watch hears of
+abbrev pub SetWatchesAreTold : Type 0
+SetWatchesAreTold = (session : ℕ) (kind : WatchKind) (change : Change) (ws : List Watch) → hears kind change.kind ≡ true → is_told session (told_by change (with_watch session kind change.path ws)) ≡ true
+
+-- and every other session is told what it would have been told
+abbrev pub OthersStay : Type 0
+OthersStay = (session other : ℕ) (kind : WatchKind) (path : List ℕ) (change : Change) (ws : List Watch) → (session == other) ≡ false → is_told other (told_by change (with_watch session kind path ws)) ≡ is_told other (told_by change ws)
+
+abbrev pub TwiceIsOnce : Type 0
+TwiceIsOnce = (session : ℕ) (kind : WatchKind) (path : List ℕ) (ws : List Watch) → with_watch session kind path (with_watch session kind path ws) ≡ with_watch session kind path ws
+
+-- of a change are told, once a session is dropped, the others alone
+abbrev pub DroppedAreToldNothing : Type 0
+DroppedAreToldNothing = (session : ℕ) (change : Change) (ws : List Watch) → told_by change (without_session session ws) ≡ filter (λ e. not (e.session == session)) (told_by change ws)
+
+-- by path, then by session
+abbrev pub event_cmp : Fired → Fired → Ordering
+event_cmp a b = ordering_then (path_cmp a.path b.path) (nat_cmp a.session b.session)
+
+-- the changes of an instruction are in the order of their paths, one at each; its events rise by path and session, so
+-- they are one for each path and session
+abbrev pub EventsRise : Type 0
+EventsRise = (changes : List Change) (ws : List Watch) → IsWatchList ws → IsStrictlySortedBy path_cmp (map (λ c. c.path) changes) → IsStrictlySortedBy event_cmp (fired_by changes ws)

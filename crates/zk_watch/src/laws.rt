@@ -1,0 +1,24 @@
+//! What holds of every list of watches. The calls do nothing: each is there for its contract.
+ghost use Rattle.zk_watch.specs.WatchLaws.{WatchesAreToldOnce, SetWatchesAreTold, OthersStay, TwiceIsOnce, DroppedAreToldNothing, EventsRise};
+
+/// A watch is told once.
+pub fn watches_are_told_once()
+    ensures { WatchesAreToldOnce }
+{}
+
+/// A session that has set a watch is told, and no other session is told more or less; setting it again adds nothing.
+pub fn set_watches_are_told()
+    ensures told { SetWatchesAreTold }
+    ensures others { OthersStay }
+    ensures twice { TwiceIsOnce }
+{}
+
+/// A session that was dropped is told nothing, and the others what they would have been told.
+pub fn dropped_are_told_nothing()
+    ensures { DroppedAreToldNothing }
+{}
+
+/// The events of one instruction are in the order of paths and then of sessions' digits, one for each path and session.
+pub fn events_rise()
+    ensures { EventsRise }
+{}
