@@ -1,0 +1,10 @@
+pub mod Above
+pub mod Tests
+pub mod Making
+pub mod Wholes
+pub mod Meanings
+pub mod Refusing
+pub mod Owners
+pub mod Sessions
+pub mod Standing
+pub mod Each
