@@ -7,6 +7,7 @@ use zk_listing::{
     read_int, read_long, read_path, read_quoted,
 };
 use zk_path::{NoMemory, Path};
+use zk_spelling::{spell_line, spell_node_line};
 use zk_table::{Content, Node, Op, PartResult, PartResults, Txn, TxnResult};
 
 // A proof of a test grows steeply with its exits, so a test only asserts, and what can be refused stands in helpers.
@@ -492,6 +493,27 @@ const NODE_LINE: &str =
 #[test]
 fn nodes_have_lines(rt: HostRuntime) {
     assert!(rt; is_text(node_line(rt.alloc()).ok(), NODE_LINE));
+}
+
+/// A page with the line of such a node and that of the first log's last transaction.
+fn page_of_lines(alloc: Global) -> Result<String, NoMemory> {
+    let mut page = String::new(alloc);
+    let node = node_of(alloc, b"hi")?;
+    spell_node_line(&mut page, &path_of(alloc, "/a")?, &node, &STAT)?;
+    page.push('\n')?;
+    spell_line(&mut page, &txn(2, Op::CloseSession))?;
+    Ok(page)
+}
+
+#[test]
+fn a_page_takes_lines(rt: HostRuntime) {
+    assert!(rt;
+        is_text(
+            page_of_lines(rt.alloc()).ok(),
+            "\"/a\" x6869 0 0000000000000001 0000000000000002 3 4 5 6 7 0000000000000008 9 10 000000000000000b\n\
+        0000000100000003 0100000000000001 2 3000 closeSession\n"
+        )
+    );
 }
 
 fn part_result(alloc: Global) -> Result<PartResult, NoMemory> {

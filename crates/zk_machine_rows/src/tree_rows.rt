@@ -10,7 +10,7 @@ ghost use Rattle.zk_tree.specs.Trees.{owner_at};
 use std::alloc::Global;
 use zk_path::{NoMemory, Path};
 use zk_table::Node;
-use zk_tree::{Refused, Tree};
+use zk_tree::{Entry, Refused, Tree};
 
 /// Whether a node may be put at a path.
 fn can_put(tree: &Tree, path: &Path) -> bool
@@ -142,6 +142,29 @@ fn the_start_tree_answers(rt: HostRuntime) {
     );
     assert_eq!(rt; tree.child_count(&path), 1);
     assert_eq!(rt; owns(&tree, 0, &[]), Ok(true));
+}
+
+/// Whether an entry is a node of the start with this path and so many children.
+fn is_entry(entry: &Entry, text: &str, children: usize) -> bool {
+    entry.path.text() == text && entry.child_count == children && entry.node.version == 0
+}
+
+/// Whether a tree lends these nodes with so many children, and no others.
+fn lends(tree: &Tree, nodes: &[(&str, usize)]) -> Result<bool, NoMemory> {
+    let entries = tree.entries()?;
+    Ok(
+        entries.len() == nodes.len()
+            && entries.iter().zip(nodes.iter()).all(|(entry, (text, children))| is_entry(
+                entry, text, *children,
+            )),
+    )
+}
+
+#[test]
+fn a_tree_lends_its_nodes_in_order(rt: HostRuntime) {
+    let tree = new_tree(rt.alloc()).expect(&rt, "memory");
+    let nodes = [("/", 1), ("/zookeeper", 1), ("/zookeeper/quota", 0)];
+    assert_eq!(rt; lends(&tree, &nodes), Ok(true));
 }
 
 /// The owner of the node at the path of a text.

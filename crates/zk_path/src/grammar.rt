@@ -44,24 +44,22 @@ fn check_names(names: &str) -> Result<(), PathFault>
 fn is_plain(names: &str) -> bool
     ensures { result ≡ is_plain_behind true names.now }
 {
+    let mut plain = true;
     let mut behind_slash = true;
+    // No way out in the middle: so the compiler looks at several bytes at a time.
     for byte in names.as_bytes() {
-        if !may_follow(behind_slash, *byte) {
-            return false;
-        }
+        plain &= may_follow(behind_slash, *byte);
         behind_slash = *byte == b'/';
     }
-    !behind_slash
+    plain && !behind_slash
 }
 
 /// Whether a byte may follow a slash, or another byte of a name, in a plain path.
 fn may_follow(behind_slash: bool, byte: u8) -> bool
     ensures { result ≡ may_follow behind_slash byte }
 {
-    if behind_slash && (byte == b'/' || byte == b'.') {
-        return false;
-    }
-    matches!(byte, b' '..=b'~')
+    let stays = !behind_slash | ((byte != b'/') & (byte != b'.'));
+    stays & (byte >= b' ') & (byte <= b'~')
 }
 
 /// Whether a text without a slash may be a node's name.

@@ -1,12 +1,14 @@
 -- The lines of reports on a tree.
-use Rattle.std.specs.Prelude.{ℕ, ℤ, List, [], ◌∷◌, ◌++◌, Option, Some, None, codes}
+use Rattle.std.specs.Prelude.{ℕ, ℤ, List, [], ◌∷◌, ◌++◌, codes}
 use Rattle.std.specs.Fmt.{signed_decimal}
-use Rattle.std.specs.FinMap.{get, entries}
+use Rattle.std.specs.FinMap.{entries}
 use Rattle.std.specs.List.{flat_map}
 use Rattle.zk_spelling.specs.Reports.{node_line}
 use Rattle.zk_spelling.specs.Spelling.{sixteen_digits, id_digits}
 use Rattle.zk_table.specs.declared.node.Node.{Node}
+use Rattle.zk_table.specs.Nodes.{stat_with}
 use Rattle.zk_table.specs.States.{NodeMap, State, stat_of}
+use Rattle.zk_tree.specs.declared.entry.Entry.{Entry}
 
 -- a line, with the newline that ends it
 abbrev pub line : List ℕ → List ℕ
@@ -24,13 +26,9 @@ session_line session = codes "session " ++ sixteen_digits session.0 ++ 32 ∷ si
 abbrev pub tree_node_line : NodeMap → List ℕ × Node → List ℕ
 tree_node_line nodes entry = node_line entry.0 entry.1 (stat_of nodes entry.0 entry.1)
 
--- the line of the node at a path, if there is one
-abbrev pub line_of_found : NodeMap → List ℕ → Option Node → List ℕ
-line_of_found nodes path None = []
-line_of_found nodes path (Some node) = line (tree_node_line nodes (path, node))
-
-abbrev pub line_at : NodeMap → List ℕ → List ℕ
-line_at nodes path = line_of_found nodes path (get nodes path)
+-- the line of a node that a tree lends with its path and the number of its children
+abbrev pub entry_line : Entry → List ℕ
+entry_line entry = line (node_line entry.path.now entry.node.now (stat_with entry.node.now entry.child_count))
 
 -- the last transaction, the open sessions in order, and the nodes in the order of their paths
 unfoldable pub tree_report : State → List ℕ

@@ -13,5 +13,5 @@ pub use answers::run_command;
 pub use command::Command;
 pub use fault::{CommandFault, ScriptFault};
 pub use reading::read_command;
-pub use report::{push_head, push_line_at};
-pub use script::run_script;
+pub use report::{push_entry_line, push_head, push_tree};
+pub use script::{next_line, run_script};

@@ -4,16 +4,17 @@ ghost use Rattle.std.specs.FinMap as finite;
 ghost use Rattle.std.specs.List.{flat_map};
 ghost use Rattle.std.specs.String.{string_bytes};
 ghost use Rattle.zk_script.specs.Answers.{node_text};
-ghost use Rattle.zk_script.specs.Reports.{line, line_at, zxid_line, session_line, tree_report};
+ghost use Rattle.zk_script.specs.Reports.{line, entry_line, zxid_line, session_line, tree_report};
 
 use zk_listing::{push_digits, push_id, push_node_line};
 use zk_machine::Machine;
 use zk_path::{NoMemory, Path};
-use zk_tree::Tree;
+use zk_spelling::spell_node_line;
+use zk_tree::Entry;
 
 /// Appends the report of a machine's state: its last transaction, its open sessions and its nodes.
 #[tactic(auto, unfolding(crate::specs::Reports::tree_report))]
-pub(crate) fn push_tree(page: &mut String, machine: &Machine) -> Result<(), NoMemory>
+pub fn push_tree(page: &mut String, machine: &Machine) -> Result<(), NoMemory>
     requires { machine.now.failed ≡ false }
     ensures { OnOk result
         (string_bytes page.new ≡ string_bytes page.old ++ tree_report machine.now.state) }
@@ -21,9 +22,9 @@ pub(crate) fn push_tree(page: &mut String, machine: &Machine) -> Result<(), NoMe
     let Ok(tree) = machine.tree() else {
         unreachable!()
     };
-    let paths = tree.paths()?;
+    let entries = tree.entries()?;
     push_head(page, machine)?;
-    push_nodes(page, tree, paths.as_slice())
+    push_entries(page, entries.as_slice())
 }
 
 /// Appends the lines of the last transaction and of the open sessions.
@@ -78,25 +79,23 @@ fn push_session_line(page: &mut String, session: &(u64, i32)) -> Result<(), NoMe
     Ok(())
 }
 
-/// Appends the lines of the nodes at these paths.
-fn push_nodes(page: &mut String, tree: &Tree, paths: &[Path]) -> Result<(), NoMemory>
+/// Appends the lines of these nodes.
+fn push_entries(page: &mut String, entries: &[Entry]) -> Result<(), NoMemory>
     ensures { OnOk result
-        (string_bytes page.new ≡ string_bytes page.old ++ flat_map (line_at tree.now) paths.now) }
+        (string_bytes page.new ≡ string_bytes page.old ++ flat_map entry_line entries.now) }
 {
-    for path in paths {
-        push_line_at(page, tree, path)?;
+    for entry in entries {
+        push_entry_line(page, entry)?;
     }
     Ok(())
 }
 
-/// Appends the line of the node at a path, if there is one.
-pub fn push_line_at(page: &mut String, tree: &Tree, path: &Path) -> Result<(), NoMemory>
-    ensures { OnOk result (string_bytes page.new ≡ string_bytes page.old ++ line_at tree.now path.now) }
+/// Appends the line of a node that a tree lends.
+pub fn push_entry_line(page: &mut String, entry: &Entry) -> Result<(), NoMemory>
+    ensures { OnOk result (string_bytes page.new ≡ string_bytes page.old ++ entry_line entry.now) }
 {
-    let Some(node) = tree.get(path) else {
-        return Ok(());
-    };
-    push_node_line(page, path, node, &node.stat(tree.child_count(path)))?;
+    let stat = entry.node.stat(entry.child_count);
+    spell_node_line(page, entry.path, entry.node, &stat)?;
     page.push('\n')?;
     Ok(())
 }

@@ -38,8 +38,8 @@ pub fn run_script(
     Ok(())
 }
 
-/// Takes the first line from a text.
-fn next_line<'a>(text: &mut &'a str) -> &'a str
+/// Takes the first line from a text that is not empty, without its newline.
+pub fn next_line<'a>(text: &mut &'a str) -> &'a str
     requires { text.old.now ≢ [] }
     ensures line { lines_of text.old.now ≡ result.now ∷ lines_of text.new.now }
     ensures shorter { length text.new.now < length text.old.now }

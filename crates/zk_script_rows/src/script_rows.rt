@@ -3,10 +3,11 @@ use std::test::Fail;
 use zk_debug::Debugger;
 use zk_log::{Ending, Loaded, Txns};
 use zk_machine::Machine;
-use zk_path::Path;
+use zk_path::NoMemory;
 use zk_script::{
-    CommandFault, ScriptFault, push_head, push_line_at, read_command, run_command, run_script,
+    CommandFault, ScriptFault, push_entry_line, push_head, read_command, run_command, run_script,
 };
+use zk_tree::Tree;
 
 /// Lines that each say a command, and what they answer in turn at the start of a log without transactions.
 const COMMANDS: [(&str, &str); 19] = [
@@ -136,16 +137,26 @@ fn a_script_ends_at_a_line_that_says_nothing(rt: HostRuntime) -> Result<(), Fail
     Ok(())
 }
 
+/// Appends the lines of a tree's nodes.
+fn push_nodes(page: &mut String, tree: &Tree) -> Result<(), NoMemory> {
+    let entries = tree.entries()?;
+    for entry in entries.as_slice() {
+        push_entry_line(page, entry)?;
+    }
+    Ok(())
+}
+
 #[test]
 fn a_page_takes_a_head_and_nodes(rt: HostRuntime) -> Result<(), Fail> {
     let machine = Machine::new(rt.alloc())?;
-    let path = Path::read(rt.alloc(), "/zookeeper/quota")?;
     let mut page = String::new(rt.alloc());
     push_head(&mut page, &machine)?;
-    push_line_at(&mut page, machine.tree()?, &path)?;
+    push_nodes(&mut page, machine.tree()?)?;
     assert_eq!(rt;
         page.as_str(),
         "zxid 0000000000000000\n\
+        \"/\" x 1 31 \"world\" \"anyone\" 0000000000000000 0000000000000000 0 0 0 -1 0 0000000000000000 0 1 0000000000000000\n\
+        \"/zookeeper\" x 1 31 \"world\" \"anyone\" 0000000000000000 0000000000000000 0 0 0 -1 0 0000000000000000 0 1 0000000000000000\n\
         \"/zookeeper/quota\" x 1 31 \"world\" \"anyone\" 0000000000000000 0000000000000000 0 0 0 0 0 0000000000000000 0 0 0000000000000000\n"
     );
     Ok(())

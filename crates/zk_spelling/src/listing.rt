@@ -37,7 +37,9 @@ pub fn push_line(text: &mut String, txn: &Txn) -> Result<(), NoMemory>
     Ok(())
 }
 
-fn spell_line(text: &mut String, txn: &Txn) -> Result<(), NoMemory>
+/// Appends a transaction's line, with its newline, or a part of it where memory is refused: for a text that is given up
+/// then. [`push_line`] spells the line apart first, for which it takes memory.
+pub fn spell_line(text: &mut String, txn: &Txn) -> Result<(), NoMemory>
     ensures { OnOk result (string_bytes text.new ≡ string_bytes text.old ++ line_of txn.now) }
 {
     spell_header(text, txn)?;

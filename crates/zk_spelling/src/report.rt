@@ -25,7 +25,13 @@ pub fn push_node_line(
     Ok(())
 }
 
-fn spell_node_line(line: &mut String, path: &Path, node: &Node, stat: &Stat) -> Result<(), NoMemory>
+/// Appends the same, or a part of it where memory is refused: for a text that is given up then.
+pub fn spell_node_line(
+    line: &mut String,
+    path: &Path,
+    node: &Node,
+    stat: &Stat,
+) -> Result<(), NoMemory>
     ensures { OnOk result
         (string_bytes line.new ≡ string_bytes line.old ++ node_line path.now node.now stat.now) }
 {

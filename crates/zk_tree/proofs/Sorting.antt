@@ -1,13 +1,17 @@
--- A map's keys, sorted.
-use Rattle.std.proofs.Common.{◌≡◌, ℕ, false, List, [], ◌∷◌, map, is_some, Some, String, refl, sym, ap, subst, ◌∙◌, arith}
+-- The entries of a map from texts, sorted.
+use Rattle.std.proofs.Common.{◌≡◌, ℕ, ◌+◌, ◌<◌, ◌≤◌, true, false, cond, List, [], ◌∷◌, map, length, is_some, is_eq, is_lt, Less, Some, String, refl, sym, ap, subst, get_or, unwrap_or, ◌∙◌, arith}
 use Rattle.std.proofs.lemmas.Bool.{cond-false}
 use Rattle.std.proofs.lemmas.Cmp.{nat_list_cmp_total, eq_by_cmp_equiv}
-use Rattle.std.proofs.lemmas.List.Elements.{All-tail}
+use Rattle.std.proofs.lemmas.List.{get_or-map, length-map}
+use Rattle.std.proofs.lemmas.List.Elements.{All-map, All-tail}
 use Rattle.std.proofs.lemmas.List.Kept.{IsStrictlySortedBy-dedup}
-use Rattle.std.proofs.lemmas.List.Sorted.{list_any-IsPermutation}
+use Rattle.std.proofs.lemmas.List.Sorted.{All-permutation, IsPermutation-map, list_any-IsPermutation}
 use Rattle.std.proofs.lemmas.Map.Keys.{IsDistinct-IsPermutation}
 use Rattle.std.proofs.lemmas.Map.Text.{is_eq-slice_cmp}
+use Rattle.std.proofs.lemmas.Simd.{map-map}
+use Rattle.std.specs.Borrow.{Bor}
 use Rattle.std.specs.FinMap as finite
+use Rattle.std.specs.FinMap.{find}
 use Rattle.std.specs.FinMap.Entries.{is_some-find}
 use Rattle.std.specs.HashMap as hash
 use Rattle.std.specs.HashMap.{HashMap}
@@ -16,11 +20,9 @@ use Rattle.std.specs.List.Sorted.{IsPermutation, IsSorted, IsStrictlySortedBy}
 use Rattle.std.specs.Ordering.{eq_by_cmp}
 use Rattle.std.specs.String.{string_bytes, string_eq}
 use Rattle.zk_table.specs.States.{path_cmp}
-use Rattle.zk_tree.specs.Branches.{IsKeyed}
-use Rattle.zk_tree.specs.declared.slots.Slot.{Slot}
 use Rattle.zk_tree.specs.Views.{map_of}
 use Rattle.zk_tree.proofs.Kept.{get-map_of}
-use Rattle.zk_tree.proofs.Lists.{keys_are}
+use Rattle.zk_tree.proofs.Lists.{keys_are, rising_keys, same_itself}
 
 -- ---- what is sorted and has nothing twice
 
@@ -60,17 +62,73 @@ contains-map_of es q =
     ∙ ap (list_any (eq_by_cmp path_cmp q)) (keys_spelled es)
 
 -- the texts of a map, sorted, are its keys
-pub sorted_keys : {X Y S : Type 0} (m : HashMap (String Y) X S) (ks : List (List ℕ)) → hash.IsUnique string_eq m → IsPermutation (map string_bytes (hash.keys m)) ks → IsSorted path_cmp ks → ks ≡ finite.keys (map_of m.entries)
+sorted_keys : {X Y S : Type 0} (m : HashMap (String Y) X S) (ks : List (List ℕ)) → hash.IsUnique string_eq m → IsPermutation (map string_bytes (hash.keys m)) ks → IsSorted path_cmp ks → ks ≡ finite.keys (map_of m.entries)
 sorted_keys m ks unique moved sorted =
     sym (keys_are (map_of m.entries) ks
     (strictly_sorted ks sorted (IsDistinct-IsPermutation (eq_by_cmp path_cmp) (eq_by_cmp_equiv nat_list_cmp_total).symm (map string_bytes (hash.keys m)) ks moved (distinct_texts (hash.keys m) unique)))
     (λ q. contains-map_of m.entries q ∙ list_any-IsPermutation (eq_by_cmp path_cmp q) (map string_bytes (hash.keys m)) ks moved))
 
--- ---- the paths that slots keep
+-- ---- what stands at the keys
 
-named : {Y : Type 0} (es : List (String Y × Slot)) → All (λ e. e.1.path ≡ string_bytes e.0) es → map (λ e. e.1.path) es ≡ map string_bytes (map (λ e. e.0) es)
-named [] h = refl
-named (e ∷ es) h = λ i. h 0 e (omega arith) i ∷ named es (All-tail (λ e. e.1.path ≡ string_bytes e.0) e es h) i
+abbrev head_or : {X : Type 0} → X → List X → X
+head_or x [] = x
+head_or x (y ∷ ys) = y
 
-pub slot_paths : {Y S : Type 0} (m : HashMap (String Y) Slot S) → IsKeyed (map_of m.entries) → All (λ e. hash.get string_eq m e.0 ≡ Some e.1) m.entries → map (λ e. e.1.path) m.entries ≡ map string_bytes (hash.keys m)
-slot_paths m keyed found = named m.entries (λ k d within. keyed.paths _ _ (get-map_of m _ ∙ found k d within))
+abbrev rest_of : {X : Type 0} → List X → List X
+rest_of [] = []
+rest_of (y ∷ ys) = ys
+
+-- what stands behind the first entry is found behind it
+found_behind : {X : Type 0} (x : List ℕ × X) (xs es : List (List ℕ × X)) → AllByRecursion (λ k. path_cmp x.0 k ≡ Less) (map (λ e. e.0) es) → AllByRecursion (λ e. find path_cmp e.0 (x ∷ xs) ≡ Some e.1) es → AllByRecursion (λ e. find path_cmp e.0 xs ≡ Some e.1) es
+found_behind x xs [] h a = tt
+found_behind x xs (e ∷ es) h a =
+    let other : eq_by_cmp path_cmp e.0 x.0 ≡ false = (eq_by_cmp_equiv nat_list_cmp_total).symm e.0 x.0 ∙ ap is_eq h.0 in
+    (sym (ap (λ b. cond b (Some x.1) (find path_cmp e.0 xs)) other) ∙ a.0, found_behind x xs es h.1 a.1)
+
+-- a list that has the keys of another, each with what is found there, is the other
+pub same_entries : {X : Type 0} (es xs : List (List ℕ × X)) → IsStrictlySortedBy path_cmp (map (λ e. e.0) xs) → map (λ e. e.0) es ≡ map (λ e. e.0) xs → AllByRecursion (λ e. find path_cmp e.0 xs ≡ Some e.1) es → es ≡ xs
+unfolding IsStrictlySortedBy
+same_entries [] [] h keys a = refl
+same_entries [] (x ∷ xs) h keys a = let none = ap length keys in absurd (omega arith)
+same_entries (e ∷ es) [] h keys a = let none = ap length keys in absurd (omega arith)
+same_entries (e ∷ es) (x ∷ xs) h keys a =
+    let key : e.0 ≡ x.0 = ap (head_or e.0) keys in
+    let behind : map (λ e. e.0) es ≡ map (λ e. e.0) xs = ap rest_of keys in
+    let tied : eq_by_cmp path_cmp e.0 x.0 ≡ true = ap (λ q. eq_by_cmp path_cmp q x.0) key ∙ same_itself x.0 in
+    let value : e.1 ≡ x.1 = ap (λ o. unwrap_or o x.1) (sym a.0 ∙ ap (λ b. cond b (Some x.1) (find path_cmp e.0 xs)) tied) in
+    let rest : es ≡ xs = same_entries es xs h.1 behind (found_behind x xs es (subst (AllByRecursion (λ k. path_cmp x.0 k ≡ Less)) (sym behind) h.0) a.1) in
+    λ i. (key i, value i) ∷ rest i
+
+found_here : {X : Type 0} (m : finite.FinMap path_cmp X) (es : List (List ℕ × X)) → All (λ e. finite.get m e.0 ≡ Some e.1) es → AllByRecursion (λ e. find path_cmp e.0 (finite.entries m) ≡ Some e.1) es
+found_here m [] h = tt
+found_here m (e ∷ es) h = (sym (finite.get-entries m e.0) ∙ h 0 e (omega arith), found_here m es (All-tail (λ e. finite.get m e.0 ≡ Some e.1) e es h))
+
+-- a list that has a map's keys, each with what stands there, is the map's entries
+entries_are : {X : Type 0} (m : finite.FinMap path_cmp X) (es : List (List ℕ × X)) → map (λ e. e.0) es ≡ finite.keys m → All (λ e. finite.get m e.0 ≡ Some e.1) es → es ≡ finite.entries m
+entries_are m es keys found = same_entries es (finite.entries m) (rising_keys m) keys (found_here m es found)
+
+keys_sorted : {A : Type 0} (key : A → List ℕ) (xs : List A) → IsSorted (λ a b. path_cmp (key a) (key b)) xs → IsSorted path_cmp (map key xs)
+keys_sorted key [] h = λ k d low within. absurd (omega arith)
+keys_sorted key (x ∷ xs) h = λ k d low within.
+    let inside : k + 1 < length (x ∷ xs) = subst (λ n. k + 1 < n) (length-map (x ∷ xs) key) within in
+    ap (λ a. is_lt (path_cmp a (get_or (map key (x ∷ xs)) k d))) (get_or-map key (x ∷ xs) (k + 1) x d inside)
+    ∙ ap (λ b. is_lt (path_cmp (key (get_or (x ∷ xs) (k + 1) x)) b)) (get_or-map key (x ∷ xs) k x d (omega arith))
+    ∙ h k x low inside
+
+abbrev pub text_entry : {X Y : Type 0} → String Y × X → List ℕ × X
+text_entry e = (string_bytes e.0, e.1)
+
+abbrev pub lent_entry : {X : Type 0} → Bor (List ℕ) × Bor X → List ℕ × X
+lent_entry e = (e.0.now, e.1.now)
+
+-- the entries of a map from texts, sorted by them, are its entries in order
+pub sorted_entries : {A X Y S : Type 0} (entry : A → List ℕ × X) (m : HashMap (String Y) X S) (es : List A) → hash.IsUnique string_eq m → All (λ e. hash.get string_eq m e.0 ≡ Some e.1) m.entries
+    → IsPermutation (map text_entry m.entries) (map entry es) → IsSorted (λ a b. path_cmp (entry a).0 (entry b).0) es → map entry es ≡ finite.entries (map_of m.entries)
+sorted_entries entry m es unique found moved sorted =
+    let there : All (λ e. finite.get (map_of m.entries) e.0 ≡ Some e.1) (map text_entry m.entries) =
+    All-map (λ e. finite.get (map_of m.entries) e.0 ≡ Some e.1) text_entry m.entries (λ k d within. get-map_of m _ ∙ found k d within) in
+    let keys : IsPermutation (map string_bytes (hash.keys m)) (map (λ e. e.0) (map entry es)) =
+    subst (λ ks. IsPermutation ks (map (λ e. e.0) (map entry es))) (keys_spelled m.entries) (IsPermutation-map (λ e. e.0) (map text_entry m.entries) (map entry es) moved) in
+    entries_are (map_of m.entries) (map entry es)
+    (sorted_keys m (map (λ e. e.0) (map entry es)) unique keys (subst (IsSorted path_cmp) (sym (map-map (λ e. e.0) entry es)) (keys_sorted (λ a. (entry a).0) es sorted)))
+    (All-permutation (λ e. finite.get (map_of m.entries) e.0 ≡ Some e.1) _ (map entry es) moved there)

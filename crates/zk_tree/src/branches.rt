@@ -1,9 +1,11 @@
-ghost use Rattle.std.specs.Prelude.{◌≡◌, IfOk, IfErr, IfSome, option_map, OnOk, OnErr, None, Some, IsSome, true, length, List, ℕ};
+ghost use Rattle.std.specs.Prelude.{◌≡◌, IfOk, IfErr, IfSome, option_map, OnOk, OnErr, None, Some, IsSome, true, length, map, List, ℕ};
 ghost use Rattle.std.specs.FinMap as finite;
 ghost use Rattle.std.specs.Option.{option_copied, ForSome};
 ghost use Rattle.zk_path.specs.Paths.{parent_of};
 ghost use Rattle.zk_table.specs.States.{children_of};
+ghost use Rattle.zk_tree.specs.Entries.{lent, entries_of};
 
+use crate::entry::Entry;
 use crate::paths::PathSet;
 use crate::refused::Refused;
 use crate::slots::{Slot, Slots};
@@ -95,6 +97,17 @@ impl Branches {
         }
     }
 
+    /// The node at a path, and how many children it has.
+    pub(crate) fn counted(&self, path: &str) -> Option<(&Node, usize)>
+        ensures node { option_map (λ found. found.0.now) result ≡ finite.get self.now path.now }
+        ensures count { IfSome result (λ found. found.1 ≡ length (children_of self.now path.now)) }
+    {
+        match self.slots.get(path) {
+            Some(slot) => Some((&slot.node, slot.children.len())),
+            None => None,
+        }
+    }
+
     /// The paths of the children of the node at a path, in order.
     pub(crate) fn children(&self, path: &str) -> Result<Vec<Path>, NoMemory>
         ensures { IfOk result (λ paths. paths.items ≡ children_of self.now path.now) }
@@ -105,11 +118,33 @@ impl Branches {
         }
     }
 
+    /// The nodes, each with its path and the number of its children, in the order of the paths.
+    pub(crate) fn entries(&self) -> Result<Vec<Entry<'_>>, NoMemory>
+        ensures { IfOk result (λ entries. map lent entries.items ≡ entries_of self.now) }
+    {
+        let slots = self.slots.entries(self.alloc)?;
+        let mut entries = Vec::with_capacity(self.alloc, slots.len())?;
+        for place in slots.as_slice() {
+            let (_, slot) = *place;
+            entries.push(Entry {
+                path: &slot.path,
+                node: &slot.node,
+                child_count: slot.children.len(),
+            })?;
+        }
+        Ok(entries)
+    }
+
     /// All paths, in order.
     pub(crate) fn paths(&self) -> Result<Vec<Path>, NoMemory>
         ensures { IfOk result (λ paths. paths.items ≡ finite.keys self.now) }
     {
-        self.slots.paths(self.alloc)
+        let entries = self.entries()?;
+        let mut paths = Vec::with_capacity(self.alloc, entries.len())?;
+        for entry in entries.as_slice() {
+            paths.push(entry.path.copy()?)?;
+        }
+        Ok(paths)
     }
 
     /// The paths of a set, in order. Each has a node.

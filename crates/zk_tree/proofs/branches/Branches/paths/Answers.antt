@@ -1,16 +1,11 @@
-use Rattle.std.proofs.Common.{◌≡◌, List, ℕ, IfOk, subst, sym, ap, ◌∙◌}
-use Rattle.std.specs.FinMap as finite
-use Rattle.zk_tree.specs.Branches.{nodes_of}
-use Rattle.zk_tree.proofs.Branching.{contains_key-nodes_of}
-use Rattle.zk_tree.proofs.Lists.{keys_are, rising_keys}
+use Rattle.std.proofs.Common.{◌+◌, ◌≤◌, ◌<◌, length, map, ap, ◌∙◌, arith}
+use Rattle.std.proofs.lemmas.List.{take_all}
+use Rattle.zk_tree.proofs.Lending.{paths_lent}
 use Rattle.zk_tree.proofs.branches.Branches.paths.Goals as goal
-
-pub paths-requires : goal.paths-requires
-paths-requires c = c.self.invariant.keyed
 
 pub returns : goal.returns
 returns c =
-    subst (λ (ks : List (List ℕ)). IfOk c.paths.result (λ paths. paths.items ≡ ks))
-    (keys_are c.self.inside.slots (finite.keys (nodes_of c.self.inside.slots)) (rising_keys (nodes_of c.self.inside.slots)) (λ q. sym (contains_key-nodes_of c.self.inside.slots q) ∙ finite.contains_key-keys (nodes_of c.self.inside.slots) q)
-    ∙ ap finite.keys c.self.view_is)
-    c.paths.ensures
+    let entries = c.as_slice-entry-items.result.now in
+    c.loop-entry.invariant
+    ∙ ap (map (λ e. e.path.now)) (take_all c.loop-entry.entry-index entries (omega arith) ∙ c.as_slice-entry-items.ensures.value)
+    ∙ paths_lent c.args.self.now c.in_ok-entries.entries.items c.in_ok-entries.ensures
