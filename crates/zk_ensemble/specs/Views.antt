@@ -1,0 +1,106 @@
+-- What is seen of the code's ensembles and of their servers.
+use Rattle.std.specs.Prelude.{◌≡◌, ℕ, Bool, false, List, [], Option, Some, None, map, refl}
+use Rattle.std.specs.Coded.{Coded, code_by, coded×, coded_list, coded_bool, coded_ℕ}
+use Rattle.std.specs.List.{AllByRecursion}
+use Rattle.zab_epoch.specs.declared.quorums.Majority.{Majority}
+use Rattle.zab_epoch.specs.Quorums.{is_majority}
+use Rattle.zab_epoch.specs.declared.message.Message.{Message}
+use Rattle.zab_broadcast.specs.declared.state.State.{State as ServerState}
+use Rattle.zab_runs.specs.Runs.{Sight}
+use Rattle.zab_runs.specs.Standings.{Standing}
+use Rattle.zab_runs.specs.Worlds.{World, Profile}
+use Rattle.zk_prepare.specs.declared.call.Call.{Call}
+use Rattle.zk_runs.specs.declared.answer.Answered.{Answered}
+use Rattle.zk_runs.specs.declared.event.Event.{Event}
+use Rattle.zk_runs.specs.declared.event.Event.TheVariants as events
+use Rattle.zk_runs.specs.Consequences.{FitEvents}
+use Rattle.zk_runs.specs.Ensembles.{Shown, Ensemble, ensemble, profile_by}
+use Rattle.zk_runs.specs.Runs.{run}
+use Rattle.zk_table.specs.declared.node.Node.{Node}
+use Rattle.zk_table.specs.States.{State, start_state, state_code}
+use Rattle.zk_watch.specs.declared.watch.Fired.{Fired}
+use Rattle.zk_watch.specs.declared.watch.Watch.{Watch}
+
+-- ---- a server
+
+-- what it shows; of one that has failed nothing is said
+pub record ReplicaView : Type 0 where
+  pub shown : Shown
+  pub failed : Bool
+
+abbrev pub replica : Shown → Bool → ReplicaView
+replica shown failed = record { shown = shown; failed = failed }
+
+abbrev pub shown_code : Coded Node → Coded Answered → Coded Watch → Coded Fired → Coded Shown
+shown_code node answered watch fired =
+    code_by (State × (List Answered × (List Watch × List Fired))) (coded× (state_code node) (coded× (coded_list answered) (coded× (coded_list watch) (coded_list fired)))) (λ s. (s.tree, (s.answers, (s.watches, s.events)))) (λ p. record { tree = p.0; answers = p.1.0; watches = p.1.1.0; events = p.1.1.1 }) (λ _. refl)
+
+abbrev pub replica_code : Coded Node → Coded Answered → Coded Watch → Coded Fired → Coded ReplicaView
+replica_code node answered watch fired =
+    code_by (Shown × Bool) (coded× (shown_code node answered watch fired) coded_bool) (λ r. (r.shown, r.failed)) (λ p. record { shown = p.0; failed = p.1 }) (λ _. refl)
+
+abbrev pub AreRunning : List ReplicaView → Type 0
+AreRunning replicas = AllByRecursion (λ it. it.failed ≡ false) replicas
+
+abbrev pub shown_by : List ReplicaView → List Shown
+shown_by replicas = map (λ it. it.shown) replicas
+
+abbrev pub shown_in : Option ReplicaView → Option Shown
+shown_in None = None
+shown_in (Some it) = Some it.shown
+
+-- ---- an ensemble
+
+-- the world under it, what its servers show, and whether it was refused memory
+pub record EnsembleView : Type 0 where
+  pub below : Sight Majority Call
+  pub shown : List Shown
+  pub failed : Bool
+
+abbrev pub standing_code : Coded ServerState → Coded Standing
+standing_code state = code_by (Bool × ServerState) (coded× coded_bool state) (λ s. (s.up, s.state)) (λ p. record { up = p.0; state = p.1 }) (λ _. refl)
+
+abbrev pub world_code : Coded ServerState → Coded (Message Call) → Coded (World Call)
+world_code state message =
+    code_by (List Standing × (List (Message Call) × List ℕ)) (coded× (coded_list (standing_code state)) (coded× (coded_list message) (coded_list coded_ℕ))) (λ w. (w.servers, (w.messages, w.tags))) (λ p. record { servers = p.0; messages = p.1.0; tags = p.1.1 }) (λ _. refl)
+
+abbrev pub below_code : Coded Majority → Coded (World Call) → Coded (Sight Majority Call)
+below_code quorums world =
+    code_by (Majority × (ℕ × (Bool × World Call))) (coded× quorums (coded× coded_ℕ (coded× coded_bool world))) (λ s. (s.quorums, (s.servers, (s.failed, s.world)))) (λ p. record { quorums = p.0; servers = p.1.0; failed = p.1.1.0; world = p.1.1.1 }) (λ _. refl)
+
+abbrev pub ensemble_code : Coded (Sight Majority Call) → Coded Shown → Coded EnsembleView
+ensemble_code below shown =
+    code_by (Sight Majority Call × (List Shown × Bool)) (coded× below (coded× (coded_list shown) coded_bool)) (λ e. (e.below, (e.shown, e.failed))) (λ p. record { below = p.0; shown = p.1.0; failed = p.1.1 }) (λ _. refl)
+
+abbrev pub state_of : EnsembleView → Ensemble
+state_of it = ensemble it.below.world it.shown
+
+-- its quorums are the majorities
+abbrev pub profile_in : Sight Majority Call → Profile Call
+profile_in below = profile_by (is_majority below.quorums.servers)
+
+-- one that has not failed is that of a run, of events whose sessions are numbers of 64 bits
+pub record IsOfRun (below : Sight Majority Call) (replicas : List ReplicaView) : Type 0 where
+  pub fine : below.failed ≡ false
+  pub running : AreRunning replicas
+  pub events : List Event
+  pub fit : FitEvents events
+  pub reached : ensemble below.world (shown_by replicas) ≡ (run (profile_in below) below.servers events).0
+
+abbrev pub IsRead : Event → Type 0
+IsRead (events.World event) = ⊥
+IsRead (events.Read question) = Unit {0}
+
+-- ---- what one of its servers shows; nothing where there is none
+
+abbrev pub answers_in : Option Shown → List Answered
+answers_in None = []
+answers_in (Some it) = it.answers
+
+abbrev pub events_in : Option Shown → List Fired
+events_in None = []
+events_in (Some it) = it.events
+
+abbrev pub tree_in : Option Shown → State
+tree_in None = start_state
+tree_in (Some it) = it.tree

@@ -1,0 +1,238 @@
+ghost use Rattle.std.specs.Prelude.{◌≡◌, ◌≢◌, ℕ, length, true, false, Err};
+ghost use Rattle.zab_runs.specs.declared.fault.WorldFault.TheVariants as world_faults;
+ghost use Rattle.zk_runs.specs.Consequences.{FitsInWorld};
+ghost use Rattle.zk_runs.specs.Ensembles.{of_world};
+
+use crate::moving::{catch_up, find, look, mover};
+use crate::replica::Replica;
+use std::alloc::Global;
+use std::marker::Model;
+use zab_epoch::{Entry, Majority, Message};
+use zab_runs::Moved;
+use zab_world::{World, WorldFault};
+use zk_machine::Machine;
+use zk_path::NoMemory;
+use zk_prepare::Call;
+use zk_primary::Preparer;
+use zk_runs::{Answer, Answered, EnsembleFault, Event, Question};
+use zk_watch::Fired;
+
+/// Servers with trees, and the messages between them, after some events. Servers are numbered from 1.
+///
+/// Until it is refused memory by an event that is no read, an ensemble is that of a run: a list of events from a new ensemble
+/// on.
+#[derive(Drop)]
+pub struct Ensemble {
+    alloc: Global,
+    failed: bool,
+    world: World<Preparer, Majority>,
+    replicas: Vec<Replica>,
+}
+
+impl Model for Ensemble {
+    ghost use Rattle.std.specs.Prelude.{◌≡◌, false};
+    ghost use Rattle.zab_epoch.specs.contracts.quorums.Majority as majority;
+    ghost use Rattle.zab_epoch.specs.contracts.message.Message as message;
+    ghost use Rattle.zab_broadcast.specs.contracts.state.State as state;
+    ghost use Rattle.zk_prepare.specs.contracts.call.Call as call;
+    ghost use Rattle.zk_table.specs.contracts.node.Node as node;
+    ghost use Rattle.zk_runs.specs.contracts.answer.Answered as answered;
+    ghost use Rattle.zk_watch.specs.contracts.watch.Watch as watch;
+    ghost use Rattle.zk_watch.specs.contracts.watch.Fired as fired;
+    ghost use Rattle.zk_ensemble.specs.Views.{EnsembleView, world_code, below_code, shown_code, ensemble_code, shown_by, IsOfRun};
+
+    ghost Value = { EnsembleView };
+
+    ghost coded = { ensemble_code
+        (below_code majority.the_row.coded (world_code state.the_row.coded (message.the_row call.the_row).coded))
+        (shown_code node.the_row.coded answered.the_row.coded watch.the_row.coded fired.the_row.coded) };
+
+    ghost view = { λ it. record { below = it.world; shown = shown_by it.replicas.items; failed = it.failed } };
+
+    ghost invariant = { λ it. it.failed ≡ false → IsOfRun it.world it.replicas.items };
+}
+
+impl Ensemble {
+    ghost use Rattle.std.specs.Prelude.{◌≡◌, ◌≢◌, ◌⊎◌, replicate, true, false, IfOk, Err};
+    ghost use Rattle.zab_runs.specs.Runs.{delivered_of};
+    ghost use Rattle.zab_runs.specs.Worlds.{new_world, is_server};
+    ghost use Rattle.zk_primary.specs.Entries.{txns_of};
+    ghost use Rattle.zk_runs.specs.declared.event.Event.TheVariants as events;
+    ghost use Rattle.zk_runs.specs.declared.fault.EnsembleFault.TheVariants as faults;
+    ghost use Rattle.zk_runs.specs.Ensembles.{fresh, happens, shown_at};
+    ghost use Rattle.zk_runs.specs.Headline.{IsNextInRun};
+    ghost use Rattle.zk_runs.specs.Runs.{answered_of};
+    ghost use Rattle.zk_table.specs.Histories.{tree_of};
+    ghost use Rattle.zk_ensemble.specs.Views.{state_of, profile_in, IsRead, answers_in, events_in, tree_in};
+
+    /// A new ensemble of so many servers, all of them up, in which the quorums are the majorities.
+    pub fn new(alloc: Global, servers: usize) -> Result<Ensemble, NoMemory>
+        ensures { IfOk result (λ it. it ≡ record {
+          below = record {
+            quorums = record { servers = servers };
+            servers = servers;
+            failed = false;
+            world = new_world servers;
+          };
+          shown = replicate servers fresh;
+          failed = false;
+        }) }
+    {
+        let world = World::new(alloc, servers)?;
+        let mut replicas = Vec::new(alloc);
+        for _ in 0..servers {
+            replicas.push(Replica::new(alloc)?)?;
+        }
+        Ok(Ensemble {
+            alloc,
+            failed: false,
+            world,
+            replicas,
+        })
+    }
+
+    /// One event happens. A read that is refused memory changes nothing. Once memory was refused at another event, no event
+    /// happens any more, and each is refused so.
+    pub fn step(&mut self, event: Event) -> Result<Answer, EnsembleFault>
+        ensures acts { result ≢ Err faults.NoMemory → (state_of self.new, result) ≡ happens (profile_in self.old.below) (state_of self.old) event }
+        ensures run { result ≢ Err faults.NoMemory
+            → IsNextInRun (profile_in self.old.below) self.old.below.servers (state_of self.old) event (state_of self.new) }
+        ensures same { (self.new.below.quorums ≡ self.old.below.quorums) × (self.new.below.servers ≡ self.old.below.servers) }
+        ensures fine { result ≢ Err faults.NoMemory → self.new.failed ≡ false }
+        ensures fails { result ≡ Err faults.NoMemory → (self.new.failed ≡ true) ⊎ (IsRead event × (self.new ≡ self.old)) }
+        ensures failed { self.old.failed ≡ true → result ≡ Err faults.NoMemory }
+    {
+        if self.failed {
+            return Err(EnsembleFault::NoMemory);
+        }
+        match event {
+            Event::World(event) => self.move_world(event),
+            Event::Read(question) => self.look(&question),
+        }
+    }
+
+    /// An event of the world happens, and the server that it is about delivers what it has not yet.
+    fn move_world(&mut self, event: zab_runs::Event<Call>) -> Result<Answer, EnsembleFault>
+        requires { self.old.failed ≡ false }
+        ensures acts { result ≢ Err faults.NoMemory → (state_of self.new, result) ≡ happens (profile_in self.old.below) (state_of self.old) (events.World event) }
+        ensures fits { FitsInWorld event }
+        ensures same { (self.new.below.quorums ≡ self.old.below.quorums) × (self.new.below.servers ≡ self.old.below.servers) }
+        ensures fine { result ≢ Err faults.NoMemory → self.new.failed ≡ false }
+        ensures fails { result ≡ Err faults.NoMemory → self.new.failed ≡ true }
+    {
+        know_session(&event);
+        let number = mover(self.world.messages(), &event);
+        let before = self.world.delivered(number).len();
+        let answer = self.world.step(event);
+        if is_no_memory(&answer)
+            || catch_up(self.alloc, &self.world, &mut self.replicas, number, before).is_err()
+        {
+            self.failed = true;
+            return Err(EnsembleFault::NoMemory);
+        }
+        told(answer)
+    }
+
+    /// A client reads.
+    fn look(&mut self, question: &Question) -> Result<Answer, EnsembleFault>
+        requires { self.old.failed ≡ false }
+        ensures acts { result ≢ Err faults.NoMemory → (state_of self.new, result) ≡ happens (profile_in self.old.below) (state_of self.old) (events.Read question.now) }
+        ensures below { self.new.below ≡ self.old.below }
+        ensures fine { self.new.failed ≡ false }
+        ensures unchanged { result ≡ Err faults.NoMemory → self.new ≡ self.old }
+    {
+        if let Err(fault) = self.world.running(question.server) {
+            return Err(EnsembleFault::from(fault));
+        }
+        look(&mut self.replicas, question)
+    }
+
+    /// Whether memory was refused at an event that is no read.
+    pub fn has_failed(&self) -> bool
+        ensures { result ≡ self.now.failed }
+    {
+        self.failed
+    }
+
+    /// What each entry that a server has delivered was answered, lent: the table's results, in order. None where no server
+    /// has this number.
+    pub fn answers(&self, number: usize) -> &[Answered]
+        requires { self.now.failed ≡ false }
+        ensures shown { result.now ≡ answers_in (shown_at self.now.shown number) }
+        ensures table { is_server self.now.below.servers number ≡ true → result.now ≡ answered_of (delivered_of self.now.below.world number) }
+    {
+        match find(&self.replicas, number) {
+            Some(replica) => replica.answers(),
+            None => &[],
+        }
+    }
+
+    /// What was fired at a server since it started, lent, in order; none where no server has this number.
+    pub fn events_of(&self, number: usize) -> &[Fired]
+        requires { self.now.failed ≡ false }
+        ensures { result.now ≡ events_in (shown_at self.now.shown number) }
+    {
+        match find(&self.replicas, number) {
+            Some(replica) => replica.events(),
+            None => &[],
+        }
+    }
+
+    /// A machine in the state of a server's tree, which is what its delivered list leads to: the start state where the server
+    /// is down, or where no server has this number.
+    pub fn tree(&self, number: usize) -> Result<Machine, NoMemory>
+        requires { self.now.failed ≡ false }
+        ensures shown { IfOk result (λ machine. machine ≡ record { state = tree_in (shown_at self.now.shown number); steps = 0; failed = false }) }
+        ensures table { is_server self.now.below.servers number ≡ true
+            → IfOk result (λ machine. machine.state ≡ tree_of (txns_of (delivered_of self.now.below.world number))) }
+    {
+        match find(&self.replicas, number) {
+            Some(replica) => replica.tree(),
+            None => Machine::new(self.alloc),
+        }
+    }
+
+    /// The entries that a server has delivered, lent; none where no server has this number.
+    pub fn delivered(&self, number: usize) -> &[Entry]
+        requires { self.now.failed ≡ false }
+        ensures { result.now ≡ delivered_of self.now.below.world number }
+    {
+        self.world.delivered(number)
+    }
+
+    /// All messages ever sent, lent, from number 1 on.
+    pub fn messages(&self) -> &[Message<Call>]
+        requires { self.now.failed ≡ false }
+        ensures { result.now ≡ self.now.below.world.messages }
+    {
+        self.world.messages()
+    }
+}
+
+/// The type of a session says that it is a number of 64 bits: it is known once the session is read.
+fn know_session(event: &zab_runs::Event<Call>)
+    ensures { FitsInWorld event.now }
+{
+    let _session = match event {
+        zab_runs::Event::Submit { call, .. } => call.session,
+        zab_runs::Event::Expire { session, .. } => *session,
+        _ => 0,
+    };
+}
+
+/// A world's answer, as an ensemble's.
+fn told(answer: Result<Moved, WorldFault>) -> Result<Answer, EnsembleFault>
+    ensures { result ≡ of_world answer }
+{
+    match answer {
+        Ok(moved) => Ok(Answer::Moved(moved)),
+        Err(fault) => Err(EnsembleFault::from(fault)),
+    }
+}
+
+fn is_no_memory(answer: &Result<Moved, WorldFault>) -> bool
+    ensures no { result ≡ false → answer.now ≢ Err world_faults.NoMemory }
+    ensures yes { result ≡ true → answer.now ≡ Err world_faults.NoMemory }
+{
+    matches!(answer, Err(WorldFault::NoMemory))
+}

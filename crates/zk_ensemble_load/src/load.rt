@@ -1,0 +1,145 @@
+//! The run.
+
+use crate::calls::call;
+use anyhow::{Result, bail};
+use std::alloc::Global;
+use zab_epoch::Entry;
+use zk_ensemble::{Ensemble, EnsembleFault, Event};
+use zk_path::NoMemory;
+
+const SERVERS: usize = 5;
+
+/// Of so many messages one is lost; of so many one arrives twice.
+const LOST: usize = 1999;
+
+const TWICE: usize = 1013;
+
+/// More messages than any call or election leads to.
+const ENOUGH: usize = 10_000;
+
+/// An ensemble, the calls and events that were made, and how many of its messages were sent on.
+#[derive(Drop)]
+pub(crate) struct Load {
+    alloc: Global,
+    ensemble: Ensemble,
+    leader: usize,
+    calls: u64,
+    events: u64,
+    sent: usize,
+}
+
+/// The server that leads in a term, and the one that is down.
+fn roles(term: usize) -> (usize, usize) {
+    ((term % SERVERS) + 1, ((term % SERVERS) + 2) % SERVERS + 1)
+}
+
+impl Load {
+    pub(crate) fn new(alloc: Global) -> Result<Load, NoMemory> {
+        Ok(Load {
+            alloc,
+            ensemble: Ensemble::new(alloc, SERVERS)?,
+            leader: 1,
+            calls: 0,
+            events: 0,
+            sent: 0,
+        })
+    }
+
+    /// How many events there were.
+    pub(crate) fn events(&self) -> u64 {
+        self.events
+    }
+
+    /// What the leader has delivered.
+    pub(crate) fn delivered(&self) -> Result<&[Entry], NoMemory> {
+        if self.ensemble.has_failed() {
+            return Err(NoMemory);
+        }
+        Ok(self.ensemble.delivered(self.leader))
+    }
+
+    /// An event happens, or is refused.
+    fn happens(&mut self, event: zab_runs::Event<zk_prepare::Call>) -> Result<(), NoMemory> {
+        self.events = self.events.wrapping_add(1);
+        match self.ensemble.step(Event::World(event)) {
+            Err(EnsembleFault::NoMemory) => Err(NoMemory),
+            _ => Ok(()),
+        }
+    }
+
+    /// A message arrives, once or twice, or is lost. An addressee that lost one follows the leader anew; the leader itself
+    /// cannot, and is refused.
+    fn send_on(&mut self, message: usize, addressee: usize) -> Result<(), NoMemory> {
+        if message.is_multiple_of(LOST) {
+            return self.happens(zab_runs::Event::Follow {
+                server: addressee,
+                leader: self.leader,
+            });
+        }
+        if message.is_multiple_of(TWICE) {
+            self.happens(zab_runs::Event::Arrive { message })?;
+        }
+        self.happens(zab_runs::Event::Arrive { message })
+    }
+
+    /// The number and the addressee of the next message that was not sent on.
+    fn next_message(&self) -> Result<Option<(usize, usize)>, NoMemory> {
+        if self.ensemble.has_failed() {
+            return Err(NoMemory);
+        }
+        match self.ensemble.messages().get(self.sent) {
+            Some(message) => Ok(Some((self.sent.saturating_add(1), message.addressee))),
+            None => Ok(None),
+        }
+    }
+
+    /// All messages are sent on, and those that these lead to.
+    fn settle(&mut self) -> Result<()> {
+        for _ in 0..ENOUGH {
+            let Some((message, addressee)) = self.next_message()? else {
+                return Ok(());
+            };
+            self.sent = message;
+            self.send_on(message, addressee)?;
+        }
+        bail!("messages without end")
+    }
+
+    /// All servers are up but one, and follow another.
+    fn elect(&mut self, leader: usize, down: usize) -> Result<()> {
+        self.leader = leader;
+        for server in 1..=SERVERS {
+            self.happens(zab_runs::Event::Restart { server })?;
+        }
+        self.happens(zab_runs::Event::Crash { server: down })?;
+        self.happens(zab_runs::Event::Lead { server: leader })?;
+        for server in 1..=SERVERS {
+            self.happens(zab_runs::Event::Follow { server, leader })?;
+        }
+        self.settle()
+    }
+
+    /// The next call is submitted, most at the leader and some at a follower, and done.
+    fn submit(&mut self) -> Result<()> {
+        let follower = self.leader % SERVERS + 1;
+        let server = if self.calls % 5 == 4 {
+            follower
+        } else {
+            self.leader
+        };
+        let call = call(self.alloc, self.calls)?;
+        self.calls = self.calls.wrapping_add(1);
+        self.happens(zab_runs::Event::Submit { server, call })?;
+        self.settle()
+    }
+
+    /// A term with so many calls.
+    pub(crate) fn run_term(&mut self, term: usize, calls: u64) -> Result<()> {
+        let (leader, down) = roles(term);
+        self.elect(leader, down)?;
+        for _ in 0..calls {
+            self.submit()?;
+        }
+        Ok(())
+    }
+}

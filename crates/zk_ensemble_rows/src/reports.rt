@@ -1,0 +1,126 @@
+//! What servers show, as text.
+
+ghost use Rattle.std.specs.Prelude.{◌≡◌, false};
+
+use std::alloc::Global;
+use std::test::Fail;
+use zab_epoch::Body;
+use zk_ensemble::Ensemble;
+use zk_listing::{push_line, push_node_line, push_result_line};
+use zk_machine::Machine;
+use zk_path::{NoMemory, Path};
+use zk_prepare::Call;
+use zk_tree::Tree;
+
+/// What is asked for: of a server, the entries that it has delivered, what these were answered, what was fired, or the tree;
+/// how many messages were sent; or what one of them says.
+#[derive(Clone, Copy)]
+pub enum Report {
+    Delivered(usize),
+    Answers(usize),
+    Events(usize),
+    Tree(usize),
+    Sent,
+    Message(usize),
+}
+
+/// A listing.
+fn delivered_by(alloc: Global, ensemble: &Ensemble, server: usize) -> Result<String, NoMemory>
+    requires { ensemble.now.failed ≡ false }
+{
+    let mut text = String::new(alloc);
+    for entry in ensemble.delivered(server) {
+        push_line(&mut text, &entry.txn)?;
+    }
+    Ok(text)
+}
+
+/// Each result, spelled from a copy, behind its tag and its session.
+fn answers_at(alloc: Global, ensemble: &Ensemble, server: usize) -> Result<String, NoMemory>
+    requires { ensemble.now.failed ≡ false }
+{
+    let mut text = String::new(alloc);
+    for answered in ensemble.answers(server) {
+        let copy = answered.copy()?;
+        write!(text, "{} {:016x} ", copy.tag, copy.session)?;
+        push_result_line(&mut text, &copy.result)?;
+        text.push('\n')?;
+    }
+    Ok(text)
+}
+
+/// Each event behind its session.
+fn events_at(alloc: Global, ensemble: &Ensemble, server: usize) -> Result<String, NoMemory>
+    requires { ensemble.now.failed ≡ false }
+{
+    let mut text = String::new(alloc);
+    for fired in ensemble.events_of(server) {
+        let (session, kind, path) = (fired.session, fired.kind, fired.path.text());
+        write!(text, "{session:016x} {kind:?} {path}\n")?;
+    }
+    Ok(text)
+}
+
+/// Appends the last transaction, and the sessions.
+fn push_head(text: &mut String, machine: &Machine) -> Result<(), Fail> {
+    write!(text, "zxid {:016x}\n", machine.last()?)?;
+    for (session, timeout) in machine.sessions()? {
+        write!(text, "session {session:016x} {timeout}\n")?;
+    }
+    Ok(())
+}
+
+/// Appends a node's line.
+fn push_node(text: &mut String, tree: &Tree, path: &Path) -> Result<(), NoMemory> {
+    if let (Some(node), Some(stat)) = (tree.get(path), tree.stat(path)) {
+        push_node_line(text, path, node, &stat)?;
+        text.push('\n')?;
+    }
+    Ok(())
+}
+
+/// A tree's last transaction, sessions and nodes.
+fn tree_at(alloc: Global, ensemble: &Ensemble, server: usize) -> Result<String, Fail>
+    requires { ensemble.now.failed ≡ false }
+{
+    let machine = ensemble.tree(server)?;
+    let mut text = String::new(alloc);
+    push_head(&mut text, &machine)?;
+    let tree = machine.tree()?;
+    for path in &tree.paths()? {
+        push_node(&mut text, tree, path)?;
+    }
+    Ok(text)
+}
+
+/// What a message of the first two phases says to a follower, or back.
+fn body_line(alloc: Global, body: &Body<Call>) -> Result<String, NoMemory> {
+    match body {
+        Body::NewEpoch { epoch } => Ok(format!(in alloc; "new epoch {epoch}")?),
+        Body::AckEpoch { epoch, vote, .. } => Ok(format!(in alloc; "ack epoch {epoch} {vote}")?),
+        _ => Ok(String::from_str(alloc, "another")?),
+    }
+}
+
+fn message_at(alloc: Global, ensemble: &Ensemble, number: usize) -> Result<String, NoMemory>
+    requires { ensemble.now.failed ≡ false }
+{
+    match ensemble.messages().get(number.wrapping_sub(1)) {
+        Some(message) => body_line(alloc, &message.body),
+        None => Ok(String::from_str(alloc, "none")?),
+    }
+}
+
+/// What is asked for.
+pub fn report_of(alloc: Global, ensemble: &Ensemble, report: Report) -> Result<String, Fail>
+    requires { ensemble.now.failed ≡ false }
+{
+    match report {
+        Report::Delivered(server) => Ok(delivered_by(alloc, ensemble, server)?),
+        Report::Answers(server) => Ok(answers_at(alloc, ensemble, server)?),
+        Report::Events(server) => Ok(events_at(alloc, ensemble, server)?),
+        Report::Tree(server) => tree_at(alloc, ensemble, server),
+        Report::Sent => Ok(format!(in alloc; "{}", ensemble.messages().len())?),
+        Report::Message(number) => Ok(message_at(alloc, ensemble, number)?),
+    }
+}

@@ -1,0 +1,81 @@
+-- The headline's first half: what holds over every list of events of an ensemble, whatever is lost, repeated or reordered,
+-- whoever is told to lead, and whichever servers crash.
+-- Junqueira, Reed, Serafini: Zab: High-performance broadcast for primary-backup systems (DSN 2011), agreement and total order;
+-- ZooKeeper Programmer's Guide, "Consistency Guarantees".
+use Rattle.std.specs.Prelude.{◌≡◌, ◌⊎◌, ℕ, ℤ, pos, ◌≤ℤ◌, true, List, [], ◌∷◌, ◌++◌, map, take, slice_get, Some, Ok}
+use Rattle.zab_epoch.specs.declared.history.Entry.{Entry}
+use Rattle.zab_laws.specs.Prefixes.{IsPrefix, last_key}
+use Rattle.zab_runs.specs.Agreement.{Agrees}
+use Rattle.zab_runs.specs.Laws.{IsTaggedOnce}
+use Rattle.zab_runs.specs.Origins.{IsOrigin}
+use Rattle.zab_runs.specs.Runs as zab
+use Rattle.zab_runs.specs.Worlds.{Profile, is_server}
+use Rattle.zk_prepare.specs.declared.call.Call.{Call}
+use Rattle.zk_primary.specs.Entries.{txns_of}
+use Rattle.zk_runs.specs.declared.answer.Answer.TheVariants.{Looked}
+use Rattle.zk_runs.specs.declared.event.Event.{Event}
+use Rattle.zk_runs.specs.declared.event.Event.TheVariants as events
+use Rattle.zk_runs.specs.declared.event.Question.{Question}
+use Rattle.zk_runs.specs.Consequences.{FitEvents, HasConsequences}
+use Rattle.zk_runs.specs.Ensembles.{Ensemble, Shown, reply_of}
+use Rattle.zk_runs.specs.Runs.{run, in_world, world_count, ensemble_after, shown_after, delivered_after, history_after, answered_of}
+use Rattle.zk_table.specs.declared.read.ReadReply.{ReadReply}
+use Rattle.zk_table.specs.Histories.{tree_of, results_of}
+
+-- a server's tree and replies are the table's, transaction by transaction, over its delivered list
+pub record Shows (delivered : List Entry) (it : Shown) : Type 0 where
+  pub tree : it.tree ≡ tree_of (txns_of delivered)
+  pub answers : it.answers ≡ answered_of delivered
+
+pub record IsShown (profile : Profile Call) (servers : ℕ) (some : List Event) (count number : ℕ) : Type 0 where
+  pub it : Shown
+  pub is : shown_after profile servers some count number ≡ Some it
+  pub shows : Shows (delivered_after profile servers some count number) it
+
+-- what is answered has the table's results
+abbrev pub HasTableResults : List Entry → Type 0
+HasTableResults entries = map (λ answered. answered.result) (answered_of entries) ≡ results_of (txns_of entries)
+
+-- the event at this place is a read that is answered with a reply
+pub record IsAnswered (profile : Profile Call) (servers : ℕ) (some : List Event) (place : ℕ) (question : Question) (reply : ReadReply) : Type 0 where
+  pub asked : slice_get some place ≡ Some (events.Read question)
+  pub told : slice_get (run profile servers some).1 place ≡ Some (Ok (Looked reply))
+
+-- the last transaction of a list, and 0 before the first
+abbrev pub last_zxid : List Entry → ℤ
+last_zxid entries = last_key (λ entry. entry.txn.zxid) (pos 0) entries
+
+pub record Headline (profile : Profile Call) (servers : ℕ) (some : List Event) : Type 0 where
+  -- each server's tree and replies are the table's over its delivered list, at any time,
+  pub shown : (count number : ℕ) → is_server servers number ≡ true → IsShown profile servers some count number
+  -- and each read that is answered is told what stands in that tree
+  pub told : (place : ℕ) (question : Question) (reply : ReadReply) → IsAnswered profile servers some place question reply
+      → reply ≡ reply_of question (tree_of (txns_of (delivered_after profile servers some place question.server)))
+  -- of two lists ever delivered, by any servers at any times, one is a prefix of the other
+  pub one_order : (i j p q : ℕ) → IsPrefix (delivered_after profile servers some i p) (delivered_after profile servers some j q)
+      ⊎ IsPrefix (delivered_after profile servers some j q) (delivered_after profile servers some i p)
+  -- each entry of each history is what an accepted call came to on the tree of the entries before it
+  pub origins : (count number : ℕ) (before : List Entry) (x : Entry) → IsPrefix (before ++ x ∷ []) (history_after profile servers some count number)
+      → (call : Call) × IsOrigin profile servers (in_world (take count some)) before x call
+  -- A client that changes servers, and says what it has seen, never goes back: what answers it has delivered all that any
+  -- server ever delivered up to there.
+  pub never_back : (place : ℕ) (question : Question) (reply : ReadReply) → IsAnswered profile servers some place question reply
+      → (count number : ℕ) → last_zxid (delivered_after profile servers some count number) ≤ℤ question.seen
+      → IsPrefix (delivered_after profile servers some count number) (delivered_after profile servers some place question.server)
+
+-- the world under each ensemble of a run is that of the run of the events that are the world's
+abbrev pub HasWorldsOfRun : Profile Call → ℕ → List Event → Type 0
+HasWorldsOfRun profile servers some =
+    (count : ℕ) → (ensemble_after profile servers some count).world ≡ (zab.run profile servers (take (world_count count some) (in_world some))).0
+
+-- two ensembles that follow one another in a run, by an event; and what holds of the run and of the world's run under it
+pub record IsNextInRun (profile : Profile Call) (servers : ℕ) (before : Ensemble) (event : Event) (next : Ensemble) : Type 0 where
+  pub some : List Event
+  pub reached : before ≡ (run profile servers some).0
+  pub goes_on : next ≡ (run profile servers (some ++ event ∷ [])).0
+  pub headline : Headline profile servers (some ++ event ∷ [])
+  pub consequences : HasConsequences profile servers (some ++ event ∷ [])
+  pub fit : FitEvents (some ++ event ∷ [])
+  pub worlds : HasWorldsOfRun profile servers (some ++ event ∷ [])
+  pub agrees : Agrees profile servers (in_world (some ++ event ∷ []))
+  pub tagged : IsTaggedOnce profile servers (in_world (some ++ event ∷ []))

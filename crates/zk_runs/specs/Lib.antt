@@ -1,0 +1,6 @@
+-- What the contracts of this crate cite.
+pub mod Consequences
+pub mod Ensembles
+pub mod Headline
+pub mod Refusals
+pub mod Runs

@@ -1,0 +1,15 @@
+-- The refusals of a world, as those of an ensemble.
+use Rattle.zab_runs.specs.declared.fault.WorldFault.{WorldFault}
+use Rattle.zab_runs.specs.declared.fault.WorldFault.TheVariants as world
+use Rattle.zk_runs.specs.declared.fault.EnsembleFault.{EnsembleFault}
+use Rattle.zk_runs.specs.declared.fault.EnsembleFault.TheVariants as faults
+
+abbrev pub ensemble_fault_of : WorldFault → EnsembleFault
+ensemble_fault_of world.NoServer = faults.NoServer
+ensemble_fault_of world.NoMessage = faults.NoMessage
+ensemble_fault_of world.Down = faults.Down
+ensemble_fault_of world.NotDown = faults.NotDown
+ensemble_fault_of world.NotServing = faults.NotServing
+ensemble_fault_of world.DuplicateCall = faults.DuplicateCall
+ensemble_fault_of world.EpochFull = faults.EpochFull
+ensemble_fault_of world.NoMemory = faults.NoMemory
