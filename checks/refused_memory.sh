@@ -1,7 +1,7 @@
 #!/usr/bin/env bash
 # Refuses each growth of memory in turn, from the first on until a run meets none, while the proved program shows
 # examples/first_log_head.log, lists the first log, and makes it of its listing; and the same for a log with a path of 200
-# bytes and a content that is longer than a page of output. Each run must end with the whole output, or with `zk: memory`,
+# bytes and contents that are longer than a page of output. Each run must end with the whole output, or with `zk: memory`,
 # status 1, and a part of the output from its front.
 set -euo pipefail
 work=$(mktemp -d)
@@ -41,14 +41,15 @@ refuse_each examples/first_log_head.shown show examples/first_log_head.log last
 refuse_each examples/first_log.listing list examples/first_log.log
 refuse_each examples/first_log.log asm examples/first_log.listing @
 
-# a path of 200 bytes, and a line that fills more than one page
+# a path of 200 bytes, a line that fills more than one page, and behind it one that needs a longer page still
 path=/$(printf 'a%.0s' $(seq 199))
 digits=$(printf '6b%.0s' $(seq 40000))
 cat >"$work/long.listing" <<END
 0000000100000001 0100000000000001 0 1000 createSession 30000
 0000000100000002 0100000000000001 1 2000 create "$path" x$digits 1 31 "world" "anyone" p 1
-0000000100000003 0100000000000001 2 3000 setData "$path" x6869 1
-0000000100000004 0100000000000001 3 4000 closeSession
+0000000100000003 0100000000000001 2 3000 setData "$path" x$digits$digits$digits 1
+0000000100000004 0100000000000001 3 4000 setData "$path" x6869 2
+0000000100000005 0100000000000001 4 5000 closeSession
 END
 "$zk" asm "$work/long.listing" "$work/long.log"
 "$zk" show "$work/long.log" last >"$work/long.shown"

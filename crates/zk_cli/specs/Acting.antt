@@ -5,6 +5,7 @@ use Rattle.zk_log.specs.declared.source.Source.{Source}
 use Rattle.zk_path.specs.declared.memory.NoMemory.{NoMemory}
 use Rattle.zk_orders.specs.Assembling.{Assembles}
 use Rattle.zk_orders.specs.Debugs.{Debugs}
+use Rattle.zk_orders.specs.Running.{RunsText}
 use Rattle.zk_orders.specs.Showing.{report_of}
 use Rattle.zk_orders.specs.Telling.{TellsLog}
 use Rattle.zk_orders.specs.declared.command.Order.{Order}
@@ -16,4 +17,5 @@ abbrev pub Acts : {F S O E : Type 0} → (F → Option (List ℕ)) → (S → Op
 Acts remaining remaining_script written told (orders.Show upto) file file' script script' output output' faults faults' result = TellsLog remaining written told (report_of (reports.Tree upto)) file file' output output' faults faults' result × (script' ≡ script)
 Acts remaining remaining_script written told orders.List file file' script script' output output' faults faults' result = TellsLog remaining written told (report_of reports.Listing) file file' output output' faults faults' result × (script' ≡ script)
 Acts remaining remaining_script written told orders.Asm file file' script script' output output' faults faults' result = Assembles remaining written told file file' output output' faults faults' result × (script' ≡ script)
+Acts remaining remaining_script written told orders.Run file file' script script' output output' faults faults' result = RunsText remaining written told file file' output output' faults faults' result × (script' ≡ script)
 Acts remaining remaining_script written told orders.Debug file file' script script' output output' faults faults' result = Debugs remaining remaining_script written told file file' script script' output output' faults faults' result

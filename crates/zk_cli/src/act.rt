@@ -5,13 +5,13 @@ ghost use Rattle.zk_log.specs.Devices.{reads_of, read_failures_of, write_failure
 use std::alloc::Global;
 use std::io::{Read, Write};
 use zk_log::{Sink, Source};
-use zk_orders::{Order, Report, asm, debug, tell_log};
+use zk_orders::{Order, Report, asm, debug, run, tell_log};
 use zk_path::NoMemory;
 
 /// Does what an order asks for, and answers the exit status: 0, or 1 for a refused input or a failed output, with one
 /// line on `faults`.
 ///
-/// `file` is the log, and for [`Order::Asm`] the listing. `script` is the script of [`Order::Debug`]; the others leave
+/// `file` is the log, for [`Order::Asm`] the listing, and for [`Order::Run`] the script. `script` is the script of [`Order::Debug`]; the others leave
 /// it.
 pub fn act<F: Read, S: Read, O: Write, E: Write>(
     alloc: Global,
@@ -35,5 +35,6 @@ pub fn act<F: Read, S: Read, O: Write, E: Write>(
         Order::List => tell_log(alloc, Report::Listing, file, output, faults),
         Order::Asm => asm(alloc, file, output, faults),
         Order::Debug => debug(alloc, file, script, output, faults),
+        Order::Run => run(alloc, file, output, faults),
     }
 }

@@ -1,9 +1,11 @@
-//! The program `zk`: a look at transaction logs of ZooKeeper 3.4.
+//! The program `zk`: a look at transaction logs of ZooKeeper 3.4, and runs of its servers.
 #![tactic(auto)]
 
 mod act;
 #[cfg(test)]
 mod debug_tests;
+#[cfg(test)]
+mod run_tests;
 #[cfg(test)]
 mod tests;
 

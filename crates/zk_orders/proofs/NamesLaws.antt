@@ -63,6 +63,19 @@ same_by name values orders.Debug orders.Debug i i' (Some s) (Some s') t t' p q =
     let both : i ∷ s ∷ [] ≡ i' ∷ s' ∷ [] = sym p.1 ∙ q.1 in
     let script : s ≡ s' = cc both in
     (refl, cc both, ap Some script, p.3 ∙ sym q.3)
+same_by name values orders.Run orders.Run i i' s s' t t' p q =
+    let both : i ∷ [] ≡ i' ∷ [] = sym p.1 ∙ q.1 in
+    (refl, cc both, p.2 ∙ sym q.2, p.3 ∙ sym q.3)
+same_by name values orders.Run (orders.Show v) i i' s s' t t' p q = absurd (let e : codes "run" ≡ codes "show" = sym p.0 ∙ q.0 in cc)
+same_by name values orders.Run orders.List i i' s s' t t' p q = absurd (let e : codes "run" ≡ codes "list" = sym p.0 ∙ q.0 in cc)
+same_by name values orders.Run orders.Asm i i' s s' t t' p q = absurd (let e : codes "run" ≡ codes "asm" = sym p.0 ∙ q.0 in cc)
+same_by name values orders.Run orders.Debug i i' s None t t' p q = absurd q
+same_by name values orders.Run orders.Debug i i' s (Some s') t t' p q = absurd (let e : codes "run" ≡ codes "debug" = sym p.0 ∙ q.0 in cc)
+same_by name values (orders.Show u) orders.Run i i' s s' t t' p q = absurd (let e : codes "show" ≡ codes "run" = sym p.0 ∙ q.0 in cc)
+same_by name values orders.List orders.Run i i' s s' t t' p q = absurd (let e : codes "list" ≡ codes "run" = sym p.0 ∙ q.0 in cc)
+same_by name values orders.Asm orders.Run i i' s s' t t' p q = absurd (let e : codes "asm" ≡ codes "run" = sym p.0 ∙ q.0 in cc)
+same_by name values orders.Debug orders.Run i i' None s' t t' p q = absurd p
+same_by name values orders.Debug orders.Run i i' (Some s) s' t t' p q = absurd (let e : codes "debug" ≡ codes "run" = sym p.0 ∙ q.0 in cc)
 same_by name values (orders.Show u) orders.List i i' s s' t t' p q = absurd (let e : codes "show" ≡ codes "list" = sym p.0 ∙ q.0 in cc)
 same_by name values (orders.Show u) orders.Asm i i' s s' t t' p q = absurd (let e : codes "show" ≡ codes "asm" = sym p.0 ∙ q.0 in cc)
 same_by name values (orders.Show u) orders.Debug i i' s None t t' p q = absurd q

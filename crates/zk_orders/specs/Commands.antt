@@ -60,6 +60,7 @@ abbrev pub NamesBy : List ℕ → List (List ℕ) → Order → List ℕ → Opt
 NamesBy name values (orders.Show upto) input script output = (name ≡ codes "show") × (values ≡ input ∷ upto_text upto ∷ []) × IsUpto upto × (script ≡ None) × (output ≡ codes "@")
 NamesBy name values orders.List input script output = (name ≡ codes "list") × (values ≡ input ∷ []) × (script ≡ None) × (output ≡ codes "@")
 NamesBy name values orders.Asm input script output = (name ≡ codes "asm") × (values ≡ input ∷ output ∷ []) × (script ≡ None)
+NamesBy name values orders.Run input script output = (name ≡ codes "run") × (values ≡ input ∷ []) × (script ≡ None) × (output ≡ codes "@")
 NamesBy name values orders.Debug input None output = ⊥
 NamesBy name values orders.Debug input (Some script) output = (name ≡ codes "debug") × (values ≡ input ∷ script ∷ []) × (both_standard input script ≡ false) × (output ≡ codes "@")
 

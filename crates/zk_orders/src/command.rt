@@ -19,13 +19,15 @@ pub enum Order {
     Asm,
     /// Answers the lines of a debug script over a log.
     Debug,
+    /// Answers the lines of a run script: elections, crashes, messages, calls and reads of an ensemble.
+    Run,
 }
 
 /// What a command line asks for: an order, and the names that it gives.
 #[derive(Clone, Copy, Debug)]
 pub struct Job<'a> {
     pub order: Order,
-    /// The log, or the listing of [`Order::Asm`]: a path, or `@` for standard input.
+    /// The log, the listing of [`Order::Asm`] or the script of [`Order::Run`]: a path, or `@` for standard input.
     pub input: &'a str,
     /// The script of [`Order::Debug`]: a path, or `@` for standard input. No other order has one.
     pub script: Option<&'a str>,
@@ -84,6 +86,14 @@ fn job_by<'a>(alloc: Global, name: &str, values: &[&'a str]) -> Result<Option<Jo
     if name == "list" {
         return Ok(only(values).map(|input| Job {
             order: Order::List,
+            input,
+            script: None,
+            output: "@",
+        }));
+    }
+    if name == "run" {
+        return Ok(only(values).map(|input| Job {
+            order: Order::Run,
             input,
             script: None,
             output: "@",

@@ -113,7 +113,11 @@ fn push_answers(
 }
 
 /// Writes the answers of a script. Answers the exit status.
-fn put_answers<O: Write, E: Write>(answers: &str, output: &mut Sink<O>, faults: &mut Sink<E>) -> u8
+pub(crate) fn put_answers<O: Write, E: Write>(
+    answers: &str,
+    output: &mut Sink<O>,
+    faults: &mut Sink<E>,
+) -> u8
     requires output { write_failures_of output.old < 2 ^ 64 - 1 }
     requires faults { write_failures_of faults.old < 2 ^ 64 - 1 }
     ensures { Outputs O.contents E.contents answers.now output.old output.new
@@ -129,7 +133,7 @@ fn put_answers<O: Write, E: Write>(answers: &str, output: &mut Sink<O>, faults: 
 }
 
 /// Writes the answers to the lines before one that says no command, and tells its number. Answers the exit status.
-fn put_answers_before<O: Write, E: Write>(
+pub(crate) fn put_answers_before<O: Write, E: Write>(
     alloc: Global,
     answers: &str,
     line: u64,

@@ -6,8 +6,8 @@ ghost use Rattle.zk_log.specs.Devices.{write_failures_of};
 use crate::lines::{LineFault, PAGE};
 use std::alloc::Global;
 use std::io::Write;
-use zk_listing::push_line;
 use zk_log::Sink;
+use zk_spelling::spell_line;
 use zk_table::Txn;
 
 /// Writes the listing of these transactions.
@@ -21,7 +21,7 @@ pub(crate) fn write_listing<O: Write>(
 {
     let mut page = String::new(alloc);
     for txn in txns {
-        push_line(&mut page, txn)?;
+        spell_line(&mut page, txn)?;
         // A write for each line would cost more than the lines.
         if page.len() >= PAGE {
             output.write_all(page.as_bytes())?;

@@ -87,12 +87,13 @@ fn command<'a>(alloc: Global) -> Result<Command<'a>, AllocError> {
     Command::new(alloc, "zk")
         .bin_name("zk")?
         .version("0.1.0")
-        .about("Looks at transaction logs of ZooKeeper 3.4")
+        .about("Looks at transaction logs of ZooKeeper 3.4, and runs its servers")
         .subcommand_required(true)
         .subcommand(show_command(alloc)?)?
         .subcommand(list)?
         .subcommand(asm_command(alloc)?)?
-        .subcommand(debug_command(alloc)?)
+        .subcommand(debug_command(alloc)?)?
+        .subcommand(run_command(alloc)?)
 }
 
 /// The grammar of `zk show`.
@@ -128,6 +129,16 @@ fn debug_command<'a>(alloc: Global) -> Result<Command<'a>, AllocError> {
     Command::new(alloc, "debug")
         .about("Answers the lines of a debug script over a log")
         .arg(log_arg(alloc))?
+        .arg(script)
+}
+
+/// The grammar of `zk run`.
+fn run_command<'a>(alloc: Global) -> Result<Command<'a>, AllocError> {
+    let script = Arg::new(alloc, "SCRIPT")
+        .required(true)
+        .help("The script: a path, or @ for standard input");
+    Command::new(alloc, "run")
+        .about("Answers the lines of a run script")
         .arg(script)
 }
 

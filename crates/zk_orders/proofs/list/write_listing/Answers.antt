@@ -11,8 +11,8 @@ use Rattle.zk_orders.specs.Writing.{BrokeOff, Wrote}
 use Rattle.zk_orders.proofs.list.write_listing.Goals as goal
 use Rattle.zk_orders.proofs.list.write_listing.Goals.{then-len-ge-PAGE+in_ok-write_all, else-len-ge-PAGE}
 
-pub returns-in_err-push_line : goal.returns-in_err-push_line
-returns-in_err-push_line g c =
+pub returns-in_err-spell_line : goal.returns-in_err-spell_line
+returns-in_err-spell_line g c =
     let p = err_from_is_err_and c.from_residual.result c.from_residual.ensures.1 in
     rw (p.1, p.2)
     (stops_on_page g.O.Write.contents [] line_of c.args.txns.now c.loop-txn.txn-index c.args.output.now c.loop-txn.output (string_bytes c.loop-txn.page) c.loop-txn.invariant)
@@ -25,9 +25,9 @@ returns-in_err-write_all g c =
     let txns = c.args.txns.now in
     let at = c.loop-txn.txn-index in
     let within : at < length txns = omega arith in
-    let page = string_bytes c.push_line.new.text in
+    let page = string_bytes c.spell_line.new.text in
     let on : OnPage contents c.args.output.now c.loop-txn.output (flat_map line_of (take (at + 1) txns)) page =
-    line_on_page contents [] line_of txns at c.txn-item.result c.args.output.now c.loop-txn.output (string_bytes c.loop-txn.page) page within c.txn-item.is c.loop-txn.invariant c.in_ok-push_line.ensures.appended in
+    line_on_page contents [] line_of txns at c.txn-item.result c.args.output.now c.loop-txn.output (string_bytes c.loop-txn.page) page within c.txn-item.is c.loop-txn.invariant c.in_ok-spell_line.ensures in
     let broke : BrokeOff contents c.loop-txn.output c.write_all.new.self page = record {
       bytes = subst (λ (l : List ℕ). AppendsSome (contents (writer_of c.loop-txn.output)) (contents (writer_of c.write_all.new.self)) l) c.as_bytes.ensures.value c.in_err-write_all.ensures.err;
       failures = c.in_err-write_all.ensures.failures;
@@ -41,9 +41,9 @@ loop-txn-preserved g c =
     let txns = c.args.txns.now in
     let at = c.loop-txn.txn-index in
     let within : at < length txns = omega arith in
-    let page = string_bytes c.push_line.new.text in
+    let page = string_bytes c.spell_line.new.text in
     let on : OnPage contents c.args.output.now c.loop-txn.output (flat_map line_of (take (at + 1) txns)) page =
-    line_on_page contents [] line_of txns at c.txn-item.result c.args.output.now c.loop-txn.output (string_bytes c.loop-txn.page) page within c.txn-item.is c.loop-txn.invariant c.in_ok-push_line.ensures.appended in
+    line_on_page contents [] line_of txns at c.txn-item.result c.args.output.now c.loop-txn.output (string_bytes c.loop-txn.page) page within c.txn-item.is c.loop-txn.invariant c.in_ok-spell_line.ensures in
     elim c.if-len-ge-PAGE.branch [
       | then-len-ge-PAGE+in_ok-write_all w ↦
           let wrote : Wrote contents c.loop-txn.output w.write_all.new.self page = record {

@@ -1,0 +1,15 @@
+use Rattle.std.specs.Prelude.{FitsSigned}
+use Rattle.std.specs.Fmt.{signed_decimal}
+use Rattle.std.specs.Int.{w32}
+use Rattle.zk_listing.specs.Reading.{int_at}
+use Rattle.zk_listing.proofs.AclLaws.{int_exact}
+use Rattle.zk_listing.proofs.DecimalLaws.{narrow32}
+use Rattle.zk_request_lines.specs.Reading.{int_field_at}
+use Rattle.zk_request_lines.proofs.Ended.{takes_ended, takes_itself}
+use Rattle.zk_request_lines.proofs.fields.take_int.Goals as goal
+
+pub returns : goal.returns
+unfolding int_field_at
+returns c =
+    let found = takes_ended (λ x. x) signed_decimal (FitsSigned w32) (int_at w32) (int_exact w32 narrow32) c.args.input.now.now c.read_int-read.result c.read_int-read.new.input.now c.read_int-read.ensures.found c.read_int-read.ensures.only in
+    takes_itself _ _ _ (rw c.ended.ensures found)

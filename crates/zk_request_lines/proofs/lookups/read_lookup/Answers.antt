@@ -1,0 +1,11 @@
+use Rattle.zk_request_lines.specs.Reading.{lookup_at}
+use Rattle.zk_request_lines.specs.RequestLines.{SpellsLookup}
+use Rattle.zk_request_lines.proofs.LookupTexts.{whole_lookup}
+use Rattle.zk_request_lines.proofs.Readings.{reads_all}
+use Rattle.zk_request_lines.proofs.lookups.read_lookup.Goals as goal
+
+pub returns : goal.returns
+returns c =
+    let input = c.args.text.now in
+    let read = reads_all SpellsLookup lookup_at whole_lookup input c.take_lookup-read.result c.take_lookup-read.new.input.now c.take_lookup-read.ensures in
+    rw c.alone.ensures read

@@ -1,0 +1,102 @@
+//! The reader of reads.
+ghost use Rattle.std.specs.Prelude.{◌≡◌, Some};
+ghost use Rattle.zk_listing.specs.Reading.{Takes, mapped, spaced, Makes};
+ghost use Rattle.zk_request_lines.specs.Promises.{ReadsAll};
+ghost use Rattle.zk_request_lines.specs.Reading.{lookup_at, lookup_of, watched_at, text_field_at, call_of};
+ghost use Rattle.zk_request_lines.specs.RequestLines.{SpellsLookup};
+
+use crate::fields::alone;
+use crate::spaced::{flag, spaced_text, take_word};
+use std::alloc::Global;
+use zk_listing::ListCause;
+use zk_path::{Path, PathFault};
+use zk_table::ReadCall;
+
+/// What a read's line says.
+#[derive(Debug, Drop)]
+pub enum Lookup {
+    /// A read, and whether the session is to be told when what was read changes.
+    Asks { call: ReadCall, watch: bool },
+    /// A read at a text that is no path.
+    BadPath,
+}
+
+/// What is asked of a node.
+#[derive(Clone, Copy, Debug)]
+pub(crate) enum Aspect {
+    Content,
+    Existence,
+    Children,
+    Acl,
+}
+
+impl Aspect {
+    /// The read of it at a path.
+    fn at(self, path: Path) -> ReadCall
+        ensures { result ≡ call_of self path }
+    {
+        match self {
+            Aspect::Content => ReadCall::GetData { path },
+            Aspect::Existence => ReadCall::Exists { path },
+            Aspect::Children => ReadCall::GetChildren { path },
+            Aspect::Acl => ReadCall::GetAcl { path },
+        }
+    }
+}
+
+/// The read that a text says: `get [-w] PATH`, `stat [-w] PATH`, `ls [-w] PATH` or `getacl PATH`.
+pub fn read_lookup(alloc: Global, text: &str) -> Result<Lookup, ListCause>
+    ensures { ReadsAll SpellsLookup text.now result }
+{
+    let mut rest = text;
+    let read = take_lookup(alloc, &mut rest);
+    alone(read, rest)
+}
+
+/// Takes a read from the front.
+#[tactic(auto, unfolding(crate::specs::Reading::lookup_at))]
+pub fn take_lookup(alloc: Global, input: &mut &str) -> Result<Lookup, ListCause>
+    ensures { Takes result input.new.now (lookup_at input.old.now) }
+{
+    match take_word(input) {
+        "get" => watched(alloc, Aspect::Content, input),
+        "stat" => watched(alloc, Aspect::Existence, input),
+        "ls" => watched(alloc, Aspect::Children, input),
+        "getacl" => at_path(alloc, Aspect::Acl, false, input),
+        _ => Err(ListCause::Word),
+    }
+}
+
+/// A read that may set a watch, behind its word.
+fn watched(alloc: Global, aspect: Aspect, input: &mut &str) -> Result<Lookup, ListCause>
+    ensures { Takes result input.new.now (watched_at aspect input.old.now) }
+{
+    let watch = flag(input, "-w");
+    at_path(alloc, aspect, watch, input)
+}
+
+/// A space and the text of a path, to be read there.
+fn at_path(
+    alloc: Global,
+    aspect: Aspect,
+    watch: bool,
+    input: &mut &str,
+) -> Result<Lookup, ListCause>
+    ensures { Takes result input.new.now (mapped (lookup_of aspect watch) (spaced text_field_at) input.old.now) }
+{
+    let text = spaced_text(alloc, input)?;
+    lookup_of(alloc, aspect, watch, text.as_str())
+}
+
+fn lookup_of(alloc: Global, aspect: Aspect, watch: bool, text: &str) -> Result<Lookup, ListCause>
+    ensures { Makes result (Some (lookup_of aspect watch text.now)) }
+{
+    match Path::read(alloc, text) {
+        Ok(path) => Ok(Lookup::Asks {
+            call: aspect.at(path),
+            watch,
+        }),
+        Err(PathFault::NoMemory) => Err(ListCause::NoMemory),
+        Err(_) => Ok(Lookup::BadPath),
+    }
+}

@@ -1,0 +1,156 @@
+//! The readers of what changes a node, and of the parts of a multi.
+ghost use Rattle.std.specs.Prelude.{◌≡◌};
+ghost use Rattle.zk_listing.specs.Reading.{Takes, mapped};
+ghost use Rattle.zk_request_lines.specs.Promises.{ReadsAll};
+ghost use Rattle.zk_request_lines.specs.Reading.{created_at, written_at, named_at, part_at, next_part_at, parts_in, ContinuesParts, part_created, part_written};
+ghost use Rattle.zk_request_lines.specs.RequestLines.{flags_of, SpellsPart};
+
+use crate::fields::{Created, Named, Written, alone};
+use crate::spaced::{
+    flag, spaced_acl, spaced_content, spaced_int, spaced_text, take_space, take_word,
+};
+use std::alloc::Global;
+use zk_listing::ListCause;
+use zk_prepare::{Part, Parts};
+
+/// The part of a multi that a line says, without its newline: `create [-s] [-e] PATH CONTENT ACL`, `delete PATH VERSION`,
+/// `set PATH CONTENT VERSION` or `check PATH VERSION`.
+pub fn read_part(alloc: Global, line: &str) -> Result<Part, ListCause>
+    ensures { ReadsAll SpellsPart line.now result }
+{
+    let mut rest = line;
+    let read = part(alloc, &mut rest);
+    alone(read, rest)
+}
+
+/// The parts of a multi, each behind its separator, up to the end of the input.
+pub(crate) fn parts(alloc: Global, input: &mut &str) -> Result<Parts, ListCause>
+    ensures { Takes result input.new.now (parts_in input.old.now) }
+{
+    let mut parts = Vec::new(alloc);
+    while let Some(part) = next_part(alloc, input)? {
+        parts.push(part)?;
+    }
+    Ok(Parts::new(parts))
+}
+
+/// A separator and a part, or none at the end of the input.
+fn next_part(alloc: Global, input: &mut &str) -> Result<Option<Part>, ListCause>
+    ensures { ContinuesParts result input.new.now input.old.now }
+{
+    if input.is_empty() {
+        return Ok(None);
+    }
+    let part = separated(alloc, input)?;
+    Ok(Some(part))
+}
+
+/// A separator and a part.
+#[tactic(auto, unfolding(crate::specs::Reading::next_part_at))]
+fn separated(alloc: Global, input: &mut &str) -> Result<Part, ListCause>
+    ensures { Takes result input.new.now (next_part_at input.old.now) }
+{
+    if !flag(input, ";") {
+        return Err(ListCause::Word);
+    }
+    take_space(input)?;
+    part(alloc, input)
+}
+
+/// A part, without its separator.
+#[tactic(auto, unfolding(crate::specs::Reading::part_at))]
+fn part(alloc: Global, input: &mut &str) -> Result<Part, ListCause>
+    ensures { Takes result input.new.now (part_at input.old.now) }
+{
+    match take_word(input) {
+        "create" => part_create(alloc, input),
+        "delete" => {
+            let Named { path, version } = named(alloc, input)?;
+            Ok(Part::Delete { path, version })
+        }
+        "set" => part_set(alloc, input),
+        "check" => {
+            let Named { path, version } = named(alloc, input)?;
+            Ok(Part::Check { path, version })
+        }
+        _ => Err(ListCause::Word),
+    }
+}
+
+fn part_create(alloc: Global, input: &mut &str) -> Result<Part, ListCause>
+    ensures { Takes result input.new.now (mapped part_created created_at input.old.now) }
+{
+    let fields = created(alloc, input)?;
+    Ok(Part::Create {
+        path: fields.path,
+        content: fields.content,
+        acl: fields.acl,
+        flags: fields.flags,
+    })
+}
+
+fn part_set(alloc: Global, input: &mut &str) -> Result<Part, ListCause>
+    ensures { Takes result input.new.now (mapped part_written written_at input.old.now) }
+{
+    let fields = written(alloc, input)?;
+    Ok(Part::SetData {
+        path: fields.path,
+        content: fields.content,
+        version: fields.version,
+    })
+}
+
+/// The number of a create's flags.
+fn flags_of(sequential: bool, ephemeral: bool) -> i32
+    ensures { result ≡ flags_of sequential ephemeral }
+{
+    match (sequential, ephemeral) {
+        (false, false) => 0,
+        (false, true) => 1,
+        (true, false) => 2,
+        (true, true) => 3,
+    }
+}
+
+/// The fields of a create, behind its word.
+#[tactic(auto, unfolding(crate::specs::Reading::created_at, crate::specs::Reading::created_fields_at))]
+pub(crate) fn created(alloc: Global, input: &mut &str) -> Result<Created, ListCause>
+    ensures { Takes result input.new.now (created_at input.old.now) }
+{
+    let sequential = flag(input, "-s");
+    let ephemeral = flag(input, "-e");
+    let path = spaced_text(alloc, input)?;
+    let content = spaced_content(alloc, input)?;
+    let acl = spaced_acl(alloc, input)?;
+    Ok(Created {
+        path,
+        content,
+        acl,
+        flags: flags_of(sequential, ephemeral),
+    })
+}
+
+/// The fields of a set, behind its word.
+#[tactic(auto, unfolding(crate::specs::Reading::written_at))]
+pub(crate) fn written(alloc: Global, input: &mut &str) -> Result<Written, ListCause>
+    ensures { Takes result input.new.now (written_at input.old.now) }
+{
+    let path = spaced_text(alloc, input)?;
+    let content = spaced_content(alloc, input)?;
+    let version = spaced_int(input)?;
+    Ok(Written {
+        path,
+        content,
+        version,
+    })
+}
+
+/// The fields of a delete or a check, behind its word.
+#[tactic(auto, unfolding(crate::specs::Reading::named_at))]
+pub(crate) fn named(alloc: Global, input: &mut &str) -> Result<Named, ListCause>
+    ensures { Takes result input.new.now (named_at input.old.now) }
+{
+    let path = spaced_text(alloc, input)?;
+    let version = spaced_int(input)?;
+    Ok(Named { path, version })
+}

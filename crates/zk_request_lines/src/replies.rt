@@ -1,0 +1,80 @@
+//! What a client is told.
+ghost use Rattle.std.specs.Prelude.{◌≡◌, ◌++◌, ◌∷◌, OnOk, OnErr};
+ghost use Rattle.std.specs.List.{flat_map};
+ghost use Rattle.std.specs.String.{string_bytes};
+ghost use Rattle.zk_spelling.specs.Spelling.{stat_text};
+ghost use Rattle.zk_request_lines.specs.ReplyLines.{refusal_text, reply_text, name_text, names_text};
+
+use zk_acl::{Stat, Text};
+use zk_listing::{push_acl, push_content, push_quoted, push_stat};
+use zk_path::NoMemory;
+use zk_table::ReadReply;
+
+/// Appends a refusal by its code.
+#[tactic(auto, unfolding(crate::specs::ReplyLines::refusal_text))]
+pub fn push_refusal(line: &mut String, code: i32) -> Result<(), NoMemory>
+    ensures appended { OnOk result (string_bytes line.new ≡ string_bytes line.old ++ refusal_text code) }
+{
+    line.push_str("err ")?;
+    write!(line, "{code}")?;
+    Ok(())
+}
+
+/// Appends what a read is told, without a newline.
+pub fn push_reply(line: &mut String, reply: &ReadReply) -> Result<(), NoMemory>
+    ensures appended { OnOk result (string_bytes line.new ≡ string_bytes line.old ++ reply_text reply.now) }
+    ensures unchanged { OnErr result (string_bytes line.new ≡ string_bytes line.old) }
+{
+    let mut told = String::new(*line.allocator());
+    spell_reply(&mut told, reply)?;
+    line.push_str(told.as_str())?;
+    Ok(())
+}
+
+fn spell_reply(line: &mut String, reply: &ReadReply) -> Result<(), NoMemory>
+    ensures { OnOk result (string_bytes line.new ≡ string_bytes line.old ++ reply_text reply.now) }
+{
+    match reply {
+        ReadReply::Content { content, stat } => {
+            line.push_str("ok ")?;
+            push_content(line, content)?;
+            spell_stat(line, stat)
+        }
+        ReadReply::Found(stat) => {
+            line.push_str("ok")?;
+            spell_stat(line, stat)
+        }
+        ReadReply::Children { names, stat } => {
+            line.push_str("ok ")?;
+            spell_names(line, names.as_slice())?;
+            spell_stat(line, stat)
+        }
+        ReadReply::AclIs { acl, stat } => {
+            line.push_str("ok ")?;
+            push_acl(line, acl)?;
+            spell_stat(line, stat)
+        }
+        ReadReply::Refused(code) => push_refusal(line, *code),
+    }
+}
+
+/// Appends a space and a stat.
+fn spell_stat(line: &mut String, stat: &Stat) -> Result<(), NoMemory>
+    ensures { OnOk result (string_bytes line.new ≡ string_bytes line.old ++ 32 ∷ stat_text stat.now) }
+{
+    line.push(' ')?;
+    push_stat(line, stat)
+}
+
+/// Appends the number of names, and each of them behind a space.
+#[tactic(auto, unfolding(crate::specs::ReplyLines::names_text))]
+fn spell_names(line: &mut String, names: &[Text]) -> Result<(), NoMemory>
+    ensures { OnOk result (string_bytes line.new ≡ string_bytes line.old ++ names_text names.now) }
+{
+    write!(line, "{}", names.len())?;
+    for name in names {
+        line.push(' ')?;
+        push_quoted(line, name.as_str())?;
+    }
+    Ok(())
+}

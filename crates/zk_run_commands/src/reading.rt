@@ -1,0 +1,187 @@
+//! The reader of one line.
+ghost use Rattle.std.specs.Prelude.{◌≡◌};
+ghost use Rattle.zk_listing.specs.Reading.{Takes, mapped};
+ghost use Rattle.zk_run_commands.specs.Commands.{ReadsCommand, ReadsServers};
+ghost use Rattle.zk_run_commands.specs.Reading.{two_at, submit_at, expire_at, read_at, submitted, expired, read_by, reported_at, command_at, is_among, among_result, servers_at, counted_result};
+ghost use Rattle.zk_run_commands.specs.declared.command.Command.TheVariants as commands;
+ghost use Rattle.zk_runs.specs.declared.event.Event.TheVariants as events;
+ghost use Rattle.zab_runs.specs.declared.event.Event.TheVariants.{Follow as WorldFollow};
+
+use crate::command::{Command, Report};
+use crate::fields::{id, ids, int, long, lookup, number, place, request};
+use std::alloc::Global;
+use zab_runs::Event as WorldEvent;
+use zk_listing::ListCause;
+use zk_prepare::Call;
+use zk_request_lines::{Lookup, take_word};
+use zk_runs::{Event, Question};
+
+/// The command that a line says among so many servers, without its newline. A report on another server is none.
+pub fn read_command(alloc: Global, servers: usize, line: &str) -> Result<Command, ListCause>
+    ensures { ReadsCommand servers line.now result }
+{
+    let mut rest = line;
+    let read = command(alloc, &mut rest);
+    among(servers, read, rest)
+}
+
+/// What was read, if nothing is left behind it and it asks of a server that there is.
+fn among(servers: usize, read: Result<Command, ListCause>, left: &str) -> Result<Command, ListCause>
+    ensures { result ≡ among_result servers left.now read }
+{
+    let command = read?;
+    if left.is_empty() && is_among(servers, &command) {
+        return Ok(command);
+    }
+    Err(ListCause::Fields)
+}
+
+/// Whether a report is asked of a server that there is.
+fn is_among(servers: usize, command: &Command) -> bool
+    ensures { result ≡ is_among servers command.now }
+{
+    match command {
+        Command::Reports { server, .. } => 0 < *server && *server <= servers,
+        _ => true,
+    }
+}
+
+#[tactic(auto, unfolding(crate::specs::Reading::command_at))]
+fn command(alloc: Global, input: &mut &str) -> Result<Command, ListCause>
+    ensures { Takes result input.new.now (command_at input.old.now) }
+{
+    match take_word(input) {
+        "lead" => Ok(happens(WorldEvent::Lead {
+            server: place(input)?,
+        })),
+        "follow" => follow(input),
+        "arrive" => Ok(happens(WorldEvent::Arrive {
+            message: place(input)?,
+        })),
+        "crash" => Ok(happens(WorldEvent::Crash {
+            server: place(input)?,
+        })),
+        "restart" => Ok(happens(WorldEvent::Restart {
+            server: place(input)?,
+        })),
+        "submit" => submit(alloc, input),
+        "expire" => expire(input),
+        "read" => read(alloc, input),
+        "delivered" => report(Report::Delivered, input),
+        "answers" => report(Report::Answers, input),
+        "events" => report(Report::Events, input),
+        "tree" => report(Report::Tree, input),
+        _ => Err(ListCause::Word),
+    }
+}
+
+/// What happens in the world of servers.
+fn happens(event: WorldEvent<Call>) -> Command
+    ensures { result ≡ commands.Happens (events.World event) }
+{
+    Command::Happens(Event::World(event))
+}
+
+fn follow(input: &mut &str) -> Result<Command, ListCause>
+    ensures { Takes result input.new.now (mapped (λ x. commands.Happens (events.World (WorldFollow x.0 x.1))) two_at input.old.now) }
+{
+    let server = place(input)?;
+    let leader = place(input)?;
+    Ok(happens(WorldEvent::Follow { server, leader }))
+}
+
+#[tactic(auto, unfolding(crate::specs::Reading::submit_at))]
+fn submit(alloc: Global, input: &mut &str) -> Result<Command, ListCause>
+    ensures { Takes result input.new.now (mapped submitted submit_at input.old.now) }
+{
+    let server = place(input)?;
+    let tag = number(input)?;
+    let session = id(input)?;
+    let cxid = int(input)?;
+    let now = long(input)?;
+    let auths = ids(alloc, input)?;
+    let request = request(alloc, input)?;
+    let call = Call {
+        tag,
+        session,
+        cxid,
+        auths,
+        now,
+        request,
+    };
+    Ok(happens(WorldEvent::Submit { server, call }))
+}
+
+#[tactic(auto, unfolding(crate::specs::Reading::expire_at))]
+fn expire(input: &mut &str) -> Result<Command, ListCause>
+    ensures { Takes result input.new.now (mapped expired expire_at input.old.now) }
+{
+    let server = place(input)?;
+    let tag = number(input)?;
+    let session = id(input)?;
+    let now = long(input)?;
+    Ok(happens(WorldEvent::Expire {
+        server,
+        tag,
+        session,
+        now,
+    }))
+}
+
+#[tactic(auto, unfolding(crate::specs::Reading::read_at))]
+fn read(alloc: Global, input: &mut &str) -> Result<Command, ListCause>
+    ensures { Takes result input.new.now (mapped read_by read_at input.old.now) }
+{
+    let server = place(input)?;
+    let session = id(input)?;
+    let seen = id(input)?;
+    let auths = ids(alloc, input)?;
+    match lookup(alloc, input)? {
+        Lookup::Asks { call, watch } => Ok(Command::Happens(Event::Read(Question {
+            server,
+            session,
+            seen,
+            auths,
+            call,
+            watch,
+        }))),
+        Lookup::BadPath => Ok(Command::ReadsNoPath),
+    }
+}
+
+fn report(report: Report, input: &mut &str) -> Result<Command, ListCause>
+    ensures { Takes result input.new.now (reported_at report input.old.now) }
+{
+    let server = place(input)?;
+    Ok(Command::Reports { report, server })
+}
+
+/// The number of servers, from 2 to 15, that a script's first line says: `servers N`.
+pub fn read_servers(line: &str) -> Result<usize, ListCause>
+    ensures { ReadsServers line.now result }
+{
+    let mut rest = line;
+    let read = servers(&mut rest);
+    counted(read, rest)
+}
+
+/// What was read, if nothing is left behind it and it is from 2 to 15.
+fn counted(read: Result<usize, ListCause>, left: &str) -> Result<usize, ListCause>
+    ensures { result ≡ counted_result left.now read }
+{
+    let servers = read?;
+    if left.is_empty() && 2 <= servers && servers <= 15 {
+        return Ok(servers);
+    }
+    Err(ListCause::Fields)
+}
+
+#[tactic(auto, unfolding(crate::specs::Reading::servers_at))]
+fn servers(input: &mut &str) -> Result<usize, ListCause>
+    ensures { Takes result input.new.now (servers_at input.old.now) }
+{
+    match take_word(input) {
+        "servers" => place(input),
+        _ => Err(ListCause::Word),
+    }
+}

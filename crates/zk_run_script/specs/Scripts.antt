@@ -1,0 +1,71 @@
+-- What a run script is answered. This project's own.
+use Rattle.std.specs.Prelude.{◌≡◌, ◌+◌, ◌⊎◌, ℕ, List, [], ◌∷◌, ◌++◌, length, Result, Ok, Err, codes}
+use Rattle.zk_ensemble.specs.Views.{EnsembleView}
+use Rattle.zk_run_commands.specs.Commands.{Says, SaysNothing, SaysServers}
+use Rattle.zk_run_commands.specs.declared.command.Command.{Command}
+use Rattle.zk_script.specs.Scripts.{lines_of}
+use Rattle.zk_script.specs.declared.fault.ScriptFault.{ScriptFault}
+use Rattle.zk_script.specs.declared.fault.ScriptFault.TheVariants as faults
+use Rattle.zk_run_script.specs.Playing.{started, Answers}
+
+-- each line says its command
+abbrev pub SayAll : ℕ → List (List ℕ) → List Command → Type 0
+SayAll servers [] [] = Unit {0}
+SayAll servers (line ∷ lines) (command ∷ commands) = Says servers line command × SayAll servers lines commands
+SayAll servers lines commands = ⊥
+
+-- the answers to commands in turn
+abbrev pub AnswersAll : EnsembleView → List Command → List ℕ → EnsembleView → Type 0
+AnswersAll old [] answers new = (answers ≡ []) × (new ≡ old)
+AnswersAll old (command ∷ commands) answers new =
+    (between : EnsembleView) × (answer : List ℕ) × (others : List ℕ) × Answers old command answer between × AnswersAll between commands others new × (answers ≡ answer ++ others)
+
+-- Why a script ends behind its first line and so many commands, with these lines left: none is left, or the first says no
+-- command. Where memory was refused, the command of the first may be done already, and is not answered.
+abbrev pub EndsScript : ℕ → ℕ → List (List ℕ) → EnsembleView → Result (Unit {0}) ScriptFault → EnsembleView → Type 0
+EndsScript servers done [] between (Ok x) new = new ≡ between
+EndsScript servers done (line ∷ lines) between (Err (faults.Malformed number)) new = (number ≡ done + 2) × SaysNothing servers line × (new ≡ between)
+EndsScript servers done (line ∷ lines) between (Err faults.NoMemory) new =
+    (new ≡ between) ⊎ ((command : Command) × (answer : List ℕ) × Says servers line command × Answers between command answer new)
+EndsScript servers done left between result new = ⊥
+
+-- commands are answered up to the end of the text, or to its first line that says none
+pub record Plays (servers : ℕ) (old : EnsembleView) (text before : List ℕ) (result : Result (Unit {0}) ScriptFault) (after : List ℕ) (new : EnsembleView) : Type 0 where
+  pub said : List (List ℕ)
+  pub left : List (List ℕ)
+  pub lines : lines_of text ≡ said ++ left
+  pub commands : List Command
+  pub say : SayAll servers said commands
+  pub between : EnsembleView
+  pub answers : List ℕ
+  pub answered : AnswersAll old commands answers between
+  pub told : after ≡ before ++ answers
+  pub ends : EndsScript servers (length commands) left between result new
+
+-- the servers start, and what follows is played by them
+pub record Begins (servers : ℕ) (text before : List ℕ) (result : Result (Unit {0}) ScriptFault) (after : List ℕ) : Type 0 where
+  pub new : EnsembleView
+  pub plays : Plays servers (started servers) text (before ++ codes "ok\n") result after new
+
+-- or memory for them is refused
+abbrev pub BeginsOrNot : ℕ → List ℕ → List ℕ → Result (Unit {0}) ScriptFault → List ℕ → Type 0
+BeginsOrNot servers text before result after = Begins servers text before result after ⊎ ((result ≡ Err faults.NoMemory) × (after ≡ before))
+
+-- no line that tells the number of servers stands first
+abbrev pub BeginsWithNone : List (List ℕ) → Type 0
+BeginsWithNone [] = Unit {0}
+BeginsWithNone (first ∷ lines) = (servers : ℕ) → SaysServers first servers → ⊥
+
+-- a script begins with the number of its servers
+pub record BeginsWell (script before : List ℕ) (result : Result (Unit {0}) ScriptFault) (after : List ℕ) : Type 0 where
+  pub first : List ℕ
+  pub text : List ℕ
+  pub lines : lines_of script ≡ first ∷ lines_of text
+  pub servers : ℕ
+  pub counted : SaysServers first servers
+  pub begins : BeginsOrNot servers text before result after
+
+-- what a script is answered: a refusal of its first line changes nothing
+abbrev pub RunsScript : List ℕ → List ℕ → Result (Unit {0}) ScriptFault → List ℕ → Type 0
+RunsScript script before result after =
+    BeginsWell script before result after ⊎ ((BeginsWithNone (lines_of script) × (result ≡ Err (faults.Malformed 1)) × (after ≡ before)) ⊎ ((result ≡ Err faults.NoMemory) × (after ≡ before)))

@@ -1,0 +1,78 @@
+//! What an ensemble answers to a command.
+ghost use Rattle.std.specs.Prelude.{◌≡◌, ◌++◌, OnOk, OnErr};
+ghost use Rattle.std.specs.String.{string_bytes};
+ghost use Rattle.zk_request_lines.specs.ReplyLines.{refusal_text};
+ghost use Rattle.zk_run_script.specs.Playing.{Obeys, reported};
+ghost use Rattle.zk_script.specs.Reports.{line};
+ghost use Rattle.zk_table.specs.Codes.{bad_arguments};
+
+use zk_ensemble::Ensemble;
+use zk_path::NoMemory;
+use zk_request_lines::push_refusal;
+use zk_run_answers::{push_answers, push_counted_tree, push_delivered, push_events, push_told};
+use zk_run_commands::{Command, Report};
+use zk_table::codes::BAD_ARGUMENTS;
+
+/// Does what a command says, and appends the answer's lines. Where memory for the answer is refused, the ensemble has done
+/// it, and nothing is appended.
+pub fn run_command(
+    ensemble: &mut Ensemble,
+    command: Command,
+    answers: &mut String,
+) -> Result<(), NoMemory>
+    ensures obeyed { Obeys ensemble.old command (string_bytes answers.old) result
+        (string_bytes answers.new) ensemble.new }
+    ensures unchanged { OnErr result (string_bytes answers.new ≡ string_bytes answers.old) }
+{
+    let mut answer = String::new(*answers.allocator());
+    obey(ensemble, command, &mut answer)?;
+    answers.push_str(answer.as_str())?;
+    Ok(())
+}
+
+fn obey(ensemble: &mut Ensemble, command: Command, answer: &mut String) -> Result<(), NoMemory>
+    ensures { Obeys ensemble.old command (string_bytes answer.old) result
+        (string_bytes answer.new) ensemble.new }
+{
+    match command {
+        Command::Happens(event) => {
+            let told = ensemble.step(event);
+            push_told(answer, &told)
+        }
+        Command::ReadsNoPath => push_no_path(answer),
+        Command::Reports { report, server } => push_report(answer, ensemble, report, server),
+    }
+}
+
+/// Appends what a read is answered at a text that is no path.
+fn push_no_path(answer: &mut String) -> Result<(), NoMemory>
+    ensures { OnOk result (string_bytes answer.new ≡ string_bytes answer.old ++ line (refusal_text bad_arguments)) }
+{
+    push_refusal(answer, BAD_ARGUMENTS)?;
+    answer.push('\n')?;
+    Ok(())
+}
+
+/// Appends a report on a server.
+fn push_report(
+    answer: &mut String,
+    ensemble: &Ensemble,
+    report: Report,
+    server: usize,
+) -> Result<(), NoMemory>
+    ensures { OnOk result (string_bytes answer.new ≡ string_bytes answer.old ++ reported ensemble.now report server) }
+{
+    if ensemble.has_failed() {
+        answer.push_str("E9\n")?;
+        return Ok(());
+    }
+    match report {
+        Report::Delivered => push_delivered(answer, ensemble.delivered(server)),
+        Report::Answers => push_answers(answer, ensemble.answers(server)),
+        Report::Events => push_events(answer, ensemble.events_of(server)),
+        Report::Tree => {
+            let machine = ensemble.tree(server)?;
+            push_counted_tree(answer, &machine)
+        }
+    }
+}

@@ -1,0 +1,71 @@
+//! What a whole script is answered.
+ghost use Rattle.std.specs.Prelude.{◌≡◌, ◌++◌, ◌≤◌};
+ghost use Rattle.std.specs.String.{string_bytes};
+ghost use Rattle.zk_run_script.specs.Scripts.{RunsScript, BeginsOrNot, Plays};
+
+use crate::playing::run_command;
+use std::alloc::Global;
+use zk_ensemble::Ensemble;
+use zk_listing::ListCause;
+use zk_run_commands::{read_command, read_servers};
+use zk_script::{ScriptFault, next_line};
+
+/// Does what the lines of a script say, one after the other, with an ensemble of as many servers as the first line says, and
+/// appends what is answered to them, up to the first that says no command. A newline ends each line; the last one may have
+/// none. A script without lines is refused at line 1.
+pub fn run_script(alloc: Global, script: &str, answers: &mut String) -> Result<(), ScriptFault>
+    ensures { RunsScript script.now (string_bytes answers.old) result (string_bytes answers.new) }
+{
+    if script.is_empty() {
+        return Err(ScriptFault::Malformed(1));
+    }
+    let mut text = script;
+    let first = next_line(&mut text);
+    match read_servers(first) {
+        Ok(servers) => begin(alloc, servers, text, answers),
+        Err(ListCause::NoMemory) => Err(ScriptFault::NoMemory),
+        Err(_) => Err(ScriptFault::Malformed(1)),
+    }
+}
+
+/// Starts so many servers, and does with them what the lines say.
+fn begin(alloc: Global, servers: usize, text: &str, answers: &mut String) -> Result<(), ScriptFault>
+    ensures { BeginsOrNot servers text.now (string_bytes answers.old) result (string_bytes answers.new) }
+{
+    let Ok(mut ensemble) = Ensemble::new(alloc, servers) else {
+        return Err(ScriptFault::NoMemory);
+    };
+    if answers.push_str("ok\n").is_err() {
+        return Err(ScriptFault::NoMemory);
+    }
+    play(alloc, servers, &mut ensemble, text, answers)
+}
+
+/// Does what the lines say, the first of which is the script's second.
+fn play(
+    alloc: Global,
+    servers: usize,
+    ensemble: &mut Ensemble,
+    text: &str,
+    answers: &mut String,
+) -> Result<(), ScriptFault>
+    ensures { Plays servers ensemble.old text.now (string_bytes answers.old) result
+        (string_bytes answers.new) ensemble.new }
+{
+    let mut left = text;
+    let mut number: u64 = 1;
+    while !left.is_empty() {
+        let line = next_line(&mut left);
+        number += 1;
+        match read_command(alloc, servers, line) {
+            Ok(command) => {
+                let Ok(()) = run_command(ensemble, command, answers) else {
+                    return Err(ScriptFault::NoMemory);
+                };
+            }
+            Err(ListCause::NoMemory) => return Err(ScriptFault::NoMemory),
+            Err(_) => return Err(ScriptFault::Malformed(number)),
+        }
+    }
+    Ok(())
+}
