@@ -10,7 +10,6 @@ mod digests;
 mod fault;
 mod fixing;
 mod ids;
-mod sharing;
 mod stat;
 mod text;
 

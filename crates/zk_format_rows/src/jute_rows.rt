@@ -2,7 +2,7 @@
 
 use std::alloc::Global;
 use zk_acl::{Acl, Acls};
-use zk_jute::{JuteFault, read_txn, size, write_txn};
+use zk_jute::{JuteFault, read_txn, read_txn_sharing, size, write_txn};
 use zk_path::{NoMemory, Path};
 use zk_table::{Content, Op, Sub, Txn};
 
@@ -188,6 +188,34 @@ fn is_multi(alloc: Global, record: &[u8]) -> bool {
 #[test]
 fn multi_is_read(rt: HostRuntime) {
     assert!(rt; is_multi(rt.alloc(), &MULTI));
+}
+
+/// Whether a record is read after others, and written back.
+fn is_written_back_after(alloc: Global, earlier: &mut Option<Acls>, record: &[u8]) -> bool {
+    match read_txn_sharing(alloc, earlier, record) {
+        Ok(txn) => is_written(alloc, &txn, record),
+        Err(_) => false,
+    }
+}
+
+/// Whether a create is written back after one with the same access control list, one with another list after it, and the
+/// first one after that.
+fn lists_are_told_apart(alloc: Global) -> bool {
+    let Some(other) = with(alloc, &SECOND, 48, &[0, 0, 0, 1]) else {
+        return false;
+    };
+    let mut earlier = None;
+    let records: [&[u8]; 4] = [&SECOND, &SECOND, other.as_slice(), &SECOND];
+    let mut all = true;
+    for record in records {
+        all = is_written_back_after(alloc, &mut earlier, record) && all;
+    }
+    all
+}
+
+#[test]
+fn records_are_read_after_others(rt: HostRuntime) {
+    assert!(rt; lists_are_told_apart(rt.alloc()));
 }
 
 #[test]

@@ -1,12 +1,11 @@
 -- Bodies that stand alone and in a multi: what is read is spelled so, and what is spelled so is read.
-use Rattle.std.proofs.Common.{◌≡◌, ℕ, ℤ, pos, List, [], ◌∷◌, ◌++◌, Result, Ok, Err, refl, ap, ◌∙◌, append_assoc}
+use Rattle.std.proofs.Common.{◌≡◌, ℕ, List, ◌++◌, Ok, refl, ap, ◌∙◌, append_assoc}
 use Rattle.std.specs.Int.{w32}
 use Rattle.zk_jute.specs.declared.bodies.CreateTxn.{CreateTxn}
 use Rattle.zk_jute.specs.declared.bodies.SetDataTxn.{SetDataTxn}
-use Rattle.zk_jute.specs.declared.fault.JuteFault.{JuteFault}
 use Rattle.zk_jute.specs.Records.{int, ustring, buffer, boolean, acl_vector, create_body, set_data_body, IsCreate, IsSetData}
 use Rattle.zk_jute.specs.Reading.{◌>>=◌, number_at, content_at, boolean_at, acl_at, vector_at, create_at, set_data_at}
-use Rattle.zk_jute.proofs.Numbers.{IsBytes, TakesFront, TakesFront-then, IsField, FirstRead, first_read, at_ok}
+use Rattle.zk_jute.proofs.Numbers.{IsBytes, TakesFront, TakesFront-then, IsField, first_read, at_ok}
 use Rattle.zk_jute.proofs.Texts.{int_field, path_field, content_field, boolean_field}
 use Rattle.zk_jute.proofs.Vectors.{acl_vector_field}
 

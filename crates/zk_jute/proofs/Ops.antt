@@ -1,15 +1,14 @@
 -- Bodies by their types: what is read is spelled so, and what is spelled so is read.
-use Rattle.std.proofs.Common.{◌≡◌, ℕ, ℤ, pos, negsuc, Bool, true, List, [], ◌∷◌, ◌++◌, Result, Ok, Err, refl, sym, ap, subst, ◌∙◌, append_assoc, lit<}
+use Rattle.std.proofs.Common.{◌≡◌, ℕ, ℤ, pos, negsuc, true, List, ◌++◌, Ok, refl, sym, ap, subst, ◌∙◌, append_assoc, lit<}
 use Rattle.std.specs.Prelude.{FitsSigned}
 use Rattle.std.specs.Int.{w32}
 use Rattle.std.specs.Ordering.{int_eq}
 use Rattle.std.proofs.lemmas.Bool.Decides.{Decides-int_eq}
 use Rattle.zk_table.specs.declared.txn.Op.{Op}
 use Rattle.zk_table.specs.declared.txn.Op.TheVariants as ops
-use Rattle.zk_jute.specs.declared.fault.JuteFault.{JuteFault}
 use Rattle.zk_jute.specs.Records.{int, ustring, acl_vector, kind_of, body_of, IsOp}
 use Rattle.zk_jute.specs.Reading.{◌>>=◌, number_at, acl_at, vector_at, set_acl_at, create_op, set_data_op, op_at}
-use Rattle.zk_jute.proofs.Numbers.{IsBytes, TakesFront, TakesFront-then, IsField, FirstRead, first_read, at_ok, made_takes, either}
+use Rattle.zk_jute.proofs.Numbers.{IsBytes, TakesFront, TakesFront-then, first_read, at_ok, made_takes, either}
 use Rattle.zk_jute.proofs.Texts.{int_field, path_field}
 use Rattle.zk_jute.proofs.Vectors.{acl_vector_field}
 use Rattle.zk_jute.proofs.Creates.{create_field, set_data_field}

@@ -1,18 +1,17 @@
 -- Parts of a multi: what is read is spelled so, and what is spelled so is read.
-use Rattle.std.proofs.Common.{◌≡◌, ℕ, ℤ, pos, negsuc, Bool, true, List, [], ◌∷◌, ◌++◌, length, Result, Ok, Err, refl, sym, ap, subst, ◌∙◌, append_assoc, lit<}
-use Rattle.std.specs.Prelude.{FitsSigned, Some}
+use Rattle.std.proofs.Common.{◌≡◌, ℕ, ℤ, pos, negsuc, true, List, [], ◌++◌, length, Ok, refl, sym, ap, subst, ◌∙◌, append_assoc, lit<}
+use Rattle.std.specs.Prelude.{FitsSigned}
 use Rattle.std.specs.Int.{w32}
 use Rattle.std.specs.Ordering.{int_eq}
 use Rattle.std.proofs.lemmas.Bool.Decides.{Decides-int_eq}
 use Rattle.std.proofs.lemmas.List.{append-nil}
 use Rattle.zk_table.specs.declared.sub.Sub.{Sub}
 use Rattle.zk_table.specs.declared.sub.Sub.TheVariants as subs
-use Rattle.zk_jute.specs.declared.fault.JuteFault.{JuteFault}
 use Rattle.zk_jute.specs.declared.multis.PartKind.{PartKind}
 use Rattle.zk_jute.specs.declared.multis.PartKind.TheVariants as parts
 use Rattle.zk_jute.specs.Records.{int, ustring, vector, part_kind_of, part_body_of, part_of, IsShort, AreElements, IsSub, IsPart}
-use Rattle.zk_jute.specs.Reading.{◌>>=◌, number_at, path_at, counted_at, made_of, whole, known_part, part_kind_at, check_at, create_part, set_data_part, part_body_at, part_at, vector_at}
-use Rattle.zk_jute.proofs.Numbers.{IsBytes, IsBytes-between, TakesFront, TakesFront-then, IsField, FirstRead, first_read, took_all, bind_ok, done, at_ok, made_takes, whole_ok, either}
+use Rattle.zk_jute.specs.Reading.{◌>>=◌, number_at, counted_at, whole, known_part, part_kind_at, check_at, create_part, set_data_part, part_body_at, part_at, vector_at}
+use Rattle.zk_jute.proofs.Numbers.{IsBytes, IsBytes-between, TakesFront, TakesFront-then, IsField, first_read, took_all, bind_ok, done, at_ok, made_takes, whole_ok, either}
 use Rattle.zk_jute.proofs.Texts.{int_field, counted_field, path_field, count}
 use Rattle.zk_jute.proofs.Vectors.{vector_field}
 use Rattle.zk_jute.proofs.Creates.{create_field, set_data_field}

@@ -1,5 +1,5 @@
 -- Counts, texts, paths, contents and booleans: what is read is spelled so, and what is spelled so is read.
-use Rattle.std.proofs.Common.{◌≡◌, ℕ, zero, suc, ℤ, pos, negsuc, ◌^◌, ◌<◌, Bool, true, false, cond, List, [], ◌∷◌, ◌++◌, length, Option, Some, None, Result, Ok, Err, refl, sym, ap, subst, ◌∙◌, append_assoc, arith, lit<}
+use Rattle.std.proofs.Common.{◌≡◌, ℕ, zero, suc, ℤ, pos, negsuc, ◌^◌, ◌<◌, Bool, true, false, cond, List, [], ◌∷◌, ◌++◌, length, Option, Some, None, Ok, Err, refl, sym, ap, subst, ◌∙◌, append_assoc, lit<}
 use Rattle.std.specs.Prelude.{FitsSigned, is_none}
 use Rattle.std.specs.Int.{w32, w64}
 use Rattle.std.specs.Str.{IsUtf8, is_utf8}
@@ -8,11 +8,10 @@ use Rattle.std.proofs.lemmas.Str.{IsUtf8-from_is_utf8, is_utf8-from_IsUtf8}
 use Rattle.zk_path.proofs.FaultLaw.{IsPath-from_fault, fault_of-IsPath}
 use Rattle.zk_path.specs.Paths.{fault_of}
 use Rattle.zk_path.specs.declared.fault.PathFault.{PathFault}
-use Rattle.zk_jute.specs.declared.fault.JuteFault.{JuteFault}
 use Rattle.zk_jute.specs.declared.fault.JuteFault.TheVariants as faults
 use Rattle.zk_jute.specs.Records.{int, long, ustring, buffer, boolean, IsShort, IsText, IsPathText, IsContent}
-use Rattle.zk_jute.specs.Reading.{◌>>=◌, number_at, bytes_at, not_negative, count_at, counted_at, text_at, path_at, content_of, content_at, boolean_at}
-use Rattle.zk_jute.proofs.Numbers.{IsBytes, TakesFront, TakesFront-then, IsField, FirstRead, first_read, bind_ok, guard_ended, ok_is, at_ok, wide32, wide64, number_field, bytes_take, bytes_again}
+use Rattle.zk_jute.specs.Reading.{number_at, bytes_at, not_negative, count_at, counted_at, text_at, path_at, content_of, content_at, boolean_at}
+use Rattle.zk_jute.proofs.Numbers.{IsBytes, TakesFront, TakesFront-then, IsField, first_read, bind_ok, guard_ended, ok_is, at_ok, wide32, wide64, number_field, bytes_take, bytes_again}
 
 -- ---- the test of a text's bytes
 

@@ -102,12 +102,16 @@ impl SetDataTxn {
 }
 
 #[tactic(auto, unfolding(crate::specs::Reading::create_at))]
-pub(crate) fn create(alloc: Global, input: &mut &[u8]) -> Result<CreateTxn, JuteFault>
+pub(crate) fn create(
+    alloc: Global,
+    earlier: &mut Option<Acls>,
+    input: &mut &[u8],
+) -> Result<CreateTxn, JuteFault>
     ensures { Takes result input.new.now (create_at input.old.now) }
 {
     let path = path(alloc, input)?;
     let content = content(alloc, input)?;
-    let acl = acl_vector(alloc, input)?;
+    let acl = acl_vector(alloc, earlier, input)?;
     let ephemeral = boolean(input)?;
     let count = int(input)?;
     Ok(CreateTxn {

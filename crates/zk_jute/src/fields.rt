@@ -54,7 +54,7 @@ pub(crate) fn counted<'a>(input: &mut &'a [u8]) -> Result<&'a [u8], JuteFault>
 
 /// A `ustring`, lent.
 #[tactic(auto, using(crate::proofs::Texts::is_text, crate::proofs::Texts::is_no_text), unfolding(crate::specs::Reading::text_at))]
-fn utf8<'a>(input: &mut &'a [u8]) -> Result<&'a str, JuteFault>
+pub(crate) fn utf8<'a>(input: &mut &'a [u8]) -> Result<&'a str, JuteFault>
     ensures { TakesBy (λ x. x.now) result input.new.now (text_at input.old.now) }
 {
     let bytes = counted(input)?;

@@ -18,6 +18,6 @@ mod writing;
 
 pub use fault::JuteFault;
 pub use laws::{records_end_by_themselves, short_transactions_have_records};
-pub use reading::read_txn;
+pub use reading::{read_txn, read_txn_sharing};
 pub use sizes::size;
 pub use writing::write_txn;

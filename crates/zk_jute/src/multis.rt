@@ -7,6 +7,7 @@ use crate::fault::JuteFault;
 use crate::fields::{count, counted, int, path};
 use crate::kinds;
 use std::alloc::Global;
+use zk_acl::Acls;
 use zk_table::{Sub, Subs};
 
 /// What a part does.
@@ -45,11 +46,16 @@ fn check(alloc: Global, input: &mut &[u8]) -> Result<Sub, JuteFault>
 }
 
 #[tactic(auto, unfolding(crate::specs::Reading::part_body_at))]
-fn part_body(alloc: Global, kind: PartKind, input: &mut &[u8]) -> Result<Sub, JuteFault>
+fn part_body(
+    alloc: Global,
+    earlier: &mut Option<Acls>,
+    kind: PartKind,
+    input: &mut &[u8],
+) -> Result<Sub, JuteFault>
     ensures { Takes result input.new.now (part_body_at kind input.old.now) }
 {
     match kind {
-        PartKind::Create => Ok(create(alloc, input)?.into_part()),
+        PartKind::Create => Ok(create(alloc, earlier, input)?.into_part()),
         PartKind::Delete => Ok(Sub::Delete {
             path: path(alloc, input)?,
         }),
@@ -61,12 +67,12 @@ fn part_body(alloc: Global, kind: PartKind, input: &mut &[u8]) -> Result<Sub, Ju
 
 /// `Txn`: a type, and the body inside a buffer.
 #[tactic(auto, unfolding(crate::specs::Reading::part_at))]
-fn part(alloc: Global, input: &mut &[u8]) -> Result<Sub, JuteFault>
+fn part(alloc: Global, earlier: &mut Option<Acls>, input: &mut &[u8]) -> Result<Sub, JuteFault>
     ensures { Takes result input.new.now (part_at input.old.now) }
 {
     let kind = part_kind(input)?;
     let mut body = counted(input)?;
-    let part = part_body(alloc, kind, &mut body)?;
+    let part = part_body(alloc, earlier, kind, &mut body)?;
     if !body.is_empty() {
         return Err(JuteFault::Trailing);
     }
@@ -74,21 +80,30 @@ fn part(alloc: Global, input: &mut &[u8]) -> Result<Sub, JuteFault>
 }
 
 /// So many parts.
-fn some_parts(alloc: Global, count: u32, input: &mut &[u8]) -> Result<Subs, JuteFault>
+fn some_parts(
+    alloc: Global,
+    earlier: &mut Option<Acls>,
+    count: u32,
+    input: &mut &[u8],
+) -> Result<Subs, JuteFault>
     ensures { Takes result input.new.now (many_at part_at count input.old.now) }
 {
     let mut parts = Vec::new(alloc);
     for _ in 0..count {
-        parts.push(part(alloc, input)?)?;
+        parts.push(part(alloc, earlier, input)?)?;
     }
     Ok(Subs::new(parts))
 }
 
 /// A vector of `Txn`.
 #[tactic(auto, unfolding(crate::specs::Reading::vector_at))]
-pub(crate) fn parts(alloc: Global, input: &mut &[u8]) -> Result<Subs, JuteFault>
+pub(crate) fn parts(
+    alloc: Global,
+    earlier: &mut Option<Acls>,
+    input: &mut &[u8],
+) -> Result<Subs, JuteFault>
     ensures { Takes result input.new.now (vector_at part_at input.old.now) }
 {
     let count = count(input)?;
-    some_parts(alloc, count, input)
+    some_parts(alloc, earlier, count, input)
 }

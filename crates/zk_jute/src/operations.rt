@@ -9,33 +9,39 @@ use crate::fields::{int, path};
 use crate::kinds;
 use crate::multis::parts;
 use std::alloc::Global;
+use zk_acl::Acls;
 use zk_table::Op;
 
 /// `SetACLTxn`.
 #[tactic(auto, unfolding(crate::specs::Reading::set_acl_at))]
-fn set_acl(alloc: Global, input: &mut &[u8]) -> Result<Op, JuteFault>
+fn set_acl(alloc: Global, earlier: &mut Option<Acls>, input: &mut &[u8]) -> Result<Op, JuteFault>
     ensures { Takes result input.new.now (set_acl_at input.old.now) }
 {
     let path = path(alloc, input)?;
-    let acl = acl_vector(alloc, input)?;
+    let acl = acl_vector(alloc, earlier, input)?;
     let version = int(input)?;
     Ok(Op::SetAcl { path, acl, version })
 }
 
 /// The body of a type of operation.
 #[tactic(auto, unfolding(crate::specs::Reading::op_at))]
-pub(crate) fn op(alloc: Global, kind: i32, input: &mut &[u8]) -> Result<Op, JuteFault>
+pub(crate) fn op(
+    alloc: Global,
+    earlier: &mut Option<Acls>,
+    kind: i32,
+    input: &mut &[u8],
+) -> Result<Op, JuteFault>
     ensures { Takes result input.new.now (op_at kind input.old.now) }
 {
     match kind {
-        kinds::CREATE => Ok(create(alloc, input)?.into_op()),
+        kinds::CREATE => Ok(create(alloc, earlier, input)?.into_op()),
         kinds::DELETE => Ok(Op::Delete {
             path: path(alloc, input)?,
         }),
         kinds::SET_DATA => Ok(set_data(alloc, input)?.into_op()),
-        kinds::SET_ACL => set_acl(alloc, input),
+        kinds::SET_ACL => set_acl(alloc, earlier, input),
         kinds::MULTI => Ok(Op::Multi {
-            parts: parts(alloc, input)?,
+            parts: parts(alloc, earlier, input)?,
         }),
         kinds::ERROR => Ok(Op::Error { code: int(input)? }),
         kinds::CREATE_SESSION => Ok(Op::OpenSession {

@@ -1,4 +1,3 @@
-use Rattle.std.proofs.Common.{sym}
 use Rattle.std.proofs.lemmas.Result.{err_from_is_err_and}
 use Rattle.zk_jute.specs.Reading.{many_at, acl_at}
 use Rattle.zk_jute.proofs.Turns.{goes_on, ends, is_done}
