@@ -12,3 +12,4 @@ pub mod Owned
 pub mod Restores
 pub mod Slashes
 pub mod Roots
+pub mod OneWay

@@ -1,4 +1,5 @@
 pub mod Changes
+pub mod ChangeLaws
 pub mod Undoing
 pub mod Notes
 pub mod Machines

@@ -1,6 +1,6 @@
 //! What a transaction did, told by comparing the nodes that it touched.
 
-ghost use Rattle.std.specs.Prelude.{◌≡◌, [], None, IfOk, OnOk};
+ghost use Rattle.std.specs.Prelude.{◌≡◌, [], None, IfOk, IsTrue, OnOk};
 ghost use Rattle.std.specs.FinMap as finite;
 ghost use Rattle.zk_table.specs.Multis.{apply_part, nodes_after, answers_of, first_refusal};
 ghost use Rattle.zk_table.specs.Operations.{plain_answer};
@@ -20,6 +20,7 @@ pub(crate) struct Deed {
     pub(crate) answer: PartResult,
     /// The answers of a multi's parts.
     pub(crate) parts: Vec<PartResult>,
+    /// What changed. Of an instruction by itself it may be left out; the parts of a multi always tell theirs.
     pub(crate) changes: Vec<Change>,
     pub(crate) touched: Touched,
     /// The session that was touched, and its timeout before.
@@ -27,20 +28,26 @@ pub(crate) struct Deed {
 }
 
 impl NotedTree {
-    /// What was done since the notes began, by an instruction with this answer and this session.
+    /// What was done since the notes began, by an instruction with this answer and this session; what changed is found
+    /// only where it is to be told.
     pub(crate) fn deed(
         &mut self,
         answer: PartResult,
         session: Option<(u64, Option<i32>)>,
+        tells: bool,
     ) -> Result<Deed, NoMemory>
         ensures answer { IfOk result (λ deed. deed.answer ≡ answer) }
         ensures parts { IfOk result (λ deed. deed.parts.items ≡ []) }
-        ensures changes { IfOk result (λ deed. deed.changes.items ≡ changes_between (nodes_before self.old.touched self.old.tree) self.old.tree) }
+        ensures changes { IfOk result (λ deed. IsTrue tells → deed.changes.items ≡ changes_between (nodes_before self.old.touched self.old.tree) self.old.tree) }
         ensures touched { IfOk result (λ deed. deed.touched ≡ self.old.touched) }
         ensures session { IfOk result (λ deed. deed.session ≡ session) }
         ensures tree { self.new.tree ≡ self.old.tree }
     {
-        let changes = self.changes()?;
+        let changes = if tells {
+            self.changes()?
+        } else {
+            Vec::new(self.alloc)
+        };
         let touched = replace(&mut self.touched, Touched::new(self.alloc));
         Ok(Deed {
             answer,
@@ -59,7 +66,7 @@ impl NotedTree {
     {
         self.begin();
         let answer = self.apply_part(txn, part)?;
-        let deed = self.deed(answer, None)?;
+        let deed = self.deed(answer, None, true)?;
         Ok(deed)
     }
 

@@ -1,4 +1,5 @@
-//! The table over an indexed tree: it tells what each transaction changed, and takes the last one back.
+//! The table over an indexed tree: it tells what each transaction changed, and takes the last one back; or it advances, for
+//! those who ask for neither.
 //!
 //! ZooKeeper Programmer's Guide, "The ZooKeeper Data Model" and "ZooKeeper Watches".
 #![tactic(auto)]
@@ -7,6 +8,7 @@ mod applied;
 mod change;
 mod deed;
 mod fault;
+mod laws;
 mod machine;
 mod noted_tree;
 mod operations;
@@ -20,5 +22,6 @@ mod undo;
 pub use applied::Applied;
 pub use change::{Change, ChangeKind};
 pub use fault::{MachineFault, UndoFault};
+pub use laws::instructions_change_in_one_way;
 pub use machine::Machine;
 pub use undo::Undo;

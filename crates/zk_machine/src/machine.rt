@@ -20,7 +20,7 @@ use std::alloc::Global;
 use std::marker::Model;
 use zk_acl::Id;
 use zk_path::NoMemory;
-use zk_table::{ReadCall, ReadReply, Txn};
+use zk_table::{ReadCall, ReadReply, Txn, TxnResult};
 use zk_tree::Tree;
 
 /// The table over an indexed tree. A machine that is refused memory in the middle of a change has failed for good:
@@ -101,6 +101,28 @@ impl Machine {
         };
         self.steps += 1;
         Ok(applied)
+    }
+
+    /// Applies a transaction, and tells only the answer: neither what it changed nor how it is taken back. For those who
+    /// never go back.
+    pub fn advance(&mut self, txn: &Txn) -> Result<TxnResult, MachineFault>
+        requires { self.old.steps < 2 ^ 64 - 1 }
+        ensures stepped { IfOk result (λ answered. (self.new.state, answered) ≡ step self.old.state txn.now) }
+        ensures counted { OnOk result (self.new.steps ≡ self.old.steps + 1) }
+        ensures ran { OnOk result ((self.old.failed ≡ false) × (self.new.failed ≡ false)) }
+
+        ensures fault { IfErr result (λ fault. fault ≡ (if self.old.failed then faults.Failed else faults.NoMemory)) }
+        ensures failed { OnErr result ((self.new.failed ≡ true) × (self.new.steps ≡ self.old.steps)) }
+    {
+        if self.failed {
+            return Err(MachineFault::Failed);
+        }
+        let Ok(answered) = self.table.advance(txn) else {
+            self.failed = true;
+            return Err(MachineFault::NoMemory);
+        };
+        self.steps += 1;
+        Ok(answered)
     }
 
     /// Takes the last transaction back that was applied and not undone.

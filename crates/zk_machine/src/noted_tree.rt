@@ -41,7 +41,7 @@ impl NotedTree {
         ensures tree { self.new.tree ≡ self.old.tree }
         ensures idle { self.new.touched ≡ finite.empty }
     {
-        self.touched = Touched::new(self.alloc);
+        self.touched.clear();
     }
 
     /// Puts a node at a path that is free, below a parent that is there and has no owner.

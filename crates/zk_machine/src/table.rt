@@ -1,4 +1,4 @@
-ghost use Rattle.std.specs.Prelude.{◌≡◌, ◌<◌, IfOk, OnOk};
+ghost use Rattle.std.specs.Prelude.{◌≡◌, ◌<◌, IfOk, IsTrue, OnOk};
 ghost use Rattle.std.specs.FinMap as finite;
 ghost use Rattle.zk_table.specs.Operations.{told};
 ghost use Rattle.zk_table.specs.Multis.{multi};
@@ -51,7 +51,7 @@ impl Table {
     {
         self.nodes.tree.stands();
         let last = self.last;
-        let deed = self.run(txn)?;
+        let deed = self.run(txn, true)?;
         self.last = txn.zxid;
         let Deed {
             answer,
@@ -60,25 +60,35 @@ impl Table {
             touched,
             session,
         } = deed;
-        let PartResult { err, path, stat } = answer;
-        let parts = PartResults::new(parts);
         Ok(Applied {
-            result: TxnResult {
-                zxid: txn.zxid,
-                err,
-                path,
-                stat,
-                parts,
-            },
+            result: result_of(txn, answer, parts),
             changes,
             undo: Undo::new(number, last, session, touched),
         })
     }
 
-    /// Applies a transaction, but for the number of the last one.
-    fn run(&mut self, txn: &Txn) -> Result<Deed, NoMemory>
+    /// Applies a transaction that is not taken back, and of which nothing but the answer is told.
+    pub(crate) fn advance(&mut self, txn: &Txn) -> Result<TxnResult, NoMemory>
+        ensures { IfOk result (λ answered. (state_of self.new, answered) ≡ step (state_of self.old) txn.now) }
+    {
+        let deed = self.run(txn, false)?;
+        self.last = txn.zxid;
+        let Deed {
+            answer,
+            parts,
+            touched,
+            ..
+        } = deed;
+        // The next transaction's notes go into the memory of these.
+        self.nodes.touched = touched;
+        Ok(result_of(txn, answer, parts))
+    }
+
+    /// Applies a transaction, but for the number of the last one. What an instruction by itself changed is found only where it
+    /// is to be told.
+    fn run(&mut self, txn: &Txn, tells: bool) -> Result<Deed, NoMemory>
         ensures stepped { IfOk result (λ deed. step (state_of self.old) txn.now ≡ told txn.now self.new.nodes.tree self.new.sessions deed.answer deed.parts.items) }
-        ensures changes { IfOk result (λ deed. deed.changes.items ≡ changes_of (state_of self.old) txn.now) }
+        ensures changes { IfOk result (λ deed. IsTrue tells → deed.changes.items ≡ changes_of (state_of self.old) txn.now) }
         ensures nodes { IfOk result (λ deed. nodes_before deed.touched self.new.nodes.tree ≡ self.old.nodes.tree) }
         ensures sessions { IfOk result (λ deed. sessions_before deed.session self.new.sessions ≡ self.old.sessions) }
         ensures last { self.new.last ≡ self.old.last }
@@ -101,20 +111,20 @@ impl Table {
                 version,
             } => self.nodes.set_data(txn, path, content, *version)?,
             Op::SetAcl { path, acl, version } => self.nodes.set_acl(path, acl, *version)?,
-            Op::OpenSession { timeout } => return self.open_session(txn, *timeout),
-            Op::CloseSession => return self.close_session(txn),
+            Op::OpenSession { timeout } => return self.open_session(txn, *timeout, tells),
+            Op::CloseSession => return self.close_session(txn, tells),
             Op::Multi { parts } => return self.multi(txn, parts.as_slice()),
             Op::Error { code } => PartResult::plain(*code),
         };
-        let deed = self.nodes.deed(answer, None)?;
+        let deed = self.nodes.deed(answer, None, tells)?;
         Ok(deed)
     }
 
     /// Opens the session of a transaction.
-    fn open_session(&mut self, txn: &Txn, timeout: i32) -> Result<Deed, NoMemory>
+    fn open_session(&mut self, txn: &Txn, timeout: i32, tells: bool) -> Result<Deed, NoMemory>
         requires { self.old.nodes.touched ≡ finite.empty }
         ensures stepped { IfOk result (λ deed. open_session (state_of self.old) txn.now timeout ≡ told txn.now self.new.nodes.tree self.new.sessions deed.answer deed.parts.items) }
-        ensures changes { IfOk result (λ deed. deed.changes.items ≡ changes_between self.old.nodes.tree self.old.nodes.tree) }
+        ensures changes { IfOk result (λ deed. IsTrue tells → deed.changes.items ≡ changes_between self.old.nodes.tree self.old.nodes.tree) }
         ensures nodes { IfOk result (λ deed. nodes_before deed.touched self.new.nodes.tree ≡ self.old.nodes.tree) }
         ensures sessions { IfOk result (λ deed. sessions_before deed.session self.new.sessions ≡ self.old.sessions) }
         ensures last { self.new.last ≡ self.old.last }
@@ -123,15 +133,15 @@ impl Table {
         let before = self.sessions.open(session, timeout)?;
         let deed = self
             .nodes
-            .deed(PartResult::plain(0), Some((session, before)))?;
+            .deed(PartResult::plain(0), Some((session, before)), tells)?;
         Ok(deed)
     }
 
     /// Closes the session of a transaction; the nodes that it owns go.
-    fn close_session(&mut self, txn: &Txn) -> Result<Deed, NoMemory>
+    fn close_session(&mut self, txn: &Txn, tells: bool) -> Result<Deed, NoMemory>
         requires { self.old.nodes.touched ≡ finite.empty }
         ensures stepped { IfOk result (λ deed. close_session (state_of self.old) txn.now ≡ told txn.now self.new.nodes.tree self.new.sessions deed.answer deed.parts.items) }
-        ensures changes { IfOk result (λ deed. deed.changes.items ≡ changes_between self.old.nodes.tree self.new.nodes.tree) }
+        ensures changes { IfOk result (λ deed. IsTrue tells → deed.changes.items ≡ changes_between self.old.nodes.tree self.new.nodes.tree) }
         ensures nodes { IfOk result (λ deed. nodes_before deed.touched self.new.nodes.tree ≡ self.old.nodes.tree) }
         ensures sessions { IfOk result (λ deed. sessions_before deed.session self.new.sessions ≡ self.old.sessions) }
         ensures last { self.new.last ≡ self.old.last }
@@ -141,7 +151,7 @@ impl Table {
         let before = self.sessions.close(session);
         let deed = self
             .nodes
-            .deed(PartResult::plain(0), Some((session, before)))?;
+            .deed(PartResult::plain(0), Some((session, before)), tells)?;
         Ok(deed)
     }
 
@@ -176,5 +186,19 @@ impl Table {
         self.sessions.put_back(undo.session)?;
         self.last = undo.last;
         Ok(())
+    }
+}
+
+/// What the table answers to a transaction: the answer as a whole, and those of a multi's parts.
+fn result_of(txn: &Txn, answer: PartResult, parts: Vec<PartResult>) -> TxnResult
+    ensures { result ≡ record { zxid = txn.now.zxid; err = answer.err; path = answer.path; stat = answer.stat; parts = parts.items } }
+{
+    let PartResult { err, path, stat } = answer;
+    TxnResult {
+        zxid: txn.zxid,
+        err,
+        path,
+        stat,
+        parts: PartResults::new(parts),
     }
 }

@@ -58,6 +58,13 @@ impl Touched {
         }
     }
 
+    /// Forgets what was touched, and keeps the memory for what will be.
+    pub(crate) fn clear(&mut self)
+        ensures { self.new ≡ finite.empty }
+    {
+        self.notes.clear();
+    }
+
     /// Notes what stood at a path, if nothing is noted of it.
     pub(crate) fn note(&mut self, path: Path, before: Option<Node>) -> Result<(), NoMemory>
         ensures { OnOk result (self.new ≡ noted self.old path before) }

@@ -169,6 +169,43 @@ fn agree(alloc: Global, listing: &str) -> Result<bool, MachineFault> {
     agree_on(alloc, &mut machine, &mut plain, txns.as_slice())
 }
 
+/// Applies a transaction, of which there are few, for good.
+fn advanced(machine: &mut Machine, txn: &Txn) -> Result<TxnResult, MachineFault> {
+    if machine.steps()? == u64::MAX {
+        return Err(MachineFault::Failed);
+    }
+    machine.advance(txn)
+}
+
+/// Whether the machine, which never goes back, and the plain table answer each of these alike.
+fn advance_alike(
+    alloc: Global,
+    machine: &mut Machine,
+    plain: &mut Plain,
+    txns: &[Txn],
+) -> Result<bool, MachineFault> {
+    let mut all = true;
+    for txn in txns {
+        let one = advanced(machine, txn)?;
+        all = are_alike(alloc, &one, &plain.apply(txn)?) && all;
+    }
+    Ok(all)
+}
+
+/// Whether this is so of a new machine and a new table on a listing, and they stand alike after it.
+fn advances(alloc: Global, listing: &str) -> Result<bool, MachineFault> {
+    let mut machine = new_machine(alloc)?;
+    let mut plain = Plain::new(alloc)?;
+    let txns = txns_of(alloc, listing)?;
+    let alike = advance_alike(alloc, &mut machine, &mut plain, txns.as_slice())?;
+    Ok(alike && machine.steps()? == 17 && stand_alike(alloc, &machine, &plain)?)
+}
+
+#[test]
+fn a_machine_that_never_goes_back_is_the_table(rt: HostRuntime) {
+    assert_eq!(rt; advances(rt.alloc(), HISTORY), Ok(true));
+}
+
 /// Transactions of each kind: of nodes that come and go, of sessions that are opened twice and closed, of a session
 /// without nodes, of one that isn't open, and a create that wraps its parent's count.
 const HISTORY: &str = "0000000000000001 0000000000000007 0 1000 createSession 4000\n\

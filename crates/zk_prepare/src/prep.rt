@@ -48,7 +48,7 @@ impl Prep {
     {
         let mut ahead = committed.copy()?;
         for txn in tail {
-            apply(&mut ahead, txn)?;
+            advance(&mut ahead, txn)?;
         }
         Ok(Prep {
             alloc,
@@ -75,7 +75,7 @@ impl Prep {
         ensures running { OnOk result (self.new.failed ≡ false) }
         ensures failed { OnErr result (self.new.failed ≡ true) }
     {
-        let Ok(()) = apply(&mut self.ahead, txn) else {
+        let Ok(()) = advance(&mut self.ahead, txn) else {
             self.failed = true;
             return Err(NoMemory);
         };
@@ -103,13 +103,13 @@ impl Prep {
 }
 
 /// Applies a transaction to a machine of which no step is taken back. Where memory is refused, nothing more is said of it.
-fn apply(machine: &mut Machine, txn: &Txn) -> Result<(), NoMemory>
+fn advance(machine: &mut Machine, txn: &Txn) -> Result<(), NoMemory>
     requires { machine.old.failed ≡ false }
     ensures stepped { OnOk result (machine.new.state ≡ (step machine.old.state txn.now).0) }
     ensures running { OnOk result (machine.new.failed ≡ false) }
 {
     make_countable(machine)?;
-    let Ok(_) = machine.apply(txn) else {
+    let Ok(_) = machine.advance(txn) else {
         return Err(NoMemory);
     };
     Ok(())

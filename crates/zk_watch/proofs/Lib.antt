@@ -4,3 +4,4 @@ pub mod Quiet
 pub mod Ranges
 pub mod Guide
 pub mod Live
+pub mod Instructions

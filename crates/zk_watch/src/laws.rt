@@ -1,5 +1,7 @@
 //! What holds of every list of watches. The calls do nothing: each is there for its contract.
-ghost use Rattle.zk_watch.specs.WatchLaws.{WatchesAreToldOnce, SetWatchesAreTold, OthersStay, TwiceIsOnce, DroppedAreToldNothing, EventsRise};
+ghost use Rattle.zk_watch.specs.WatchLaws.{WatchesAreToldOnce, SetWatchesAreTold, OthersStay, TwiceIsOnce, DroppedAreToldNothing, EventsRise, EventsComeByInstruction, EventsOfInstructionsRise};
+
+use zk_machine::instructions_change_in_one_way;
 
 /// A watch is told once.
 pub fn watches_are_told_once()
@@ -18,7 +20,17 @@ pub fn dropped_are_told_nothing()
     ensures { DroppedAreToldNothing }
 {}
 
-/// The events of one instruction are in the order of paths and then of sessions' digits, one for each path and session.
+/// The events of changes at rising paths are in the order of paths and then of sessions' digits, one for each path and
+/// session.
 pub fn events_rise()
     ensures { EventsRise }
 {}
+
+/// The events of a transaction come instruction by instruction, and those of an instruction are in the order of paths and
+/// then of sessions' digits, one for each path and session.
+pub fn events_of_instructions_rise()
+    ensures whole { EventsComeByInstruction }
+    ensures rise { EventsOfInstructionsRise }
+{
+    instructions_change_in_one_way();
+}

@@ -5,8 +5,8 @@ use Rattle.zk_machine.proofs.Timeouts.{closed_back}
 use Rattle.zk_machine.proofs.table.Table.close_session.Goals as goal
 
 pub returns-clause-changes : goal.returns-clause-changes
-returns-clause-changes c =
-    begun_changes c.args.self.now.nodes.touched c.requires c.args.self.now.nodes.tree _ refl _ _ c.in_ok-take_owned.ensures.before _ c.in_ok-deed.ensures.changes _ c.deed.ensures.tree
+returns-clause-changes c = λ tells.
+    begun_changes c.args.self.now.nodes.touched c.requires c.args.self.now.nodes.tree _ refl _ _ c.in_ok-take_owned.ensures.before _ (c.in_ok-deed.ensures.changes tells) _ c.deed.ensures.tree
 
 pub returns-clause-nodes : goal.returns-clause-nodes
 returns-clause-nodes c =

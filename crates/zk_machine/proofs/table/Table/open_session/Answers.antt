@@ -5,8 +5,8 @@ use Rattle.zk_machine.proofs.Timeouts.{opened_back}
 use Rattle.zk_machine.proofs.table.Table.open_session.Goals as goal
 
 pub returns-clause-changes : goal.returns-clause-changes
-returns-clause-changes c =
-    begun_changes c.args.self.now.nodes.touched c.requires c.args.self.now.nodes.tree _ refl c.args.self.now.nodes.touched c.args.self.now.nodes.tree refl _ c.in_ok-deed.ensures.changes _ refl
+returns-clause-changes c = λ tells.
+    begun_changes c.args.self.now.nodes.touched c.requires c.args.self.now.nodes.tree _ refl c.args.self.now.nodes.touched c.args.self.now.nodes.tree refl _ (c.in_ok-deed.ensures.changes tells) _ refl
 
 pub returns-clause-nodes : goal.returns-clause-nodes
 returns-clause-nodes c =

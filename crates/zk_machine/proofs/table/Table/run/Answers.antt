@@ -29,6 +29,6 @@ returns-clause-nodes c =
     begun_undone c.begin.new.self.touched c.begin.ensures.idle c.begin.new.self.tree c.args.self.now.nodes.tree c.begin.ensures.tree _ _ (kept c) _ c.in_ok-deed.ensures.touched _ c.deed.ensures.tree
 
 pub returns-clause-changes : goal.returns-clause-changes
-returns-clause-changes c =
-    begun_changes c.begin.new.self.touched c.begin.ensures.idle c.begin.new.self.tree c.args.self.now.nodes.tree c.begin.ensures.tree _ _ (kept c) _ c.in_ok-deed.ensures.changes _ refl
+returns-clause-changes c = λ tells.
+    begun_changes c.begin.new.self.touched c.begin.ensures.idle c.begin.new.self.tree c.args.self.now.nodes.tree c.begin.ensures.tree _ _ (kept c) _ (c.in_ok-deed.ensures.changes tells) _ refl
     ∙ sym (single c)
