@@ -10,8 +10,8 @@ use zk_path::NoMemory;
 
 /// A server, with what makes entries while it leads.
 ///
-/// Each rule answers the messages to send. Where memory is refused, the stable part is as it was, and the rest may
-/// not be.
+/// Each rule answers the messages to send. Where memory is refused, the server is as it was: the primary may be gone then,
+/// which no value shows, and a leader's next call begins another.
 #[derive(Drop)]
 pub struct Server<P: Primary> {
     state: State,
@@ -33,13 +33,14 @@ impl<P: Primary> Model for Server<P> {
 }
 
 impl<P: Primary> Server<P> {
-    ghost use Rattle.std.specs.Prelude.{◌≡◌, ◌≢◌, ◌≤◌, ◌<◌, max, length, take, None, IfOk, OnOk, OnErr};
+    ghost use Rattle.std.specs.Prelude.{◌≡◌, ◌≢◌, ◌≤◌, ◌<◌, ◌-◌, max, set, length, take, None, if◌then◌else◌, IfOk, OnOk, OnErr};
     ghost use Rattle.zab_epoch.specs.declared.fault.RuleFault.TheVariants as faults;
     ghost use Rattle.zab_broadcast.specs.Calls.{setting_of};
     ghost use Rattle.zab_broadcast.specs.Rules.{restored, is_serving, lead, follow, c_epoch, new_epoch, ack_epoch};
     ghost use Rattle.zab_broadcast.specs.Rules.{new_leader, ack_leader, submit, request, propose, ack, commit};
-    ghost use Rattle.zab_broadcast.specs.Rules.{begun, counted, settles, raised, enters, catches_up, tells_news};
-    ghost use Rattle.zab_broadcast.specs.Rules.{took, appends};
+    ghost use Rattle.zab_broadcast.specs.Rules.{begun, counted, settles, raised, enters, catching_up, tells_news};
+    ghost use Rattle.zab_broadcast.specs.Rules.{silent, took, appends, with_history};
+    ghost use Rattle.zab_epoch.specs.Tables.{marks_of};
     ghost use Rattle.zab_epoch.specs.Rules.{ack_epoch as peer_ack_epoch};
 
     /// A server that has started again with its stable part: it has delivered nothing, and is Looking.
@@ -125,6 +126,7 @@ impl<P: Primary> Server<P> {
         ensures acts { result ≢ Err faults.NoMemory
             → (self.new, result) ≡ c_epoch (Q.passes quorums.now) self.old from promised }
         ensures err { OnErr result (self.new.peer.stable ≡ self.old.peer.stable) }
+        ensures unchanged { result ≡ Err faults.NoMemory → self.new ≡ self.old }
     {
         self.state.peer.c_epoch(alloc, quorums, from, promised)
     }
@@ -156,6 +158,7 @@ impl<P: Primary> Server<P> {
         ensures acts { IfOk result (λ messages. (self.new, Ok messages)
             ≡ ack_epoch (Q.passes quorums.now) self.old from epoch vote said) }
         ensures err { OnErr result (self.new.peer.stable ≡ self.old.peer.stable) }
+        ensures unchanged { OnErr result (self.new ≡ self.old) }
     {
         if self.state.peer.role.is_choosing() {
             self.gather(alloc, quorums, from, epoch, vote, said)
@@ -179,6 +182,7 @@ impl<P: Primary> Server<P> {
         ensures acts { IfOk result (λ messages. (self.new, Ok messages)
             ≡ begun self.old (peer_ack_epoch (Q.passes quorums.now) self.old.peer from epoch vote said)) }
         ensures err { OnErr result (self.new.peer.stable ≡ self.old.peer.stable) }
+        ensures unchanged { OnErr result (self.new ≡ self.old) }
     {
         let mut has = Table::new(alloc, self.state.peer.servers)?;
         self.primary = None;
@@ -240,29 +244,25 @@ impl<P: Primary> Server<P> {
         commit_count(alloc, quorums, self.state.has.as_slice(), length)
     }
 
-    /// Delivers what a quorum has, if that is more than ever before in this Broadcast; the count then.
-    fn settle<Q: Quorums>(&mut self, alloc: Global, quorums: &Q) -> Result<Option<u64>, NoMemory>
-        ensures acts { IfOk result (λ commit. (self.new, commit) ≡ settles (Q.passes quorums.now) self.old) }
-        ensures err { OnErr result (self.new ≡ self.old) }
+    /// Delivers what a quorum has, now that this count is above each earlier one of this Broadcast.
+    fn settle(&mut self, count: u64)
+        requires { count ≤ length self.old.peer.stable.history }
+        ensures { self.new ≡ record self.old { top = count; delivered = max self.old.delivered count } }
     {
-        let count = self.counted(alloc, quorums)?;
-        if count <= self.state.top {
-            return Ok(None);
-        }
         self.deliver(count as usize);
         self.state.top = count;
-        Ok(Some(count))
     }
 
-    /// A server has at least so many.
-    fn raise(&mut self, from: usize, count: u64)
-        ensures { self.new ≡ raised self.old from count }
+    /// A server has at least so many. What it was known to have before is given back.
+    fn raise(&mut self, from: usize, count: u64) -> Option<u64>
+        ensures raised { self.new ≡ raised self.old from count }
+        ensures back { set self.new.has (from - 1) result ≡ self.old.has }
     {
         let most = match self.state.has.said_by(from) {
             Some(before) => (*before).max(count),
             None => count,
         };
-        self.state.has.put(from, most);
+        self.state.has.replace(from, Some(most))
     }
 
     /// An AckLeader comes.
@@ -277,47 +277,62 @@ impl<P: Primary> Server<P> {
         ensures acts { IfOk result (λ messages. (self.new, Ok messages)
             ≡ ack_leader (Q.passes quorums.now) self.old from epoch length) }
         ensures err { OnErr result (self.new.peer.stable ≡ self.old.peer.stable) }
+        ensures unchanged { OnErr result (self.new ≡ self.old) }
     {
         if epoch != self.state.peer.stable.promised {
             return Ok(Messages::new(alloc));
         }
         match &self.state.peer.role {
             Role::Sync => {
-                self.raise(from, length);
-                let marks = self.state.has.marks()?;
-                if !quorums.is_quorum(&marks) {
-                    return Ok(Messages::new(alloc));
+                let before = self.raise(from, length);
+                match self.enter(alloc, quorums) {
+                    Ok(messages) => Ok(messages),
+                    Err(NoMemory) => {
+                        self.state.has.replace(from, before);
+                        Err(NoMemory)
+                    }
                 }
-                self.enter(alloc, quorums)
             }
             Role::Broadcast => {
-                self.raise(from, length);
-                let commit = self.settle(alloc, quorums)?;
-                self.catch_up(alloc, quorums, from, length as usize, commit)
+                let before = self.raise(from, length);
+                match self.catch_up(alloc, quorums, from, length as usize) {
+                    Ok(messages) => Ok(messages),
+                    Err(NoMemory) => {
+                        self.state.has.replace(from, before);
+                        Err(NoMemory)
+                    }
+                }
             }
             _ => Ok(Messages::new(alloc)),
         }
     }
 
-    /// Enters Broadcast.
+    /// Enters Broadcast, if the servers that have something are a quorum.
     fn enter<Q: Quorums>(
         &mut self,
         alloc: Global,
         quorums: &Q,
     ) -> Result<Messages<P::Call>, NoMemory>
         ensures acts { IfOk result (λ messages. (self.new, Ok messages)
-            ≡ enters (Q.passes quorums.now) self.old) }
-        ensures err { OnErr result (self.new.peer.stable ≡ self.old.peer.stable) }
+            ≡ (if Q.passes quorums.now (marks_of self.old.has)
+            then enters (Q.passes quorums.now) self.old
+            else silent self.old)) }
+        ensures unchanged { OnErr result (self.new ≡ self.old) }
     {
+        let marks = self.state.has.marks()?;
+        if !quorums.is_quorum(&marks) {
+            return Ok(Messages::new(alloc));
+        }
         let count = self.counted(alloc, quorums)?;
+        let above = self.state.peer.stable.history.len();
+        let messages = self.state.news(alloc, None, above, Some(count))?;
         self.primary = Some(self.start_primary(alloc)?);
         self.deliver(count as usize);
         self.state.peer.role = Role::Broadcast;
         self.state.made = 0;
         self.state.taken = Tags::new(alloc);
         self.state.top = count;
-        let above = self.state.peer.stable.history.len();
-        self.state.news(alloc, None, above, Some(count))
+        Ok(messages)
     }
 
     /// A primary that stands for the history, with what is delivered of it.
@@ -329,23 +344,25 @@ impl<P: Primary> Server<P> {
         Ok(primary)
     }
 
-    /// What is sent when a server has said that it has so many.
+    /// A server has said that it has so many: it is told the rest, and what may be delivered is delivered.
     fn catch_up<Q: Quorums>(
-        &self,
+        &mut self,
         alloc: Global,
         quorums: &Q,
         to: usize,
         above: usize,
-        commit: Option<u64>,
     ) -> Result<Messages<P::Call>, NoMemory>
-        ensures { IfOk result (λ messages. messages
-            ≡ catches_up (Q.passes quorums.now) self.now to above commit) }
+        ensures acts { IfOk result (λ messages. (self.new, Ok messages)
+            ≡ catching_up (Q.passes quorums.now) to above (settles (Q.passes quorums.now) self.old)) }
+        ensures unchanged { OnErr result (self.new ≡ self.old) }
     {
-        if commit.is_some() {
-            return self.state.news(alloc, Some(to), above, commit);
-        }
         let count = self.counted(alloc, quorums)?;
-        self.state.tell(alloc, to, None, above, Some(count))
+        if count <= self.state.top {
+            return self.state.tell(alloc, to, None, above, Some(count));
+        }
+        let messages = self.state.news(alloc, Some(to), above, Some(count))?;
+        self.settle(count);
+        Ok(messages)
     }
 
     /// A client submits a call.
@@ -358,6 +375,7 @@ impl<P: Primary> Server<P> {
         ensures acts { result ≢ Err faults.NoMemory
             → (self.new, result) ≡ submit (setting_of (Q.passes quorums.now) P.made_of P.tag_of) self.old call }
         ensures err { OnErr result (self.new.peer.stable ≡ self.old.peer.stable) }
+        ensures unchanged { result ≡ Err faults.NoMemory → self.new ≡ self.old }
     {
         match &self.state.peer.role {
             Role::Broadcast => self.append(alloc, quorums, &call),
@@ -385,6 +403,7 @@ impl<P: Primary> Server<P> {
         ensures acts { result ≢ Err faults.NoMemory
             → (self.new, result) ≡ request (setting_of (Q.passes quorums.now) P.made_of P.tag_of) self.old epoch call.now }
         ensures err { OnErr result (self.new.peer.stable ≡ self.old.peer.stable) }
+        ensures unchanged { result ≡ Err faults.NoMemory → self.new ≡ self.old }
     {
         match &self.state.peer.role {
             Role::Broadcast => {
@@ -409,6 +428,7 @@ impl<P: Primary> Server<P> {
         ensures acts { result ≢ Err faults.NoMemory
             → (self.new, result) ≡ appends (setting_of (Q.passes quorums.now) P.made_of P.tag_of) self.old call.now }
         ensures err { OnErr result (self.new.peer.stable ≡ self.old.peer.stable) }
+        ensures unchanged { result ≡ Err faults.NoMemory → self.new ≡ self.old }
     {
         let Some(zxid) = next_zxid(self.state.peer.stable.promised, self.state.made) else {
             self.primary = None;
@@ -416,11 +436,12 @@ impl<P: Primary> Server<P> {
             return Err(RuleFault::EpochFull);
         };
         let above = self.state.peer.stable.history.len();
-        self.take_call(alloc, call, zxid)?;
+        let before = self.take_call(alloc, call, zxid)?;
         match self.announce(alloc, quorums, above) {
             Ok(messages) => Ok(messages),
             Err(NoMemory) => {
                 self.forget(above);
+                self.state.has.replace(self.state.peer.me, before);
                 Err(RuleFault::NoMemory)
             }
         }
@@ -437,23 +458,32 @@ impl<P: Primary> Server<P> {
         }
     }
 
-    /// Makes an entry of a call and takes it.
-    fn take_call(&mut self, alloc: Global, call: &P::Call, zxid: i64) -> Result<(), NoMemory>
+    /// Makes an entry of a call and takes it. What the leader was known to have before is given back.
+    fn take_call(
+        &mut self,
+        alloc: Global,
+        call: &P::Call,
+        zxid: i64,
+    ) -> Result<Option<u64>, NoMemory>
         requires { self.old.made < 4294967295 }
         ensures took { OnOk result
             (self.new ≡ took self.old (P.made_of self.old.peer.stable.history call.now zxid)) }
-        ensures err { OnErr result (self.new.peer.stable ≡ self.old.peer.stable) }
+        ensures back { IfOk result (λ before. set self.new.has (self.new.peer.me - 1) before ≡ self.old.has) }
+        ensures unchanged { OnErr result (self.new ≡ self.old) }
     {
         let mut primary = self.take_primary(alloc)?;
         let entry = primary.make(call, zxid)?;
         primary.taken(&entry)?;
         self.state.taken.push(entry.tag)?;
-        self.state.peer.stable.history.push(entry)?;
+        if let Err(NoMemory) = self.state.peer.stable.history.push(entry) {
+            self.state.taken.drop_last();
+            return Err(NoMemory);
+        }
         let length = self.state.peer.stable.history.len() as u64;
-        self.state.has.put(self.state.peer.me, length);
+        let before = self.state.has.replace(self.state.peer.me, Some(length));
         self.state.made += 1;
         self.primary = Some(primary);
-        Ok(())
+        Ok(before)
     }
 
     /// Delivers what may be delivered, and tells the entries above a length.
@@ -466,20 +496,31 @@ impl<P: Primary> Server<P> {
         ensures acts { IfOk result (λ messages. (self.new, Ok messages)
             ≡ tells_news None above (settles (Q.passes quorums.now) self.old)) }
         ensures err { self.new.peer.stable ≡ self.old.peer.stable }
+        ensures unchanged { OnErr result (self.new ≡ self.old) }
     {
-        let commit = self.settle(alloc, quorums)?;
-        self.state.news(alloc, None, above, commit)
+        let count = self.counted(alloc, quorums)?;
+        if count <= self.state.top {
+            return self.state.news(alloc, None, above, None);
+        }
+        let messages = self.state.news(alloc, None, above, Some(count))?;
+        self.settle(count);
+        Ok(messages)
     }
 
-    /// Drops the entries above a length, which were not told to anyone.
-    fn forget(&mut self, length: usize)
-        ensures { self.new.peer.stable
-            ≡ record self.old.peer.stable { history = take length self.old.peer.stable.history } }
+    /// Drops the entries above a length, which is the last one, not told to anyone and not delivered, and the tag of its call.
+    fn forget(&mut self, above: usize)
+        requires made { 0 < self.old.made }
+        requires delivered { self.old.delivered ≤ above }
+        ensures { self.new ≡ record self.old {
+          peer = with_history self.old.peer (take above self.old.peer.stable.history);
+          made = self.old.made - 1;
+          taken = take (length self.old.taken - 1) self.old.taken;
+        } }
     {
         self.primary = None;
-        self.state.peer.stable.history.truncate(length);
-        let length = self.state.peer.stable.history.len();
-        self.state.delivered = self.state.delivered.min(length);
+        self.state.peer.stable.history.truncate(above);
+        self.state.made -= 1;
+        self.state.taken.drop_last();
     }
 
     /// A Propose comes.
@@ -517,13 +558,20 @@ impl<P: Primary> Server<P> {
         ensures acts { IfOk result (λ messages. (self.new, Ok messages)
             ≡ ack (Q.passes quorums.now) self.old from epoch length) }
         ensures err { OnErr result (self.new.peer.stable ≡ self.old.peer.stable) }
+        ensures unchanged { OnErr result (self.new ≡ self.old) }
     {
         match &self.state.peer.role {
             Role::Broadcast => {
                 if epoch == self.state.peer.stable.promised {
-                    self.raise(from, length);
                     let above = self.state.peer.stable.history.len();
-                    return self.announce(alloc, quorums, above);
+                    let before = self.raise(from, length);
+                    return match self.announce(alloc, quorums, above) {
+                        Ok(messages) => Ok(messages),
+                        Err(NoMemory) => {
+                            self.state.has.replace(from, before);
+                            Err(NoMemory)
+                        }
+                    };
                 }
             }
             _ => {}

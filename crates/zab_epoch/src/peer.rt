@@ -1,19 +1,19 @@
+use crate::election::{Beginning, elect};
 use crate::fault::RuleFault;
 use crate::history::History;
 use crate::message::{Body, Messages};
 use crate::quorums::Quorums;
 use crate::role::Role;
-use crate::sending::{new_epochs, new_leaders};
+use crate::sending::new_epochs;
 use crate::stable::Stable;
 use crate::table::Table;
-use crate::votes::{Vote, best_history, greatest};
+use crate::votes::{Vote, greatest};
 use std::alloc::Global;
 use zk_path::NoMemory;
 
 /// A server in phases 1 and 2.
 ///
-/// Each rule answers the messages to send. Where it is refused, the stable part is as it was, and the role may not
-/// be.
+/// Each rule answers the messages to send. Where it is refused memory, the server is as it was.
 #[derive(Debug, Drop)]
 pub struct Peer {
     /// The server's number, from 1.
@@ -25,11 +25,11 @@ pub struct Peer {
 }
 
 impl Peer {
-    ghost use Rattle.std.specs.Prelude.{◌≡◌, ◌≢◌, false, IfOk, OnErr};
+    ghost use Rattle.std.specs.Prelude.{◌≡◌, ◌≢◌, true, false, IfOk, OnErr};
     ghost use Rattle.zab_epoch.specs.declared.role.Role.TheVariants as roles;
     ghost use Rattle.zab_epoch.specs.declared.fault.RuleFault.TheVariants as faults;
-    ghost use Rattle.zab_epoch.specs.Rules.{lead, follow, c_epoch, new_epoch, ack_epoch, new_leader};
-    ghost use Rattle.zab_epoch.specs.Rules.{next_epoch, chooses, begins};
+    ghost use Rattle.zab_epoch.specs.Rules.{lead, follow, c_epoch, new_epoch, ack_epoch, ack_epoch_as, new_leader};
+    ghost use Rattle.zab_epoch.specs.Rules.{next_epoch, chooses};
     ghost use Rattle.zab_epoch.specs.Roles.{is_choosing};
 
     /// A server that has started again with its stable part: it is looking for a leader.
@@ -82,16 +82,20 @@ impl Peer {
             → (self.new, result) ≡ c_epoch (Q.passes quorums.now) self.old from promised }
         ensures history { self.new.stable.history ≡ self.old.stable.history }
         ensures err { OnErr result (self.new.stable ≡ self.old.stable) }
+        ensures unchanged { result ≡ Err faults.NoMemory → self.new ≡ self.old }
     {
         let mut messages = Messages::new(alloc);
-        match &mut self.role {
+        match &self.role {
             Role::Discover { heard } => {
+                // In a copy, so that nothing was heard where memory is refused.
+                let mut heard = heard.copy()?;
                 heard.put(from, promised);
                 let marks = heard.marks()?;
                 if quorums.is_quorum(&marks) {
                     let top = greatest(heard.as_slice()).max(self.stable.promised);
                     return self.choose(alloc, &marks, top);
                 }
+                self.role = Role::Discover { heard };
             }
             Role::Choose { .. } | Role::Sync | Role::Broadcast => {
                 let epoch = self.stable.promised;
@@ -113,6 +117,7 @@ impl Peer {
             → (self.new, result) ≡ chooses self.old heard.now (next_epoch top) }
         ensures history { self.new.stable.history ≡ self.old.stable.history }
         ensures err { OnErr result (self.new.stable ≡ self.old.stable) }
+        ensures unchanged { result ≡ Err faults.NoMemory → self.new ≡ self.old }
     {
         let Some(epoch) = next_epoch(top) else {
             self.role = Role::Looking;
@@ -169,24 +174,14 @@ impl Peer {
         ensures history { is_choosing self.old.role ≡ false
             → self.new.stable.history ≡ self.old.stable.history }
         ensures err { OnErr result (self.new.stable ≡ self.old.stable) }
+        ensures unchanged { OnErr result (self.new ≡ self.old) }
     {
         let mut messages = Messages::new(alloc);
         if epoch != self.stable.promised {
             return Ok(messages);
         }
-        match &mut self.role {
-            Role::Choose { votes, joiners } => {
-                joiners.put(from, ());
-                if vote {
-                    votes.put(from, said);
-                }
-                let voters = votes.marks()?;
-                if quorums.is_quorum(&voters) {
-                    let joined = joiners.marks()?;
-                    let history = best_history(&self.stable.history, votes.as_slice())?;
-                    return self.begin(alloc, &joined, history);
-                }
-            }
+        match &self.role {
+            Role::Choose { .. } => return self.gather(alloc, quorums, from, vote, said),
             Role::Sync | Role::Broadcast => {
                 let history = self.stable.history.copy()?;
                 messages.send(self.me, from, Body::NewLeader { epoch, history })?;
@@ -196,23 +191,46 @@ impl Peer {
         Ok(messages)
     }
 
-    /// Begins the promised epoch with a history, and tells the joiners.
-    fn begin<C: Drop>(
+    /// Notes a joiner, and its vote. With the votes of a quorum the epoch begins.
+    fn gather<Q: Quorums, C: Drop>(
         &mut self,
         alloc: Global,
-        joiners: &[bool],
-        history: History,
+        quorums: &Q,
+        from: usize,
+        vote: bool,
+        said: Vote,
     ) -> Result<Messages<C>, NoMemory>
+        requires { is_choosing self.old.role ≡ true }
         ensures acts { IfOk result (λ messages. (self.new, Ok messages)
-            ≡ begins self.old joiners.now history) }
-        ensures err { OnErr result (self.new ≡ self.old) }
+            ≡ ack_epoch_as (Q.passes quorums.now) self.old from vote said self.old.role) }
+        ensures unchanged { OnErr result (self.new ≡ self.old) }
     {
-        let epoch = self.stable.promised;
-        let messages = new_leaders(alloc, self.me, epoch, &history, joiners)?;
-        self.stable.current = epoch;
-        self.stable.history = history;
-        self.role = Role::Sync;
-        Ok(messages)
+        let Role::Choose { votes, joiners } = &mut self.role else {
+            return Ok(Messages::new(alloc));
+        };
+        let joined = joiners.replace(from, Some(()));
+        let voted = if vote {
+            votes.replace(from, Some(said))
+        } else {
+            None
+        };
+        let begun = elect(alloc, quorums, self.me, &self.stable, votes, joiners);
+        match begun {
+            Ok(Some(Beginning { history, messages })) => {
+                self.stable.current = self.stable.promised;
+                self.stable.history = history;
+                self.role = Role::Sync;
+                Ok(messages)
+            }
+            Ok(None) => Ok(Messages::new(alloc)),
+            Err(NoMemory) => {
+                if vote {
+                    votes.replace(from, voted);
+                }
+                joiners.replace(from, joined);
+                Err(NoMemory)
+            }
+        }
     }
 
     /// A NewLeader comes. A follower takes its leader's history where it is newer, and is synced.
@@ -251,8 +269,8 @@ impl Peer {
 ghost use Rattle.std.specs.Prelude.{◌≡◌};
 ghost use Rattle.zab_epoch.specs.Rules.{next_epoch};
 
-/// The next epoch. The greatest is 2,147,483,647, so that a zxid, which has its epoch in the upper 32 bits, is not
-/// negative.
+/// The next epoch, or none behind the last. That is 2,147,483,647, so that a zxid, which has its epoch in the upper 32
+/// bits, is not negative.
 pub fn next_epoch(epoch: u32) -> Option<u32>
     ensures { result ≡ next_epoch epoch }
 {
