@@ -73,25 +73,25 @@ pub(crate) fn alone<T: Drop>(read: Result<T, ListCause>, left: &str) -> Result<T
     }
 }
 
-/// Takes the number of a transaction or a session: sixteen lower-case hexadecimal digits.
+/// The number of a transaction or a session: sixteen lower-case hexadecimal digits.
 #[tactic(auto, unfolding(crate::specs::Reading::id_field_at))]
-pub fn take_id(input: &mut &str) -> Result<i64, ListCause>
+pub(crate) fn id(input: &mut &str) -> Result<i64, ListCause>
     ensures { Takes result input.new.now (id_field_at input.old.now) }
 {
     let read = read_id(input);
     ended(read, input)
 }
 
-/// Takes a decimal of 32 bits.
-pub fn take_int(input: &mut &str) -> Result<i32, ListCause>
+/// A decimal of 32 bits.
+pub(crate) fn int(input: &mut &str) -> Result<i32, ListCause>
     ensures { Takes result input.new.now (int_field_at input.old.now) }
 {
     let read = read_int(input);
     ended(read, input)
 }
 
-/// Takes a decimal of 64 bits.
-pub fn take_long(input: &mut &str) -> Result<i64, ListCause>
+/// A decimal of 64 bits.
+pub(crate) fn long(input: &mut &str) -> Result<i64, ListCause>
     ensures { Takes result input.new.now (long_field_at input.old.now) }
 {
     let read = read_long(input);

@@ -49,13 +49,13 @@ pub fn read_lookup(alloc: Global, text: &str) -> Result<Lookup, ListCause>
     ensures { ReadsAll SpellsLookup text.now result }
 {
     let mut rest = text;
-    let read = take_lookup(alloc, &mut rest);
+    let read = lookup_by_word(alloc, &mut rest);
     alone(read, rest)
 }
 
-/// Takes a read from the front.
+/// A read; what stands behind it is left.
 #[tactic(auto, unfolding(crate::specs::Reading::lookup_at))]
-pub fn take_lookup(alloc: Global, input: &mut &str) -> Result<Lookup, ListCause>
+pub(crate) fn lookup_by_word(alloc: Global, input: &mut &str) -> Result<Lookup, ListCause>
     ensures { Takes result input.new.now (lookup_at input.old.now) }
 {
     match take_word(input) {

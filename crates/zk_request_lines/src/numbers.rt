@@ -1,4 +1,4 @@
-//! Numbers without a sign.
+//! Numbers without a sign. After a refusal the input stands behind the word.
 ghost use Rattle.std.specs.Prelude.{◌≡◌};
 ghost use Rattle.zk_listing.specs.Reading.{Takes};
 ghost use Rattle.zk_request_lines.specs.Reading.{number_from, number_at, begins_plainly};
@@ -6,9 +6,9 @@ ghost use Rattle.zk_request_lines.specs.Reading.{number_from, number_at, begins_
 use crate::spaced::take_word;
 use zk_listing::ListCause;
 
-/// Takes a decimal of 64 bits without a sign: `0`, or digits of which the first is not 0.
+/// A decimal of 64 bits without a sign: `0`, or digits of which the first is not 0.
 #[tactic(auto, unfolding(crate::specs::Reading::number_at))]
-pub fn take_number(input: &mut &str) -> Result<u64, ListCause>
+pub(crate) fn number(input: &mut &str) -> Result<u64, ListCause>
     ensures { Takes result input.new.now (number_at input.old.now) }
 {
     let word = take_word(input);

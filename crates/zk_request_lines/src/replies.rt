@@ -1,4 +1,4 @@
-//! What a client is told.
+//! What a client is told. What is public appends all of it, or nothing where memory is refused.
 ghost use Rattle.std.specs.Prelude.{◌≡◌, ◌++◌, ◌∷◌, OnOk, OnErr};
 ghost use Rattle.std.specs.List.{flat_map};
 ghost use Rattle.std.specs.String.{string_bytes};
@@ -11,9 +11,19 @@ use zk_path::NoMemory;
 use zk_table::ReadReply;
 
 /// Appends a refusal by its code.
-#[tactic(auto, unfolding(crate::specs::ReplyLines::refusal_text))]
 pub fn push_refusal(line: &mut String, code: i32) -> Result<(), NoMemory>
     ensures appended { OnOk result (string_bytes line.new ≡ string_bytes line.old ++ refusal_text code) }
+    ensures unchanged { OnErr result (string_bytes line.new ≡ string_bytes line.old) }
+{
+    let mut told = String::new(*line.allocator());
+    spell_refusal(&mut told, code)?;
+    line.push_str(told.as_str())?;
+    Ok(())
+}
+
+#[tactic(auto, unfolding(crate::specs::ReplyLines::refusal_text))]
+fn spell_refusal(line: &mut String, code: i32) -> Result<(), NoMemory>
+    ensures { OnOk result (string_bytes line.new ≡ string_bytes line.old ++ refusal_text code) }
 {
     line.push_str("err ")?;
     write!(line, "{code}")?;
@@ -54,7 +64,7 @@ fn spell_reply(line: &mut String, reply: &ReadReply) -> Result<(), NoMemory>
             push_acl(line, acl)?;
             spell_stat(line, stat)
         }
-        ReadReply::Refused(code) => push_refusal(line, *code),
+        ReadReply::Refused(code) => spell_refusal(line, *code),
     }
 }
 

@@ -18,13 +18,13 @@ pub fn read_request(alloc: Global, text: &str) -> Result<Request, ListCause>
     ensures { ReadsAll SpellsRequest text.now result }
 {
     let mut rest = text;
-    let read = take_request(alloc, &mut rest);
+    let read = request(alloc, &mut rest);
     alone(read, rest)
 }
 
-/// Takes a request from the front; what stands behind it is left, but a multi takes all.
+/// A request; what stands behind it is left, but a multi takes all.
 #[tactic(auto, unfolding(crate::specs::Reading::request_at))]
-pub fn take_request(alloc: Global, input: &mut &str) -> Result<Request, ListCause>
+pub(crate) fn request(alloc: Global, input: &mut &str) -> Result<Request, ListCause>
     ensures { Takes result input.new.now (request_at input.old.now) }
 {
     match take_word(input) {

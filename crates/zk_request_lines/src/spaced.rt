@@ -1,11 +1,11 @@
 //! Words, spaces, and fields behind a space.
-ghost use Rattle.std.specs.Prelude.{◌≡◌};
+ghost use Rattle.std.specs.Prelude.{◌≡◌, OnErr};
 ghost use Rattle.std.specs.List.{position, position_or_len};
 ghost use Rattle.zk_listing.specs.Reading.{Takes, TakesUnit, past, spaced, is_end, front_of, back_of, many_at};
 ghost use Rattle.zk_request_lines.specs.Reading.{flag_at, int_field_at, text_field_at, acl_field_at, content_field_at, digest_at, ids_at};
 
-use crate::fields::{acl, content, take_int, text};
-use crate::numbers::take_number;
+use crate::fields::{acl, content, int, text};
+use crate::numbers::number;
 use std::alloc::Global;
 use zk_acl::{Acls, Id, Ids, Text};
 use zk_listing::ListCause;
@@ -37,7 +37,8 @@ fn first_end(bytes: &[u8]) -> Option<usize>
 
 /// Takes one space.
 pub fn take_space(input: &mut &str) -> Result<(), ListCause>
-    ensures { TakesUnit result input.new.now (past 32 input.old.now) }
+    ensures taken { TakesUnit result input.new.now (past 32 input.old.now) }
+    ensures unchanged { OnErr result (input.new.now ≡ input.old.now) }
 {
     match input.strip_prefix(' ') {
         Some(rest) => {
@@ -67,7 +68,7 @@ pub(crate) fn spaced_int(input: &mut &str) -> Result<i32, ListCause>
     ensures { Takes result input.new.now (spaced int_field_at input.old.now) }
 {
     take_space(input)?;
-    take_int(input)
+    int(input)
 }
 
 pub(crate) fn spaced_text(alloc: Global, input: &mut &str) -> Result<Text, ListCause>
@@ -91,12 +92,12 @@ pub(crate) fn spaced_content(alloc: Global, input: &mut &str) -> Result<Option<C
     content(alloc, input)
 }
 
-/// Takes identities by digests: their number, and the text of each between quotes.
+/// Identities by digests: their number, and the text of each between quotes.
 #[tactic(auto, unfolding(crate::specs::Reading::ids_at))]
-pub fn take_ids(alloc: Global, input: &mut &str) -> Result<Ids, ListCause>
+pub(crate) fn ids(alloc: Global, input: &mut &str) -> Result<Ids, ListCause>
     ensures { Takes result input.new.now (ids_at input.old.now) }
 {
-    let count = take_number(input)?;
+    let count = number(input)?;
     digests(alloc, count, input)
 }
 

@@ -1,5 +1,5 @@
-//! What a run script is told: of an event, and of a server. What is public appends whole lines, with their newlines, or may
-//! leave a part of them where memory is refused.
+//! What a run script is told: of an event, and of a server. What is public appends whole lines, with their newlines, or nothing
+//! where memory is refused.
 #![tactic(auto)]
 
 mod reports;

@@ -1,5 +1,5 @@
 //! Reports on a server: the number of their lines, and the lines.
-ghost use Rattle.std.specs.Prelude.{◌≡◌, ◌++◌, false, IfOk, OnOk};
+ghost use Rattle.std.specs.Prelude.{◌≡◌, ◌++◌, false, IfOk, OnErr, OnOk};
 ghost use Rattle.std.specs.List.{flat_map};
 ghost use Rattle.std.specs.String.{string_bytes};
 ghost use Rattle.zk_run_answers.specs.Answers.{lines_line, delivered_report, answer_line, answers_report, kind_text, event_line, events_report, tree_lines, counted_tree};
@@ -24,11 +24,15 @@ fn push_lines(page: &mut String, count: usize) -> Result<(), NoMemory>
 
 /// Appends the report of what a server has delivered: a listing.
 pub fn push_delivered(page: &mut String, delivered: &[Entry]) -> Result<(), NoMemory>
-    ensures { OnOk result
+    ensures appended { OnOk result
         (string_bytes page.new ≡ string_bytes page.old ++ delivered_report delivered.now) }
+    ensures unchanged { OnErr result (string_bytes page.new ≡ string_bytes page.old) }
 {
-    push_lines(page, delivered.len())?;
-    push_entries(page, delivered)
+    let mut report = String::new(*page.allocator());
+    push_lines(&mut report, delivered.len())?;
+    push_entries(&mut report, delivered)?;
+    page.push_str(report.as_str())?;
+    Ok(())
 }
 
 fn push_entries(page: &mut String, delivered: &[Entry]) -> Result<(), NoMemory>
@@ -43,11 +47,15 @@ fn push_entries(page: &mut String, delivered: &[Entry]) -> Result<(), NoMemory>
 
 /// Appends the report of what the delivered entries were answered: the tag of each, and its result.
 pub fn push_answers(page: &mut String, answers: &[Answered]) -> Result<(), NoMemory>
-    ensures { OnOk result
+    ensures appended { OnOk result
         (string_bytes page.new ≡ string_bytes page.old ++ answers_report answers.now) }
+    ensures unchanged { OnErr result (string_bytes page.new ≡ string_bytes page.old) }
 {
-    push_lines(page, answers.len())?;
-    push_answer_lines(page, answers)
+    let mut report = String::new(*page.allocator());
+    push_lines(&mut report, answers.len())?;
+    push_answer_lines(&mut report, answers)?;
+    page.push_str(report.as_str())?;
+    Ok(())
 }
 
 fn push_answer_lines(page: &mut String, answers: &[Answered]) -> Result<(), NoMemory>
@@ -72,11 +80,15 @@ fn push_answer(page: &mut String, answered: &Answered) -> Result<(), NoMemory>
 
 /// Appends the report of what sessions were told by their watches, in the order in which it was fired.
 pub fn push_events(page: &mut String, fired: &[Fired]) -> Result<(), NoMemory>
-    ensures { OnOk result
+    ensures appended { OnOk result
         (string_bytes page.new ≡ string_bytes page.old ++ events_report fired.now) }
+    ensures unchanged { OnErr result (string_bytes page.new ≡ string_bytes page.old) }
 {
-    push_lines(page, fired.len())?;
-    push_event_lines(page, fired)
+    let mut report = String::new(*page.allocator());
+    push_lines(&mut report, fired.len())?;
+    push_event_lines(&mut report, fired)?;
+    page.push_str(report.as_str())?;
+    Ok(())
 }
 
 fn push_event_lines(page: &mut String, fired: &[Fired]) -> Result<(), NoMemory>
@@ -117,12 +129,16 @@ fn number_of(kind: ChangeKind) -> &'static str
 /// Appends the report of a tree, behind the number of its lines.
 pub fn push_counted_tree(page: &mut String, machine: &Machine) -> Result<(), NoMemory>
     requires { machine.now.failed ≡ false }
-    ensures { OnOk result
+    ensures appended { OnOk result
         (string_bytes page.new ≡ string_bytes page.old ++ counted_tree machine.now.state) }
+    ensures unchanged { OnErr result (string_bytes page.new ≡ string_bytes page.old) }
 {
     let lines = lines_of(machine)?;
-    push_lines(page, lines)?;
-    push_tree(page, machine)
+    let mut report = String::new(*page.allocator());
+    push_lines(&mut report, lines)?;
+    push_tree(&mut report, machine)?;
+    page.push_str(report.as_str())?;
+    Ok(())
 }
 
 /// How many lines the report of a tree has.

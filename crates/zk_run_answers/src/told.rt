@@ -1,5 +1,5 @@
 //! What an event is answered.
-ghost use Rattle.std.specs.Prelude.{◌≡◌, ◌++◌, OnOk};
+ghost use Rattle.std.specs.Prelude.{◌≡◌, ◌++◌, OnErr, OnOk};
 ghost use Rattle.std.specs.String.{string_bytes};
 ghost use Rattle.zk_run_answers.specs.Answers.{numbers_text, moved_text, fault_text, told_text};
 ghost use Rattle.zk_runs.specs.declared.fault.EnsembleFault.TheVariants as faults;
@@ -13,6 +13,17 @@ use zk_runs::{Answer, EnsembleFault};
 
 /// Appends the line of what an event is answered.
 pub fn push_told(page: &mut String, told: &Result<Answer, EnsembleFault>) -> Result<(), NoMemory>
+    ensures appended { OnOk result
+        (string_bytes page.new ≡ string_bytes page.old ++ line (told_text told.now)) }
+    ensures unchanged { OnErr result (string_bytes page.new ≡ string_bytes page.old) }
+{
+    let mut spelled = String::new(*page.allocator());
+    spell_told(&mut spelled, told)?;
+    page.push_str(spelled.as_str())?;
+    Ok(())
+}
+
+fn spell_told(page: &mut String, told: &Result<Answer, EnsembleFault>) -> Result<(), NoMemory>
     ensures { OnOk result
         (string_bytes page.new ≡ string_bytes page.old ++ line (told_text told.now)) }
 {

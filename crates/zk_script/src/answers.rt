@@ -6,7 +6,7 @@ ghost use Rattle.zk_script.specs.Answers.{fault_text, place_text, move_text, set
 ghost use Rattle.zk_script.specs.Reports.{line, tree_report};
 
 use crate::command::Command;
-use crate::report::{push_node_at, push_tree};
+use crate::report::{push_node_at, spell_tree};
 use zk_debug::{DebugFault, Debugger, Stop};
 use zk_listing::{push_id, push_result_line};
 use zk_path::{NoMemory, Path};
@@ -146,7 +146,7 @@ fn push_seen_tree(answer: &mut String, debugger: &Debugger) -> Result<(), NoMemo
         ++ seen_by debugger.now (tree_report (state_at debugger.now.txns debugger.now.place))) }
 {
     match debugger.tree() {
-        Ok(machine) => push_tree(answer, machine),
+        Ok(machine) => spell_tree(answer, machine),
         Err(fault) => push_done(answer, Err(fault), ""),
     }
 }

@@ -1,5 +1,5 @@
-//! The report of a tree.
-ghost use Rattle.std.specs.Prelude.{◌≡◌, ◌++◌, false, OnOk};
+//! The report of a tree. What is public appends all of it, or nothing where memory is refused, but for `push_entry_line`.
+ghost use Rattle.std.specs.Prelude.{◌≡◌, ◌++◌, false, OnErr, OnOk};
 ghost use Rattle.std.specs.FinMap as finite;
 ghost use Rattle.std.specs.List.{flat_map};
 ghost use Rattle.std.specs.String.{string_bytes};
@@ -13,8 +13,21 @@ use zk_spelling::spell_node_line;
 use zk_tree::Entry;
 
 /// Appends the report of a machine's state: its last transaction, its open sessions and its nodes.
-#[tactic(auto, unfolding(crate::specs::Reports::tree_report))]
 pub fn push_tree(page: &mut String, machine: &Machine) -> Result<(), NoMemory>
+    requires { machine.now.failed ≡ false }
+    ensures appended { OnOk result
+        (string_bytes page.new ≡ string_bytes page.old ++ tree_report machine.now.state) }
+    ensures unchanged { OnErr result (string_bytes page.new ≡ string_bytes page.old) }
+{
+    let mut report = String::new(*page.allocator());
+    spell_tree(&mut report, machine)?;
+    page.push_str(report.as_str())?;
+    Ok(())
+}
+
+/// Appends the same, or a part of it where memory is refused: for a text that is given up then.
+#[tactic(auto, unfolding(crate::specs::Reports::tree_report))]
+pub(crate) fn spell_tree(page: &mut String, machine: &Machine) -> Result<(), NoMemory>
     requires { machine.now.failed ≡ false }
     ensures { OnOk result
         (string_bytes page.new ≡ string_bytes page.old ++ tree_report machine.now.state) }
@@ -23,12 +36,25 @@ pub fn push_tree(page: &mut String, machine: &Machine) -> Result<(), NoMemory>
         unreachable!()
     };
     let entries = tree.entries()?;
-    push_head(page, machine)?;
+    spell_head(page, machine)?;
     push_entries(page, entries.as_slice())
 }
 
 /// Appends the lines of the last transaction and of the open sessions.
 pub fn push_head(page: &mut String, machine: &Machine) -> Result<(), NoMemory>
+    requires { machine.now.failed ≡ false }
+    ensures appended { OnOk result (string_bytes page.new ≡ string_bytes page.old
+        ++ (line (zxid_line machine.now.state.last)
+        ++ flat_map (λ session. line (session_line session)) (finite.entries machine.now.state.sessions))) }
+    ensures unchanged { OnErr result (string_bytes page.new ≡ string_bytes page.old) }
+{
+    let mut head = String::new(*page.allocator());
+    spell_head(&mut head, machine)?;
+    page.push_str(head.as_str())?;
+    Ok(())
+}
+
+fn spell_head(page: &mut String, machine: &Machine) -> Result<(), NoMemory>
     requires { machine.now.failed ≡ false }
     ensures { OnOk result (string_bytes page.new ≡ string_bytes page.old
         ++ (line (zxid_line machine.now.state.last)
@@ -90,7 +116,7 @@ fn push_entries(page: &mut String, entries: &[Entry]) -> Result<(), NoMemory>
     Ok(())
 }
 
-/// Appends the line of a node that a tree lends.
+/// Appends the line of a node that a tree lends, or a part of it where memory is refused: for a page that is given up then.
 pub fn push_entry_line(page: &mut String, entry: &Entry) -> Result<(), NoMemory>
     ensures { OnOk result (string_bytes page.new ≡ string_bytes page.old ++ entry_line entry.now) }
 {

@@ -7,5 +7,5 @@ use Rattle.zk_request_lines.proofs.lookups.read_lookup.Goals as goal
 pub returns : goal.returns
 returns c =
     let input = c.args.text.now in
-    let read = reads_all SpellsLookup lookup_at whole_lookup input c.take_lookup-read.result c.take_lookup-read.new.input.now c.take_lookup-read.ensures in
+    let read = reads_all SpellsLookup lookup_at whole_lookup input c.lookup_by_word-read.result c.lookup_by_word-read.new.input.now c.lookup_by_word-read.ensures in
     rw c.alone.ensures read

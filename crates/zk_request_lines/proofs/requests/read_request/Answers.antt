@@ -7,5 +7,5 @@ use Rattle.zk_request_lines.proofs.requests.read_request.Goals as goal
 pub returns : goal.returns
 returns c =
     let input = c.args.text.now in
-    let read = reads_all SpellsRequest request_at whole_request input c.take_request-read.result c.take_request-read.new.input.now c.take_request-read.ensures in
+    let read = reads_all SpellsRequest request_at whole_request input c.request-read.result c.request-read.new.input.now c.request-read.ensures in
     rw c.alone.ensures read

@@ -21,5 +21,5 @@ returns-in-Happens c =
     record {
       answer = answer;
       answers = subst (λ (command : Command). Answers c.args.ensemble.now command answer c.step-told.new.self) (sym same) answered;
-      told = c.push_told.ensures;
+      told = c.push_told.ensures.appended;
     }

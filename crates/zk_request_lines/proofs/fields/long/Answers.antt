@@ -6,7 +6,7 @@ use Rattle.zk_listing.proofs.AclLaws.{int_exact}
 use Rattle.zk_listing.proofs.DecimalLaws.{narrow64}
 use Rattle.zk_request_lines.specs.Reading.{long_field_at}
 use Rattle.zk_request_lines.proofs.Ended.{takes_ended, takes_itself}
-use Rattle.zk_request_lines.proofs.fields.take_long.Goals as goal
+use Rattle.zk_request_lines.proofs.fields.long.Goals as goal
 
 pub returns : goal.returns
 unfolding long_field_at

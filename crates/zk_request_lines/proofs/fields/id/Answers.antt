@@ -5,7 +5,7 @@ use Rattle.zk_listing.specs.Reading.{id_at}
 use Rattle.zk_listing.proofs.LineLaws.{id_exact}
 use Rattle.zk_request_lines.specs.Reading.{id_field_at}
 use Rattle.zk_request_lines.proofs.Ended.{takes_ended, takes_itself}
-use Rattle.zk_request_lines.proofs.fields.take_id.Goals as goal
+use Rattle.zk_request_lines.proofs.fields.id.Goals as goal
 
 pub returns : goal.returns
 unfolding id_field_at
