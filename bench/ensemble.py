@@ -21,11 +21,12 @@ TURNS = 5
 def run(machines):
     """The CPU seconds of a run, its events, and its steps of machines."""
     child = subprocess.Popen([LOAD, str(CALLS), str(machines)], stdout=subprocess.PIPE)
-    told = child.stdout.read().decode().split()
+    told = [line.split() for line in child.stdout.read().decode().splitlines()]
     _, status, usage = os.wait4(child.pid, 0)
-    if status or len(told) != 8 or int(told[0]) != CALLS:
+    # between the first line and the last, one for each server
+    if status or len(told) != SERVERS + 2 or int(told[0][0]) != CALLS:
         sys.exit("%d machines: status %d, %r" % (machines, os.waitstatus_to_exitcode(status), told))
-    return usage.ru_utime + usage.ru_stime, int(told[2]), int(told[6])
+    return usage.ru_utime + usage.ru_stime, int(told[0][2]), int(told[-1][2])
 
 
 def main():

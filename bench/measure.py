@@ -1,5 +1,5 @@
 #!/usr/bin/env python3
-"""Measures `zk` beside `sha1sum`: CPU seconds and peak memory, on logs and on logs of twice their length.
+"""Measures `zk` beside `sha1sum`: CPU seconds and peak memory, on logs, and of a growing tree on one of twice its length.
 
 usage: bench/measure.py     in a checkout where `rt ci`, or `rt run` in crates/zk_cli, has left the proved program
 
@@ -51,15 +51,26 @@ def make(folder, total, mix):
     return log, os.path.getsize(log)
 
 
+def there_back_and_there(folder):
+    """A debug script: to the end, 1,000 steps back, and 1,000 forward."""
+    script = os.path.join(folder, "script")
+    with open(script, "w") as lines:
+        lines.write("run\n" + "back\n" * 1_000 + "step\n" * 1_000)
+    return script
+
+
 def of_a_log(folder, total, mix):
-    """`show` and `list` of a log. Answers what they took."""
+    """`show` and `list` of a log, and `debug` where its tree grows. Answers what they took."""
     log, size = make(folder, total, mix)
-    results = measured([
+    commands = [
         ("sha1sum", ["sha1sum", log], os.devnull),
         ("zk show of the start state", [ZK, "show", log, "0" * 16], os.devnull),
         ("zk show of the last state", [ZK, "show", log, "last"], os.devnull),
         ("zk list", [ZK, "list", log], os.devnull),
-    ])
+    ]
+    if mix == "tree":
+        commands.append(("zk debug", [ZK, "debug", log, there_back_and_there(folder)], os.devnull))
+    results = measured(commands)
     report(size, results)
     return results
 

@@ -1,6 +1,7 @@
 #!/usr/bin/env bash
-# Debug scripts by the proved program: the lock that a closed session took away, on files and on standard input; a
-# malformed line, with the answers before it; an empty script; and what can't be opened, read or written.
+# Debug scripts by the proved program: the lock that a closed session took away, and a multi with the tree at each place, on
+# files and on standard input; a malformed line, with the answers before it; an empty script; and what can't be opened, read
+# or written.
 set -euo pipefail
 work=$(mktemp -d)
 trap 'rm -rf "$work"' EXIT
@@ -16,10 +17,13 @@ ends() {
     echo "$status $(cat "$work/err")"
 }
 
-"$zk" asm examples/lock.listing "$log"
-"$zk" debug "$log" "$script" | cmp - "$answers"
-"$zk" debug @ "$script" <"$log" | cmp - "$answers"
-"$zk" debug "$log" @ <"$script" | cmp - "$answers"
+for example in lock multi; do
+    files=examples/$example
+    "$zk" asm "$files.listing" "$work/$example.log"
+    "$zk" debug "$work/$example.log" "$files.script" | cmp - "$files.answers"
+    "$zk" debug @ "$files.script" <"$work/$example.log" | cmp - "$files.answers"
+    "$zk" debug "$work/$example.log" @ <"$files.script" | cmp - "$files.answers"
+done
 
 # a last line without a newline counts
 printf %s "$(cat "$script")" | "$zk" debug "$log" @ | cmp - "$answers"
@@ -49,4 +53,4 @@ printf 'step\377' >"$work/bad"
 status=0
 "$zk" debug "$log" "$script" 2>"$work/err" >/dev/full || status=$?
 [ "$status $(cat "$work/err")" = "1 zk: write" ]
-echo "debugger: a lock that a closed session took away"
+echo "debugger: a lock that a closed session took away, and a multi with the tree at each place"

@@ -2,18 +2,34 @@
 # Refuses each growth of memory in turn, from the first on until a run meets none, while the proved program shows
 # examples/first_log_head.log, lists the first log, and makes it of its listing; and the same for a log with a path of 200
 # bytes and contents that are longer than a page of output. Each run must end with the whole output, or with `zk: memory`,
-# status 1, and a part of the output from its front.
+# status 1, and a part of the output from its front. A debug script and a run script may also go on behind a line that tells
+# the refusal, `B4` or `E9`: a debugger that failed tells `B5` until it is reset, an ensemble that failed tells `E9` for good.
 set -euo pipefail
 work=$(mktemp -d)
 trap 'rm -rf "$work"' EXIT
 cc -shared -fPIC -O2 -o "$work/refuse.so" checks/refuse.c -ldl
 zk=crates/zk_cli/out/zk_cli
 
+# goes_on WHOLE FIRST LATER: whether the output is WHOLE but for a line FIRST and lines LATER right behind it
+goes_on() {
+    awk -v first="$2" -v later="$3" '
+        FNR == NR { whole[++lines] = $0; next }
+        { out[++told] = $0 }
+        END {
+            while (same < lines && same < told && whole[same + 1] == out[same + 1]) same++
+            if (same == lines && same == told) exit 0
+            if (out[same + 1] != first) exit 1
+            while (back < told - same - 1 && back < lines && whole[lines - back] == out[told - back]) back++
+            for (at = same + 2; at <= told - back; at++) if (out[at] != later) exit 1
+        }' "$1" "$work/out"
+}
+
 # refuse_each WHOLE WORD..: runs `zk WORD..`, whose output without a refusal is the file WHOLE; leaves in `parts` how many
-# refused runs had written something
+# refused runs had written something, and in `lines` how many had told the refusal by a line
 refuse_each() {
     local whole=$1 count=0 status
     parts=0
+    lines=0
     shift
     while :; do
         count=$((count + 1))
@@ -21,8 +37,15 @@ refuse_each() {
         REFUSE=$count REFUSE_MET="$work/met" LD_PRELOAD="$work/refuse.so" \
             "$zk" "$@" >"$work/out" 2>"$work/err" || status=$?
         if [ "$status" = 0 ]; then
-            cmp "$work/out" "$whole"
             [ ! -s "$work/err" ]
+            if ! cmp -s "$work/out" "$whole"; then
+                lines=$((lines + 1))
+                case $1 in
+                debug) goes_on "$whole" B4 B5 ;;
+                run) goes_on "$whole" E9 E9 ;;
+                *) cmp "$work/out" "$whole" ;;
+                esac
+            fi
         else
             [ "$status" = 1 ]
             [ "$(cat "$work/err")" = "zk: memory" ]
@@ -58,3 +81,28 @@ refuse_each "$work/long.shown" show "$work/long.log" last
 refuse_each "$work/long.listing" list "$work/long.log"
 [ "$parts" -gt 0 ]
 refuse_each "$work/long.log" asm "$work/long.listing" @
+
+# a debug script without breakpoints, and a run script without watches: so a refused line alters no answer behind it, but by
+# failing
+"$zk" asm examples/lock.listing "$work/lock.log"
+cat >"$work/lock.script" <<END
+step
+run
+last
+node "/lock"
+back
+last
+goto 0000000100000003
+node "/lock/holder"
+runback
+reset
+step
+run
+last
+tree
+END
+"$zk" debug "$work/lock.log" "$work/lock.script" >"$work/lock.answers"
+refuse_each "$work/lock.answers" debug "$work/lock.log" "$work/lock.script"
+[ "$lines" -gt 0 ]
+refuse_each examples/runs/two_creates_of_one_path.answers run examples/runs/two_creates_of_one_path.script
+[ "$lines" -gt 0 ]

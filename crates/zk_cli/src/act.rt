@@ -11,8 +11,8 @@ use zk_path::NoMemory;
 /// Does what an order asks for, and answers the exit status: 0, or 1 for a refused input or a failed output, with one
 /// line on `faults`.
 ///
-/// `file` is the log, for [`Order::Asm`] the listing, and for [`Order::Run`] the script. `script` is the script of [`Order::Debug`]; the others leave
-/// it.
+/// `file` is the log, for [`Order::Asm`] the listing, and for [`Order::Run`] the script. `script` is the script of
+/// [`Order::Debug`]; the others leave it.
 pub fn act<F: Read, S: Read, O: Write, E: Write>(
     alloc: Global,
     order: &Order,

@@ -1,9 +1,11 @@
 //! The order `debug`, on logs that listings spell.
 use crate::act::act;
+use std::alloc::Global;
 use std::process::Abort;
 use std::test::Fail;
 use zk_log::{DripIn, DripOut, Sink, Source};
 use zk_orders::{CommandFault, Order, read_command_line, script_line};
+use zk_path::NoMemory;
 use zk_script::ScriptFault;
 use zk_usage::ErrorKind;
 
@@ -78,6 +80,69 @@ session 0100000000000001 30000
 ok
 place 0 0000000000000000
 ";
+
+/// The tree at the start, and after each transaction in turn.
+const START_TREE: &str = "zxid 0000000000000000
+\"/\" x 1 31 \"world\" \"anyone\" 0000000000000000 0000000000000000 0 0 0 -1 0 0000000000000000 0 1 0000000000000000
+\"/zookeeper\" x 1 31 \"world\" \"anyone\" 0000000000000000 0000000000000000 0 0 0 -1 0 0000000000000000 0 1 0000000000000000
+\"/zookeeper/quota\" x 1 31 \"world\" \"anyone\" 0000000000000000 0000000000000000 0 0 0 0 0 0000000000000000 0 0 0000000000000000
+";
+
+const SESSION_TREE: &str = "zxid 0000000100000001
+session 0100000000000001 30000
+\"/\" x 1 31 \"world\" \"anyone\" 0000000000000000 0000000000000000 0 0 0 -1 0 0000000000000000 0 1 0000000000000000
+\"/zookeeper\" x 1 31 \"world\" \"anyone\" 0000000000000000 0000000000000000 0 0 0 -1 0 0000000000000000 0 1 0000000000000000
+\"/zookeeper/quota\" x 1 31 \"world\" \"anyone\" 0000000000000000 0000000000000000 0 0 0 0 0 0000000000000000 0 0 0000000000000000
+";
+
+const NODE_TREE: &str = "zxid 0000000100000002
+session 0100000000000001 30000
+\"/\" x 1 31 \"world\" \"anyone\" 0000000000000000 0000000000000000 0 0 0 0 0 0000000000000000 0 2 0000000100000002
+\"/a\" x6869 1 31 \"world\" \"anyone\" 0000000100000002 0000000100000002 2000 2000 0 0 0 0000000000000000 2 0 0000000100000002
+\"/zookeeper\" x 1 31 \"world\" \"anyone\" 0000000000000000 0000000000000000 0 0 0 -1 0 0000000000000000 0 1 0000000000000000
+\"/zookeeper/quota\" x 1 31 \"world\" \"anyone\" 0000000000000000 0000000000000000 0 0 0 0 0 0000000000000000 0 0 0000000000000000
+";
+
+const MULTI_TREE: &str = "zxid 0000000100000004
+session 0100000000000001 30000
+\"/\" x 1 31 \"world\" \"anyone\" 0000000000000000 0000000000000000 0 0 0 2 0 0000000000000000 0 2 0000000100000004
+\"/a\" x6869 1 31 \"world\" \"anyone\" 0000000100000002 0000000100000002 2000 2000 0 0 0 0000000000000000 2 0 0000000100000002
+\"/zookeeper\" x 1 31 \"world\" \"anyone\" 0000000000000000 0000000000000000 0 0 0 -1 0 0000000000000000 0 1 0000000000000000
+\"/zookeeper/quota\" x 1 31 \"world\" \"anyone\" 0000000000000000 0000000000000000 0 0 0 0 0 0000000000000000 0 0 0000000000000000
+";
+
+const LAST_TREE: &str = "zxid 0000000100000005
+session 0100000000000001 30000
+\"/\" x 1 31 \"world\" \"anyone\" 0000000000000000 0000000000000000 0 0 0 2 0 0000000000000000 0 2 0000000100000004
+\"/a\" x6869 1 31 \"world\" \"anyone\" 0000000100000002 0000000100000002 2000 2000 0 0 0 0000000000000000 2 0 0000000100000002
+\"/zookeeper\" x 1 31 \"world\" \"anyone\" 0000000000000000 0000000000000000 0 0 0 -1 0 0000000000000000 0 1 0000000000000000
+\"/zookeeper/quota\" x 1 31 \"world\" \"anyone\" 0000000000000000 0000000000000000 0 0 0 0 0 0000000000000000 0 0 0000000000000000
+";
+
+/// Lines behind [`SCRIPT`], with their answers: a run there and back, and the tree at each place, up to the end and down again.
+const EACH_PLACE: [(&str, &str); 21] = [
+    ("run\n", "place 3 0000000100000004 hit 1\n"),
+    ("runback\n", "place 0 0000000000000000\n"),
+    ("tree\n", START_TREE),
+    ("step\n", "place 1 0000000100000001\n"),
+    ("tree\n", SESSION_TREE),
+    ("step\n", "place 2 0000000100000002\n"),
+    ("tree\n", NODE_TREE),
+    ("step\n", "place 3 0000000100000004 hit 1\n"),
+    ("tree\n", MULTI_TREE),
+    ("step\n", "place 4 0000000100000005\n"),
+    ("tree\n", LAST_TREE),
+    ("step\n", "B1\n"),
+    ("back\n", "place 3 0000000100000004 hit 1\n"),
+    ("tree\n", MULTI_TREE),
+    ("back\n", "place 2 0000000100000002\n"),
+    ("tree\n", NODE_TREE),
+    ("back\n", "place 1 0000000100000001\n"),
+    ("tree\n", SESSION_TREE),
+    ("back\n", "place 0 0000000000000000\n"),
+    ("tree\n", START_TREE),
+    ("back\n", "B2\n"),
+];
 
 /// Acts on a file and a script, and answers the status, what is written and what is told.
 fn acted(
@@ -162,6 +227,32 @@ fn debug_script_over_a_multi(rt: HostRuntime) -> Result<(), Fail> {
         check(&rt, script, answers, told, good_calls)?;
     }
     Ok(())
+}
+
+/// [`SCRIPT`] and the lines behind it.
+fn each_place_script(alloc: Global) -> Result<String, NoMemory> {
+    let mut script = String::from_str(alloc, SCRIPT)?;
+    for (line, _) in EACH_PLACE {
+        script.push_str(line)?;
+    }
+    Ok(script)
+}
+
+/// The answers to them.
+fn each_place_answers(alloc: Global) -> Result<String, NoMemory> {
+    let mut answers = String::from_str(alloc, ANSWERS)?;
+    for (_, answer) in EACH_PLACE {
+        answers.push_str(answer)?;
+    }
+    Ok(answers)
+}
+
+#[test]
+fn trees_at_each_place_up_and_down(rt: HostRuntime) -> Result<(), Fail> {
+    let script = each_place_script(rt.alloc())?;
+    let answers = each_place_answers(rt.alloc())?;
+    let script = script.as_str().as_bytes();
+    check(&rt, script, answers.as_str(), "", (None, None))
 }
 
 #[test]

@@ -59,7 +59,7 @@ enum Sought {
 }
 
 /// What is shown at the places of the listing with a multi.
-const PLACES: [Shown; 5] = [
+static PLACES: [Shown; 5] = [
     Shown {
         zxid: 0,
         last: "none",
@@ -103,7 +103,7 @@ const PLACES: [Shown; 5] = [
 ];
 
 /// Moves over that listing, with a breakpoint on `/t` and one at the multi.
-const MOVES: [Moved; 18] = [
+static MOVES: [Moved; 18] = [
     (Move::Run, Ok((3, Some(1)))),
     (Move::Step, Ok((4, None))),
     (Move::Step, Err(DebugFault::AtEnd)),
@@ -126,7 +126,7 @@ const MOVES: [Moved; 18] = [
 ];
 
 /// What is sought, the first place above the start where it is met, and the last one below the end.
-const MEETINGS: [(Sought, usize, usize); 14] = [
+static MEETINGS: [(Sought, usize, usize); 14] = [
     (Sought::At(0x1_0000_0005), 5, 5),
     (Sought::Path("/lock"), 2, 6),
     (Sought::Path("/b"), 7, 8),
@@ -174,14 +174,14 @@ fn make(debugger: &mut Debugger, the_move: Move) -> Result<Stop, DebugFault> {
     }
 }
 
-/// The line of what the transaction at the place answered, or `none`.
-fn last_line(rt: &HostRuntime, debugger: &Debugger) -> Result<String, Fail> {
+/// Whether the transaction at the place answered so, where there is one.
+fn has_answered(rt: &HostRuntime, debugger: &Debugger, last: &str) -> Result<bool, Fail> {
+    let Some(result) = debugger.last_result()? else {
+        return Ok(last == "none");
+    };
     let mut line = String::new(rt.alloc());
-    match debugger.last_result()? {
-        Some(result) => push_result_line(&mut line, result)?,
-        None => line.push_str("none")?,
-    }
-    Ok(line)
+    push_result_line(&mut line, result)?;
+    Ok(line.as_str() == last)
 }
 
 fn path_of(rt: &HostRuntime, text: &str) -> Result<Path, Fail> {
@@ -194,22 +194,29 @@ fn stat_of(debugger: &Debugger, path: &Path, node: &Node) -> Result<Stat, Fail> 
     Ok(node.stat(tree.child_count(path)))
 }
 
-/// The line of the node at a path, or `none`.
-fn node_line(rt: &HostRuntime, debugger: &Debugger, path: &Path) -> Result<String, Fail> {
-    let mut line = String::new(rt.alloc());
-    match debugger.node(path)? {
-        Some(node) => push_node_line(&mut line, path, node, &stat_of(debugger, path, node)?)?,
-        None => line.push_str("none")?,
-    }
-    Ok(line)
+/// Whether the node at a path has this line, where there is one.
+fn is_node(rt: &HostRuntime, debugger: &Debugger, path: &Path, line: &str) -> Result<bool, Fail> {
+    let Some(node) = debugger.node(path)? else {
+        return Ok(line == "none");
+    };
+    let stat = stat_of(debugger, path, node)?;
+    let mut told = String::new(rt.alloc());
+    push_node_line(&mut told, path, node, &stat)?;
+    Ok(told.as_str() == line)
+}
+
+/// The same at the path of a text.
+fn is_node_at(rt: &HostRuntime, debugger: &Debugger, text: &str, line: &str) -> Result<bool, Fail> {
+    is_node(rt, debugger, &path_of(rt, text)?, line)
 }
 
 /// Whether these lines are shown.
 fn are_lines(rt: &HostRuntime, debugger: &Debugger, shown: &Shown) -> Result<bool, Fail> {
-    let last = last_line(rt, debugger)?;
-    let root = node_line(rt, debugger, &path_of(rt, "/")?)?;
-    let a = node_line(rt, debugger, &path_of(rt, "/a")?)?;
-    Ok(last.as_str() == shown.last && root.as_str() == shown.root && a.as_str() == shown.a)
+    Ok(
+        has_answered(rt, debugger, shown.last)?
+            && is_node_at(rt, debugger, "/", shown.root)?
+            && is_node_at(rt, debugger, "/a", shown.a)?,
+    )
 }
 
 /// Whether there are so many nodes and sessions.
@@ -277,32 +284,74 @@ fn are_met(
     Ok(true)
 }
 
+/// The numbers that a breakpoint on `/t` and one at the multi get.
+fn set_both(rt: &HostRuntime, debugger: &mut Debugger) -> Result<(u32, u32), Fail> {
+    let on_the_path = debugger.set(breakpoint(rt, Sought::Path("/t"))?)?;
+    let at_the_multi = debugger.set(Breakpoint::At(0x1_0000_0004))?;
+    Ok((on_the_path, at_the_multi))
+}
+
+/// Whether the start shows what it should, and then each move, over the listing with a multi.
+fn is_walked(rt: &HostRuntime, debugger: &mut Debugger) -> Result<bool, Fail> {
+    Ok(
+        set_both(rt, debugger)? == (1, 2)
+            && is_shown(rt, debugger, &PLACES)?
+            && are_moved(rt, debugger, &MOVES, &PLACES)?
+            && debugger.clear(3) == Err(DebugFault::NoBreakpoint),
+    )
+}
+
+/// Whether as many breakpoints can be set as there are numbers, each at the next one, and no number comes again.
+fn are_used_up(debugger: &mut Debugger) -> Result<bool, Fail> {
+    for number in 1..65_536 {
+        if debugger.set(Breakpoint::Error)? != number {
+            return Ok(false);
+        }
+    }
+    debugger.clear(1)?;
+    Ok(
+        debugger.clear(1) == Err(DebugFault::NoBreakpoint)
+            && debugger.set(Breakpoint::Error) == Err(DebugFault::Full),
+    )
+}
+
+/// What is asked of a debugger over the log of a listing.
+#[derive(Clone, Copy)]
+enum Question {
+    IsWalked,
+    AreMet,
+    AreUsedUp,
+}
+
+fn answer(rt: &HostRuntime, debugger: &mut Debugger, question: Question) -> Result<bool, Fail> {
+    match question {
+        Question::IsWalked => is_walked(rt, debugger),
+        Question::AreMet => are_met(rt, debugger, &MEETINGS),
+        Question::AreUsedUp => are_used_up(debugger),
+    }
+}
+
+/// What a debugger over the log of a listing answers. No other function keeps a debugger, since each exit of one that does
+/// is proved to let it go.
+fn answer_over(rt: &HostRuntime, listing: &str, question: Question) -> Result<bool, Fail> {
+    let mut debugger = debugger_over(rt, listing)?;
+    answer(rt, &mut debugger, question)
+}
+
 #[test]
 fn debug_script_over_a_multi(rt: HostRuntime) -> Result<(), Fail> {
-    let mut debugger = debugger_over(&rt, WITH_A_MULTI)?;
-    assert_eq!(rt; debugger.set(breakpoint(&rt, Sought::Path("/t"))?)?, 1);
-    assert_eq!(rt; debugger.set(Breakpoint::At(0x1_0000_0004))?, 2);
-    assert!(rt; is_shown(&rt, &debugger, &PLACES)?);
-    assert!(rt; are_moved(&rt, &mut debugger, &MOVES, &PLACES)?);
-    assert_eq!(rt; debugger.clear(3), Err(DebugFault::NoBreakpoint));
+    assert!(rt; answer_over(&rt, WITH_A_MULTI, Question::IsWalked)?);
     Ok(())
 }
 
 #[test]
 fn each_breakpoint_is_met_forwards_and_backwards(rt: HostRuntime) -> Result<(), Fail> {
-    let mut debugger = debugger_over(&rt, WITH_EACH_KIND)?;
-    assert!(rt; are_met(&rt, &mut debugger, &MEETINGS)?);
+    assert!(rt; answer_over(&rt, WITH_EACH_KIND, Question::AreMet)?);
     Ok(())
 }
 
 #[test]
 fn numbers_of_breakpoints_are_used_up(rt: HostRuntime) -> Result<(), Fail> {
-    let mut debugger = debugger_over(&rt, "")?;
-    for number in 1..65_536 {
-        assert_eq!(rt; debugger.set(Breakpoint::Error)?, number);
-    }
-    debugger.clear(1)?;
-    assert_eq!(rt; debugger.clear(1), Err(DebugFault::NoBreakpoint));
-    assert_eq!(rt; debugger.set(Breakpoint::Error), Err(DebugFault::Full));
+    assert!(rt; answer_over(&rt, "", Question::AreUsedUp)?);
     Ok(())
 }

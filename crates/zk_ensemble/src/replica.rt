@@ -14,7 +14,7 @@ use zk_table::{Op, ReadCall, ReadReply, Txn};
 use zk_watch::{Fired, WatchKind, Watches};
 
 /// What a server of an ensemble shows of what it has delivered: its tree, what each entry was answered, who watches there,
-/// and what was fired. One that was refused memory while it took an entry in has failed.
+/// and what was fired. After want of memory in the middle of an entry it is not used again: its ensemble has failed.
 #[derive(Drop)]
 pub(crate) struct Replica {
     machine: Machine,

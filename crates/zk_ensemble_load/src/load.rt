@@ -7,7 +7,7 @@ use zab_epoch::Entry;
 use zk_ensemble::{Ensemble, EnsembleFault, Event};
 use zk_path::NoMemory;
 
-const SERVERS: usize = 5;
+pub(crate) const SERVERS: usize = 5;
 
 /// Of so many messages one is lost; of so many one arrives twice.
 const LOST: usize = 1999;
@@ -50,12 +50,31 @@ impl Load {
         self.events
     }
 
-    /// What the leader has delivered.
-    pub(crate) fn delivered(&self) -> Result<&[Entry], NoMemory> {
+    /// The server that leads, or led last.
+    pub(crate) fn leader(&self) -> usize {
+        self.leader
+    }
+
+    /// What a server has delivered.
+    pub(crate) fn delivered(&self, server: usize) -> Result<&[Entry], NoMemory> {
         if self.ensemble.has_failed() {
             return Err(NoMemory);
         }
-        Ok(self.ensemble.delivered(self.leader))
+        Ok(self.ensemble.delivered(server))
+    }
+
+    /// How many of these were answered with an error there.
+    pub(crate) fn refused(&self, server: usize) -> Result<usize, NoMemory> {
+        if self.ensemble.has_failed() {
+            return Err(NoMemory);
+        }
+        let answers = self.ensemble.answers(server);
+        Ok(
+            answers
+                .iter()
+                .filter(|answered| answered.result.err != 0)
+                .count(),
+        )
     }
 
     /// An event happens, or is refused.

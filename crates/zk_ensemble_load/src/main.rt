@@ -5,13 +5,24 @@
 //!
 //! usage: zk_ensemble_load [CALLS [MACHINES]]     so many calls are submitted, and what the last leader has delivered of them is
 //! applied to so many machines
+//!
+//! What it prints of 200 calls follows from the rules:
+//!
+//! - An election begins with 12 events: 5 servers are started, one crashes, one leads, and 5 are told to follow it; what a server
+//!   can't do is refused. Then each of three followers sends three messages and is sent three: 18 events more.
+//! - A call is submitted, and three proposals, three acknowledgements and three commits arrive: 10 events. Each fifth call is
+//!   submitted at a follower, and a request arrives first: 11.
+//! - So a term of 50 calls has 12 + 18 + 40 * 10 + 10 * 11 = 540 events and 18 + 40 * 9 + 10 * 10 = 478 messages, and four terms
+//!   have 2160 and 1912. Message 1013 arrives twice, which is one event more. Message 1999, the first to be lost, is never sent.
+//! - As nothing is lost, each server that is up at the end has delivered each call once. Server 1 is down in the last term.
+//! - One call is refused. It sets `node-0` of the first family, which is not there: the family's first call made the node above.
 #![tactic(auto)]
 
 mod calls;
 mod load;
 
 use anyhow::{Context, Result, bail};
-use load::Load;
+use load::{Load, SERVERS};
 use std::alloc::Global;
 use std::env;
 use zab_epoch::Entry;
@@ -20,15 +31,19 @@ use zk_machine::Machine;
 /// The calls where no other number is given.
 const CALLS: u64 = 200;
 
+/// The machines where no other number is given.
+const MACHINES: u64 = 2;
+
 fn main(rt: HostRuntime) -> Result<()> {
     let calls = word(&rt, 1, CALLS)?;
-    let machines = word(&rt, 2, 0)?;
+    let machines = word(&rt, 2, MACHINES)?;
     let mut load = Load::new(rt.alloc())?;
     for term in 0..4 {
         load.run_term(term, calls / 4)?;
     }
     println!(rt; "{calls} calls, {} events", load.events())?;
-    let steps = apply_to_all(rt.alloc(), load.delivered()?, machines)?;
+    tell_servers(&rt, &load)?;
+    let steps = apply_to_all(rt.alloc(), load.delivered(load.leader())?, machines)?;
     println!(rt; "{machines} machines, {steps} steps")?;
     Ok(())
 }
@@ -43,6 +58,28 @@ fn word(rt: &HostRuntime, place: usize, otherwise: u64) -> Result<u64> {
         ),
         None => Ok(otherwise),
     }
+}
+
+/// A line for each server: what it has delivered, and how much of that was refused.
+fn tell_servers(rt: &HostRuntime, load: &Load) -> Result<()> {
+    for server in 1..=SERVERS {
+        let once = delivered_once(load.delivered(server)?)?;
+        let refused = load.refused(server)?;
+        println!(rt; "server {server}: {once} delivered once, {refused} of them refused")?;
+    }
+    Ok(())
+}
+
+/// How many calls were delivered, where no call came twice, or after a later one.
+fn delivered_once(entries: &[Entry]) -> Result<usize> {
+    let mut next = 0;
+    for entry in entries {
+        if entry.tag < next {
+            bail!("call {} was delivered again, or late", entry.tag);
+        }
+        next = entry.tag.saturating_add(1);
+    }
+    Ok(entries.len())
 }
 
 /// Applies the transactions of entries to so many machines, one after the other. How many steps all of them made.

@@ -8,7 +8,7 @@ use zk_acl::{Acl, Acls, Id, Ids, Text};
 use zk_ensemble::{Answer, Ensemble, EnsembleFault, Event, Question};
 use zk_listing::push_stat;
 use zk_path::{NoMemory, Path};
-use zk_prepare::{Call, Request};
+use zk_prepare::{Call, Part, Parts, Request};
 use zk_table::{Content, ReadCall, ReadReply};
 
 /// What a session asks for. Nodes are open to all, and have empty content.
@@ -21,6 +21,20 @@ pub enum Ask {
     CreateOwned(&'static str),
     /// Empties a node, whatever its version.
     Empty(&'static str),
+    /// Removes a node of a version.
+    Delete(&'static str, i32),
+    /// Gives everyone these permissions on a node whose list has a version.
+    Permit(&'static str, i32, i32),
+    Multi(&'static [AskPart]),
+}
+
+/// What a part of a multi asks for. The numbers are versions.
+#[derive(Clone, Copy)]
+pub enum AskPart {
+    Create(&'static str),
+    Delete(&'static str, i32),
+    Empty(&'static str, i32),
+    Check(&'static str, i32),
 }
 
 /// What a client reads.
@@ -54,13 +68,13 @@ pub enum Happening {
     Read(By, Look, &'static str),
 }
 
-/// World, anyone, all permissions.
-fn open_to_all(alloc: Global) -> Result<Acls, NoMemory> {
+/// World, anyone, these permissions.
+fn open_to(alloc: Global, perms: i32) -> Result<Acls, NoMemory> {
     let scheme = Text::read(alloc, "world")?;
     let id = Text::read(alloc, "anyone")?;
     let mut entries = Vec::new(alloc);
     entries.push(Acl {
-        perms: 31,
+        perms,
         id: Id { scheme, id },
     })?;
     Acls::new(alloc, entries)
@@ -69,7 +83,7 @@ fn open_to_all(alloc: Global) -> Result<Acls, NoMemory> {
 /// The request that makes a node.
 fn create(alloc: Global, path: &str, flags: i32) -> Result<Request, NoMemory> {
     let path = Text::read(alloc, path)?;
-    let acl = open_to_all(alloc)?;
+    let acl = open_to(alloc, 31)?;
     let content = Content::read(alloc, &[])?;
     Ok(Request::Create {
         path,
@@ -90,6 +104,62 @@ fn empty(alloc: Global, path: &str) -> Result<Request, NoMemory> {
     })
 }
 
+/// The request that gives everyone permissions on a node.
+fn permit(alloc: Global, path: &str, perms: i32, version: i32) -> Result<Request, NoMemory> {
+    let path = Text::read(alloc, path)?;
+    let acl = open_to(alloc, perms)?;
+    Ok(Request::SetAcl { path, acl, version })
+}
+
+/// The part that makes a node.
+fn create_part(alloc: Global, path: &str) -> Result<Part, NoMemory> {
+    let path = Text::read(alloc, path)?;
+    let acl = open_to(alloc, 31)?;
+    let content = Content::read(alloc, &[])?;
+    Ok(Part::Create {
+        path,
+        content: Some(content),
+        acl,
+        flags: 0,
+    })
+}
+
+/// The part that empties one.
+fn empty_part(alloc: Global, path: &str, version: i32) -> Result<Part, NoMemory> {
+    let path = Text::read(alloc, path)?;
+    let content = Content::read(alloc, &[])?;
+    Ok(Part::SetData {
+        path,
+        content: Some(content),
+        version,
+    })
+}
+
+fn part_of(alloc: Global, part: AskPart) -> Result<Part, NoMemory> {
+    match part {
+        AskPart::Create(path) => create_part(alloc, path),
+        AskPart::Delete(path, version) => Ok(Part::Delete {
+            path: Text::read(alloc, path)?,
+            version,
+        }),
+        AskPart::Empty(path, version) => empty_part(alloc, path, version),
+        AskPart::Check(path, version) => Ok(Part::Check {
+            path: Text::read(alloc, path)?,
+            version,
+        }),
+    }
+}
+
+fn multi(alloc: Global, asked: &[AskPart]) -> Result<Request, NoMemory> {
+    let mut parts = Vec::new(alloc);
+    for part in asked {
+        parts.push(part_of(alloc, *part)?)?;
+    }
+    Ok(Request::Multi {
+        parts: Parts::new(parts),
+    })
+}
+
 fn request_of(alloc: Global, ask: Ask) -> Result<Request, NoMemory> {
     match ask {
         Ask::Open => Ok(Request::OpenSession { timeout: 30000 }),
@@ -97,6 +167,12 @@ fn request_of(alloc: Global, ask: Ask) -> Result<Request, NoMemory> {
         Ask::Create(path) => create(alloc, path, 0),
         Ask::CreateOwned(path) => create(alloc, path, 1),
         Ask::Empty(path) => empty(alloc, path),
+        Ask::Delete(path, version) => Ok(Request::Delete {
+            path: Text::read(alloc, path)?,
+            version,
+        }),
+        Ask::Permit(path, perms, version) => permit(alloc, path, perms, version),
+        Ask::Multi(parts) => multi(alloc, parts),
     }
 }
 
@@ -133,7 +209,7 @@ fn question_of(alloc: Global, by: By, look: Look, path: &str) -> Result<Question
 }
 
 /// The event of a row.
-fn event_of(alloc: Global, happening: Happening) -> Result<Event, Fail> {
+pub fn event_of(alloc: Global, happening: Happening) -> Result<Event, Fail> {
     let event = match happening {
         Happening::Lead(server) => zab_runs::Event::Lead { server },
         Happening::Follow(server, leader) => zab_runs::Event::Follow { server, leader },

@@ -5,6 +5,8 @@
 #![tactic(auto)]
 
 #[cfg(test)]
+mod copy_rows;
+#[cfg(test)]
 mod event_rows;
 #[cfg(test)]
 mod events;
