@@ -32,7 +32,7 @@ pub struct Debugger {
 }
 
 impl Model for Debugger {
-    ghost use Rattle.zk_table.specs.contracts.txn.Txn as txn;
+    ghost use Rattle.zk_txn.specs.contracts.txn.Txn as txn;
     ghost use Rattle.zk_debug.specs.contracts.breakpoint.Breakpoint as breakpoint;
     ghost use Rattle.zk_debug.specs.Debugging.{Debugging, debugging_code};
 

@@ -11,7 +11,7 @@ use Rattle.zk_prepare.specs.declared.call.Call.{Call}
 use Rattle.zk_runs.specs.declared.answer.Answer.TheVariants.{Looked}
 use Rattle.zk_runs.specs.declared.fault.EnsembleFault.{EnsembleFault}
 use Rattle.zk_runs.specs.declared.fault.EnsembleFault.TheVariants as faults
-use Rattle.zk_table.specs.declared.read.ReadReply.{ReadReply}
+use Rattle.zk_txn.specs.declared.read.ReadReply.{ReadReply}
 use Rattle.zk_runs.specs.Ensembles.{Ensemble, Shown, Told, ensemble, shown_at, changed_at, at_server, looks, watching, reply_of}
 use Rattle.zk_runs.specs.declared.event.Question.{Question}
 use Rattle.zk_ensemble.specs.Views.{ReplicaView, replica, shown_by, AreRunning}

@@ -16,7 +16,7 @@ use Rattle.zk_runs.specs.declared.event.Event.TheVariants as events
 use Rattle.zk_runs.specs.Consequences.{FitEvents}
 use Rattle.zk_runs.specs.Ensembles.{Shown, Ensemble, ensemble, profile_by}
 use Rattle.zk_runs.specs.Runs.{run}
-use Rattle.zk_table.specs.declared.node.Node.{Node}
+use Rattle.zk_txn.specs.declared.node.Node.{Node}
 use Rattle.zk_table.specs.States.{State, start_state, state_code}
 use Rattle.zk_watch.specs.declared.watch.Fired.{Fired}
 use Rattle.zk_watch.specs.declared.watch.Watch.{Watch}

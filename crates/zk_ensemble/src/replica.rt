@@ -24,7 +24,7 @@ pub(crate) struct Replica {
 }
 
 impl Model for Replica {
-    ghost use Rattle.zk_table.specs.contracts.node.Node as node;
+    ghost use Rattle.zk_txn.specs.contracts.node.Node as node;
     ghost use Rattle.zk_runs.specs.contracts.answer.Answered as answered;
     ghost use Rattle.zk_watch.specs.contracts.watch.Watch as watch;
     ghost use Rattle.zk_watch.specs.contracts.watch.Fired as fired;

@@ -4,8 +4,8 @@ use Rattle.std.specs.Prelude.{FitsSigned}
 use Rattle.std.specs.Int.{w32}
 use Rattle.std.specs.Ordering.{int_eq}
 use Rattle.std.proofs.lemmas.Bool.Decides.{Decides-int_eq}
-use Rattle.zk_table.specs.declared.txn.Op.{Op}
-use Rattle.zk_table.specs.declared.txn.Op.TheVariants as ops
+use Rattle.zk_txn.specs.declared.txn.Op.{Op}
+use Rattle.zk_txn.specs.declared.txn.Op.TheVariants as ops
 use Rattle.zk_jute.specs.Records.{int, ustring, acl_vector, kind_of, body_of, IsOp}
 use Rattle.zk_jute.specs.Reading.{◌>>=◌, number_at, acl_at, vector_at, set_acl_at, create_op, set_data_op, op_at}
 use Rattle.zk_jute.proofs.Numbers.{IsBytes, TakesFront, TakesFront-then, first_read, at_ok, made_takes, either}

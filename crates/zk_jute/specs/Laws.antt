@@ -3,7 +3,7 @@ use Rattle.std.specs.Prelude.{◌≡◌, ◌≤◌, ℕ, List, [], ◌++◌}
 use Rattle.zk_jute.specs.Ranges.{InRange}
 use Rattle.zk_jute.specs.Records.{record_of, IsRecordOf}
 use Rattle.zk_jute.specs.Sizes.{size_of}
-use Rattle.zk_table.specs.declared.txn.Txn.{Txn}
+use Rattle.zk_txn.specs.declared.txn.Txn.{Txn}
 
 -- no record is a proper prefix of another
 abbrev pub NoRecordBeginsAnother : Type 0

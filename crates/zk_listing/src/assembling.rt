@@ -1,7 +1,7 @@
 //! Transactions from a listing.
 ghost use Rattle.std.specs.Prelude.{◌≡◌, ◌≢◌, List, IfOk, IfErr, MatchResult, []};
 ghost use Rattle.std.specs.List.{AllByRecursion};
-ghost use Rattle.zk_table.specs.declared.txn.Txn.{Txn};
+ghost use Rattle.zk_txn.specs.declared.txn.Txn.{Txn};
 ghost use Rattle.zk_spelling.specs.Listings.{IsListed, listing_of};
 ghost use Rattle.zk_listing.specs.Promises.{ReadsLine, AddsLine, BeginsWithListing, IsFirstFault};
 ghost use Rattle.zk_listing.specs.Reading.{Takes, TakesUnit, past, txn_at};

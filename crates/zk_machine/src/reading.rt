@@ -1,8 +1,9 @@
 //! What reads are told, by the tree's indexes.
 
 ghost use Rattle.std.specs.Prelude.{◌≡◌, IfOk};
-ghost use Rattle.zk_table.specs.declared.read.ReadReply.TheVariants as replies;
-ghost use Rattle.zk_table.specs.Reads.{if_readable, names_below, reply_from};
+ghost use Rattle.zk_txn.specs.declared.read.ReadReply.TheVariants as replies;
+ghost use Rattle.zk_txn.specs.Replies.{if_readable};
+ghost use Rattle.zk_table.specs.Reads.{names_below, reply_from};
 
 use zk_acl::{Id, Stat};
 use zk_path::{NoMemory, Path};

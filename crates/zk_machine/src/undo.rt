@@ -16,7 +16,7 @@ pub struct Undo {
 
 impl Model for Undo {
     ghost use Rattle.std.specs.Prelude.{◌<◌};
-    ghost use Rattle.zk_table.specs.contracts.node.Node as node;
+    ghost use Rattle.zk_txn.specs.contracts.node.Node as node;
     ghost use Rattle.zk_machine.specs.Undoing.{Undoing, undo_code, IsUndoing};
 
     ghost Value = { Undoing };

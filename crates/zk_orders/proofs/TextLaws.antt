@@ -5,7 +5,7 @@ use Rattle.zk_log.specs.declared.source.Source.{Source}
 use Rattle.zk_script.specs.Scripts.{RunsScript}
 use Rattle.zk_script.specs.declared.fault.ScriptFault.{ScriptFault}
 use Rattle.zk_script.specs.declared.fault.ScriptFault.TheVariants as script_faults
-use Rattle.zk_table.specs.declared.txn.Txn.{Txn}
+use Rattle.zk_txn.specs.declared.txn.Txn.{Txn}
 use Rattle.zk_orders.specs.Debugs.{started, RunsFromStart}
 use Rattle.zk_orders.specs.Reading.{ReadsAll, TellsRead}
 use Rattle.zk_orders.specs.declared.text.TextFault.{TextFault}

@@ -1,8 +1,8 @@
 ghost use Rattle.std.specs.Prelude.{◌≡◌, None, Some, true, IfOk, length, is_some, option_map};
 ghost use Rattle.std.specs.FinMap as finite;
 ghost use Rattle.std.specs.Option.{option_copied};
+ghost use Rattle.zk_txn.specs.Nodes.{with_child, without_child};
 ghost use Rattle.zk_table.specs.Multis.{apply_part};
-ghost use Rattle.zk_table.specs.Nodes.{with_child, without_child};
 ghost use Rattle.zk_table.specs.Operations.{create, create_fault, delete, delete_fault, set_data, without};
 ghost use Rattle.zk_table.specs.States.{children_of, parent_changed};
 ghost use Rattle.zk_overlay.specs.Overlays.{placed, IsRecount};
@@ -26,8 +26,8 @@ pub struct Overlay<'a> {
 impl<'a> Model for Overlay<'a> {
     ghost use Rattle.std.specs.Coded.{coded_list, coded_ℕ};
     ghost use Rattle.std.specs.FinMap as finite;
+    ghost use Rattle.zk_txn.specs.contracts.node.Node as node;
     ghost use Rattle.zk_table.specs.States.{NodeMap};
-    ghost use Rattle.zk_table.specs.contracts.node.Node as node;
     ghost use Rattle.zk_overlay.specs.Overlays.{nodes_over, IsCounted};
 
     ghost Value = { NodeMap };

@@ -1,7 +1,7 @@
 //! The parts of a multi, each prepared on the nodes after those before it.
 
 ghost use Rattle.std.specs.Prelude.{◌≡◌, IfOk};
-ghost use Rattle.zk_table.specs.Multis.{is_error};
+ghost use Rattle.zk_txn.specs.Parts.{is_error};
 ghost use Rattle.zk_prepare.specs.Refusals.{Gives};
 ghost use Rattle.zk_prepare.specs.Requests.{part_on, next_part, parts_on};
 

@@ -2,11 +2,12 @@
 -- `MultiTxn`.
 use Rattle.std.specs.Prelude.{◌≡◌, ◌≢◌, ℕ, ℤ, pos, List, Bool, true, false, Some, length, ◌⊎◌}
 use Rattle.std.specs.List.{AllByRecursion, list_any}
-use Rattle.zk_table.specs.declared.sub.Sub.{Sub}
-use Rattle.zk_table.specs.declared.txn.Op.{Op}
-use Rattle.zk_table.specs.declared.txn.Op.TheVariants.{Create, Delete, SetData, SetAcl, OpenSession, CloseSession, Error, Multi}
-use Rattle.zk_table.specs.declared.txn.Txn.{Txn}
-use Rattle.zk_table.specs.Multis.{is_error, nodes_after}
+use Rattle.zk_txn.specs.declared.sub.Sub.{Sub}
+use Rattle.zk_txn.specs.declared.txn.Op.{Op}
+use Rattle.zk_txn.specs.declared.txn.Op.TheVariants.{Create, Delete, SetData, SetAcl, OpenSession, CloseSession, Error, Multi}
+use Rattle.zk_txn.specs.declared.txn.Txn.{Txn}
+use Rattle.zk_txn.specs.Parts.{is_error}
+use Rattle.zk_table.specs.Multis.{nodes_after}
 use Rattle.zk_table.specs.States.{State}
 use Rattle.zk_table.specs.Steps.{step}
 use Rattle.zk_tree.specs.Trees.{owner_at}

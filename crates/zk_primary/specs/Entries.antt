@@ -5,7 +5,7 @@ use Rattle.zab_epoch.specs.declared.history.Entry.{Entry}
 use Rattle.zk_prepare.specs.declared.call.Call.{Call}
 use Rattle.zk_prepare.specs.Preparing.{PrepView, StandsFor}
 use Rattle.zk_prepare.specs.Requests.{meaning_of}
-use Rattle.zk_table.specs.declared.txn.Txn.{Txn}
+use Rattle.zk_txn.specs.declared.txn.Txn.{Txn}
 use Rattle.zk_table.specs.Histories.{tree_of}
 use Rattle.zk_table.specs.States.{start_state}
 

@@ -23,8 +23,8 @@ use Rattle.zk_request_lines.specs.declared.lookups.Aspect.TheVariants as aspects
 use Rattle.zk_request_lines.specs.declared.lookups.Lookup.{Lookup}
 use Rattle.zk_request_lines.specs.declared.lookups.Lookup.TheVariants as lookups
 use Rattle.zk_request_lines.specs.RequestLines.{flags_of}
-use Rattle.zk_table.specs.declared.read.ReadCall.{ReadCall}
-use Rattle.zk_table.specs.declared.read.ReadCall.TheVariants as calls
+use Rattle.zk_txn.specs.declared.read.ReadCall.{ReadCall}
+use Rattle.zk_txn.specs.declared.read.ReadCall.TheVariants as calls
 
 -- ---- fields, behind which a field ends
 

@@ -1,4 +1,5 @@
-//! The worked rows of paths, access control lists and the table: the tests of these libraries, and no code of its own.
+//! The worked rows of paths, access control lists, transactions and the table: the tests of these libraries, and no code of
+//! its own.
 //!
 //! A crate with tests is proved twice, so they stand together here and not in the crates that they test. Each public
 //! function is called once with ample memory, and its answer compared. Expected values come from the definition of the

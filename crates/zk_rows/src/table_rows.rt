@@ -1,4 +1,4 @@
-//! Rows of `zk_table`.
+//! Rows of `zk_table`, and of the types of `zk_txn` that it shares.
 
 use std::alloc::Global;
 use std::test::Fail;
@@ -571,6 +571,52 @@ fn null_and_empty_content(rt: HostRuntime) -> Result<(), Fail> {
         first("/zookeeper/quota", 0, 0, 0),
     ];
     assert!(rt; leaves(rt.alloc(), &NULL_AND_EMPTY, &[], &nodes)?);
+    Ok(())
+}
+
+/// Parts that are not applied, where all but errors answer that the state is not what they were made for.
+static UNAPPLIED: [Row; 6] = [
+    (7, Ask::Create, "/b", Some("hi"), 1, -2),
+    (7, Ask::Delete, "/a/b", None, 0, -2),
+    (7, Ask::SetData, "/a", Some("longer"), 9, -2),
+    (7, Ask::Check, "/x", None, 7, -2),
+    (7, Ask::Error, "", None, -103, -103),
+    (7, Ask::Error, "", None, 0, 0),
+];
+
+/// Whether a part answers as its row says where it is not applied, and is an error where the row says so.
+fn is_told_unapplied(alloc: Global, row: Row) -> Result<bool, NoMemory> {
+    let part = part_of(alloc, row)?;
+    let answer = part.answer_unapplied(-2)?;
+    Ok(part.is_error() == matches!(row.1, Ask::Error) && is_told(&answer, row))
+}
+
+/// Whether each of these parts does so.
+fn are_told_unapplied(alloc: Global, rows: &[Row]) -> Result<bool, NoMemory> {
+    let mut all = true;
+    for row in rows {
+        all = is_told_unapplied(alloc, *row)? && all;
+    }
+    Ok(all)
+}
+
+#[test]
+fn unapplied_parts_answer(rt: HostRuntime) -> Result<(), Fail> {
+    assert!(rt; are_told_unapplied(rt.alloc(), &UNAPPLIED)?);
+    Ok(())
+}
+
+/// Whether a copy of this content, where none stands for null, is the same.
+fn is_copied(alloc: Global, text: Option<&str>) -> Result<bool, NoMemory> {
+    let content = content_of(alloc, text)?;
+    Ok(is_content(&Content::copy_of(&content)?, text))
+}
+
+#[test]
+fn content_is_copied(rt: HostRuntime) -> Result<(), Fail> {
+    assert!(rt; is_copied(rt.alloc(), Some("hi"))?);
+    assert!(rt; is_copied(rt.alloc(), Some(""))?);
+    assert!(rt; is_copied(rt.alloc(), None)?);
     Ok(())
 }
 

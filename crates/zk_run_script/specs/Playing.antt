@@ -14,7 +14,7 @@ use Rattle.zk_runs.specs.declared.event.Event.{Event}
 use Rattle.zk_runs.specs.declared.fault.EnsembleFault.TheVariants as faults
 use Rattle.zk_runs.specs.Ensembles.{Told, fresh, happens, shown_at}
 use Rattle.zk_script.specs.Reports.{line}
-use Rattle.zk_table.specs.Codes.{bad_arguments}
+use Rattle.zk_txn.specs.Codes.{bad_arguments}
 
 -- a new ensemble of so many servers
 abbrev pub started : ℕ → EnsembleView

@@ -4,7 +4,7 @@ ghost use Rattle.std.specs.String.{string_bytes};
 ghost use Rattle.zk_request_lines.specs.ReplyLines.{refusal_text};
 ghost use Rattle.zk_run_script.specs.Playing.{Obeys, reported};
 ghost use Rattle.zk_script.specs.Reports.{line};
-ghost use Rattle.zk_table.specs.Codes.{bad_arguments};
+ghost use Rattle.zk_txn.specs.Codes.{bad_arguments};
 
 use zk_ensemble::Ensemble;
 use zk_path::NoMemory;

@@ -26,7 +26,7 @@ use Rattle.zk_runs.specs.Consequences.{FitsInWorld, FitEvents, HasConsequences}
 use Rattle.zk_runs.specs.Ensembles.{profile_by}
 use Rattle.zk_runs.specs.Runs.{in_world, ensemble_after, delivered_after, history_after}
 use Rattle.zk_runs.proofs.Headlines.{headline, delivered_in_history}
-use Rattle.zk_table.specs.declared.txn.Txn.{Txn}
+use Rattle.zk_txn.specs.declared.txn.Txn.{Txn}
 use Rattle.zk_table.specs.Histories.{tree_of}
 
 -- ---- the entries of a list of transactions

@@ -31,7 +31,7 @@ use Rattle.zk_runs.proofs.Lists.{is_there}
 use Rattle.zk_runs.proofs.ReadLaws.{earlier_is_prefix, last_of_the_list}
 use Rattle.zk_runs.proofs.Standing.{stands_in_run}
 use Rattle.zk_runs.proofs.Worlds.{take_in_world, delivered_then, history_then, answer_at}
-use Rattle.zk_table.specs.declared.read.ReadReply.{ReadReply}
+use Rattle.zk_txn.specs.declared.read.ReadReply.{ReadReply}
 use Rattle.zk_table.specs.Histories.{tree_of}
 
 -- ---- a read that was answered

@@ -19,7 +19,7 @@ use Rattle.zk_runs.specs.declared.event.Question.{Question}
 use Rattle.zk_runs.specs.Consequences.{FitEvents, HasConsequences}
 use Rattle.zk_runs.specs.Ensembles.{Ensemble, Shown, reply_of}
 use Rattle.zk_runs.specs.Runs.{run, in_world, world_count, ensemble_after, shown_after, delivered_after, history_after, answered_of}
-use Rattle.zk_table.specs.declared.read.ReadReply.{ReadReply}
+use Rattle.zk_txn.specs.declared.read.ReadReply.{ReadReply}
 use Rattle.zk_table.specs.Histories.{tree_of, results_of}
 
 -- a server's tree and replies are the table's, transaction by transaction, over its delivered list

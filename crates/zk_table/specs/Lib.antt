@@ -1,8 +1,6 @@
 pub use Rattle.zk_path.specs.Paths
-pub mod Codes
 pub mod Histories
 pub mod Multis
-pub mod Nodes
 pub mod Operations
 pub mod Places
 pub mod Reads

@@ -1,16 +1,18 @@
 -- A transaction of several parts: `zookeeper.jute`, `MultiTxn`. The parts run in turn, and a refused part changes
 -- nothing. Where the server refused a part, the log has an error in its place, and then no part is applied. What the
 -- parts answer then, and that a refused part doesn't stop the others, is this project's own rule.
-use Rattle.std.specs.Prelude.{ℕ, ℤ, pos, List, [], ◌∷◌, Bool, true, false, Option, Some, None, if◌then◌else◌}
+use Rattle.std.specs.Prelude.{ℤ, pos, List, [], ◌∷◌, None, if◌then◌else◌}
 use Rattle.std.specs.List.{list_any}
 use Rattle.std.specs.Ordering.{int_eq}
-use Rattle.zk_table.specs.declared.result.PartResult.{PartResult}
-use Rattle.zk_table.specs.declared.result.TxnResult.{TxnResult}
-use Rattle.zk_table.specs.declared.sub.Sub.{Sub}
-use Rattle.zk_table.specs.declared.sub.Sub.TheVariants.{Create, Delete, SetData, Check, Error}
-use Rattle.zk_table.specs.declared.txn.Txn.{Txn}
-use Rattle.zk_table.specs.Codes.{runtime_inconsistency}
-use Rattle.zk_table.specs.Operations.{Done, done_unless, create, delete, set_data, plain_answer, told}
+use Rattle.zk_txn.specs.declared.result.PartResult.{PartResult}
+use Rattle.zk_txn.specs.declared.result.TxnResult.{TxnResult}
+use Rattle.zk_txn.specs.declared.sub.Sub.{Sub}
+use Rattle.zk_txn.specs.declared.sub.Sub.TheVariants.{Create, Delete, SetData, Check, Error}
+use Rattle.zk_txn.specs.declared.txn.Txn.{Txn}
+use Rattle.zk_txn.specs.Codes.{runtime_inconsistency}
+use Rattle.zk_txn.specs.Parts.{is_error, path_of, code_of}
+use Rattle.zk_txn.specs.Answers.{plain_answer}
+use Rattle.zk_table.specs.Operations.{Done, done_unless, create, delete, set_data, told}
 use Rattle.zk_table.specs.States.{NodeMap, State}
 
 -- ---- parts that are applied
@@ -32,28 +34,6 @@ answers_of txn nodes [] = []
 answers_of txn nodes (part ∷ parts) = (apply_part txn nodes part).answer ∷ answers_of txn (apply_part txn nodes part).nodes parts
 
 -- ---- parts that are not applied
-
-abbrev pub is_error : Sub → Bool
-is_error (Create path content acl ephemeral count) = false
-is_error (Delete path) = false
-is_error (SetData path content version) = false
-is_error (Check path version) = false
-is_error (Error code) = true
-
-abbrev pub path_of : Sub → Option (List ℕ)
-path_of (Create path content acl ephemeral count) = Some path
-path_of (Delete path) = Some path
-path_of (SetData path content version) = Some path
-path_of (Check path version) = Some path
-path_of (Error code) = None
-
--- an error answers its own code, any other part the one that is given
-abbrev pub code_of : ℤ → Sub → ℤ
-code_of code (Create path content acl ephemeral count) = code
-code_of code (Delete path) = code
-code_of code (SetData path content version) = code
-code_of code (Check path version) = code
-code_of code (Error own) = own
 
 -- before the first error a part answers 0, and behind it that the state is not what the part was made for
 abbrev pub answers_unapplied : ℤ → List Sub → List PartResult

@@ -1,31 +1,21 @@
 -- What a read tells: ZooKeeper Programmer's Guide, "Data Access" and "ACL Permissions". A read changes nothing.
-use Rattle.std.specs.Prelude.{ℕ, List, Option, Some, None, map, if◌then◌else◌}
+use Rattle.std.specs.Prelude.{ℕ, List, Option, Some, None, map}
 use Rattle.std.specs.FinMap.{get}
 use Rattle.zk_acl.specs.declared.acl.Id.{Id}
 use Rattle.zk_acl.specs.declared.stat.Stat.{Stat}
-use Rattle.zk_acl.specs.Access.{allows, read_perm}
 use Rattle.zk_path.specs.Paths.{name_of}
-use Rattle.zk_table.specs.declared.node.Node.{Node}
-use Rattle.zk_table.specs.declared.read.ReadCall.{ReadCall}
-use Rattle.zk_table.specs.declared.read.ReadCall.TheVariants.{GetData, Exists, GetChildren, GetAcl}
-use Rattle.zk_table.specs.declared.read.ReadReply.{ReadReply}
-use Rattle.zk_table.specs.declared.read.ReadReply.TheVariants.{Content, Found, Children, AclIs, Refused}
-use Rattle.zk_table.specs.Codes.{no_node, no_auth}
+use Rattle.zk_txn.specs.declared.node.Node.{Node}
+use Rattle.zk_txn.specs.declared.read.ReadCall.{ReadCall}
+use Rattle.zk_txn.specs.declared.read.ReadCall.TheVariants.{GetData, Exists, GetChildren, GetAcl}
+use Rattle.zk_txn.specs.declared.read.ReadReply.{ReadReply}
+use Rattle.zk_txn.specs.declared.read.ReadReply.TheVariants.{Content, Found, Children, AclIs, Refused}
+use Rattle.zk_txn.specs.Codes.{no_node}
+use Rattle.zk_txn.specs.Replies.{path_read, if_readable}
 use Rattle.zk_table.specs.States.{NodeMap, State, children_of, stat_of}
-
-abbrev pub path_read : ReadCall → List ℕ
-path_read (GetData path) = path
-path_read (Exists path) = path
-path_read (GetChildren path) = path
-path_read (GetAcl path) = path
 
 -- the last names of a path's children, in order
 abbrev pub names_below : NodeMap → List ℕ → List (List ℕ)
 names_below nodes path = map name_of (children_of nodes path)
-
--- of a node that the caller may not read, with these proved identities, neither content nor children are told
-abbrev pub if_readable : Node → List Id → ReadReply → ReadReply
-if_readable node auths reply = if allows node.acl read_perm auths then reply else Refused no_auth
 
 -- Of a node with this stat. That its access control list is told to everyone is this project's own rule.
 abbrev pub told_of : NodeMap → List Id → Node → Stat → ReadCall → ReadReply

@@ -1,17 +1,16 @@
 //! What the parts of a multi do, and what they answer.
 
-ghost use Rattle.std.specs.Prelude.{◌≡◌, OnOk, IfOk, None, pos, if◌then◌else◌};
+ghost use Rattle.std.specs.Prelude.{◌≡◌, OnOk, IfOk, pos, if◌then◌else◌};
 ghost use Rattle.std.specs.List.{list_any};
-ghost use Rattle.zk_table.specs.Codes.{runtime_inconsistency};
-ghost use Rattle.zk_table.specs.Multis.{apply_part, nodes_after, answers_of, answers_unapplied, is_error, code_of, path_of, first_refusal};
+ghost use Rattle.zk_txn.specs.Codes.{runtime_inconsistency};
+ghost use Rattle.zk_txn.specs.Parts.{is_error};
+ghost use Rattle.zk_table.specs.Multis.{apply_part, nodes_after, answers_of, answers_unapplied, first_refusal};
 
-use crate::codes::RUNTIME_INCONSISTENCY;
 use crate::nodes::Nodes;
-use crate::result::PartResult;
-use crate::sub::Sub;
-use crate::txn::Txn;
 use std::alloc::Global;
 use zk_path::NoMemory;
+use zk_txn::codes::RUNTIME_INCONSISTENCY;
+use zk_txn::{PartResult, Sub, Txn};
 
 impl Nodes {
     /// Applies the parts in turn. After [`NoMemory`] some of them may be applied.
@@ -69,22 +68,10 @@ pub fn answers_unapplied(alloc: Global, parts: &[Sub]) -> Result<Vec<PartResult>
     let mut answers = Vec::new(alloc);
     let mut code = 0;
     for part in parts {
-        answers.push(answer_unapplied(part, code)?)?;
+        answers.push(part.answer_unapplied(code)?)?;
         code = code_behind(part, code);
     }
     Ok(answers)
-}
-
-/// What a part answers that is not applied: an error its own code, and any other this one.
-fn answer_unapplied(part: &Sub, code: i32) -> Result<PartResult, NoMemory>
-    ensures { IfOk result (λ answer. answer ≡ record { err = code_of code part.now; path = path_of part.now; stat = None }) }
-{
-    let path = part.path_told()?;
-    Ok(PartResult {
-        err: part.code_of(code),
-        path,
-        stat: None,
-    })
 }
 
 /// What parts answer behind this one, where those before it answer this code.

@@ -1,18 +1,15 @@
 //! What each operation does to the nodes, alone or as a part of a multi.
 
 ghost use Rattle.std.specs.Prelude.{◌≡◌, IfOk, OnErr};
-ghost use Rattle.zk_table.specs.Nodes.{with_child, without_child};
+ghost use Rattle.zk_txn.specs.Nodes.{with_child, without_child};
 ghost use Rattle.zk_table.specs.States.{parent_changed, stat_at, stat_of};
 ghost use Rattle.zk_table.specs.Operations.{create, create_fault, delete, delete_fault, missing_fault, set_data, set_acl, without, without_all};
 
-use crate::codes::{BAD_ARGUMENTS, NO_CHILDREN_FOR_EPHEMERALS, NO_NODE, NODE_EXISTS, NOT_EMPTY};
-use crate::content::Content;
-use crate::node::{self, Node};
 use crate::nodes::Nodes;
-use crate::result::PartResult;
-use crate::txn::Txn;
 use zk_acl::{Acls, Stat};
 use zk_path::{NoMemory, Path};
+use zk_txn::codes::{BAD_ARGUMENTS, NO_CHILDREN_FOR_EPHEMERALS, NO_NODE, NODE_EXISTS, NOT_EMPTY};
+use zk_txn::{Content, Node, PartResult, Txn};
 
 impl Nodes {
     /// Makes a node. After [`NoMemory`] nothing is changed.
@@ -83,7 +80,7 @@ impl Nodes {
         if let Some(code) = self.missing_fault(path) {
             return Ok(PartResult::refused(told, code));
         }
-        let content = node::copy_of(content)?;
+        let content = Content::copy_of(content)?;
         self.write(path.text(), txn, content, version);
         let stat = self.stat_at(path.text());
         Ok(PartResult::done(told, stat))

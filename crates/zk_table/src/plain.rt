@@ -1,24 +1,21 @@
 ghost use Rattle.std.specs.Prelude.{◌≡◌, ℤ, [], IfOk, IsOk, OnErr};
-ghost use Rattle.zk_table.specs.declared.txn.Op.TheVariants as ops;
+ghost use Rattle.zk_txn.specs.declared.txn.Op.TheVariants as ops;
 ghost use Rattle.std.specs.FinMap as finite;
+ghost use Rattle.zk_txn.specs.Answers.{plain_answer};
 ghost use Rattle.zk_table.specs.States.{start_state, stat_of};
 ghost use Rattle.zk_table.specs.Multis.{multi};
-ghost use Rattle.zk_table.specs.Operations.{plain_answer, told};
+ghost use Rattle.zk_table.specs.Operations.{told};
 ghost use Rattle.zk_table.specs.Reads.{reply_to};
 ghost use Rattle.zk_table.specs.Steps.{open_session, close_session, step};
 
 use crate::multi::{answers_unapplied, first_refusal, hold_error};
-use crate::node::Node;
 use crate::nodes::Nodes;
-use crate::read::{ReadCall, ReadReply};
-use crate::result::{PartResult, PartResults, TxnResult};
 use crate::sessions::Sessions;
-use crate::sub::Sub;
-use crate::txn::{Op, Txn};
 use std::alloc::Global;
 use std::marker::Model;
 use zk_acl::{Id, Stat};
 use zk_path::{NoMemory, Path};
+use zk_txn::{Node, Op, PartResult, PartResults, ReadCall, ReadReply, Sub, Txn, TxnResult};
 
 /// The table by the plainest means: a list of nodes and a list of sessions.
 #[derive(Debug, Drop)]
@@ -29,7 +26,7 @@ pub struct Plain {
 }
 
 impl Model for Plain {
-    ghost use Rattle.zk_table.specs.contracts.node.Node as node;
+    ghost use Rattle.zk_txn.specs.contracts.node.Node as node;
     ghost use Rattle.zk_table.specs.States.{State, state_code};
 
     ghost Value = { State };

@@ -1,45 +1,15 @@
 //! What reads tell.
 
 ghost use Rattle.std.specs.Prelude.{◌≡◌, IfOk};
-ghost use Rattle.zk_acl.specs.Access.{allows, read_perm};
-ghost use Rattle.zk_table.specs.declared.read.ReadReply.TheVariants as replies;
-ghost use Rattle.zk_table.specs.Reads.{if_readable, names_below, reply_from};
+ghost use Rattle.zk_txn.specs.declared.read.ReadReply.TheVariants as replies;
+ghost use Rattle.zk_txn.specs.Replies.{if_readable};
+ghost use Rattle.zk_table.specs.Reads.{names_below, reply_from};
 
-use crate::codes::{NO_AUTH, NO_NODE};
-use crate::names::Names;
-use crate::node::{self, Node};
 use crate::nodes::{Nodes, is_child_of};
-use crate::read::{ReadCall, ReadReply};
-use zk_acl::{Id, READ, Stat, Text, allows};
+use zk_acl::{Id, Stat, Text};
 use zk_path::{NoMemory, Path};
-
-impl Node {
-    /// Whether a caller may read the node who has proved these identities.
-    pub fn is_readable(&self, auths: &[Id]) -> bool
-        ensures { result ≡ allows self.now.acl read_perm auths.now }
-    {
-        allows(self.acl.as_slice(), READ, auths)
-    }
-
-    /// What a read of the node's content is told, where the node has this stat.
-    pub fn content_reply(&self, stat: Stat, auths: &[Id]) -> Result<ReadReply, NoMemory>
-        ensures { IfOk result (λ reply. reply ≡ if_readable self.now auths.now (replies.Content self.now.content stat)) }
-    {
-        if !self.is_readable(auths) {
-            return Ok(ReadReply::Refused(NO_AUTH));
-        }
-        let content = node::copy_of(&self.content)?;
-        Ok(ReadReply::Content { content, stat })
-    }
-
-    /// What a read of the node's access control list is told, where the node has this stat.
-    pub fn acl_reply(&self, stat: Stat) -> Result<ReadReply, NoMemory>
-        ensures { IfOk result (λ reply. reply ≡ replies.AclIs self.now.acl stat) }
-    {
-        let acl = self.acl.copy()?;
-        Ok(ReadReply::AclIs { acl, stat })
-    }
-}
+use zk_txn::codes::{NO_AUTH, NO_NODE};
+use zk_txn::{Names, Node, ReadCall, ReadReply};
 
 impl Nodes {
     /// What a read is told.

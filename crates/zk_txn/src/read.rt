@@ -1,0 +1,112 @@
+ghost use Rattle.std.specs.Prelude.{◌≡◌, IfOk};
+ghost use Rattle.zk_txn.specs.Replies.{path_read};
+ghost use Rattle.zk_txn.specs.declared.read.ReadReply.TheVariants as replies;
+
+use crate::content::Content;
+use crate::names::Names;
+use zk_acl::{Acls, Stat};
+use zk_path::{NoMemory, Path};
+
+/// What is asked of a tree without changing it.
+///
+/// ZooKeeper Programmer's Guide, "Data Access".
+#[derive(Debug, Drop)]
+pub enum ReadCall {
+    /// A node's content.
+    GetData { path: Path },
+    /// Whether there is a node.
+    Exists { path: Path },
+    /// The names of a node's children.
+    GetChildren { path: Path },
+    /// A node's access control list.
+    GetAcl { path: Path },
+}
+
+impl ReadCall {
+    /// The path of the node that is asked for.
+    pub fn path(&self) -> &Path
+        ensures { result.now ≡ path_read self.now }
+    {
+        match self {
+            ReadCall::GetData { path }
+            | ReadCall::Exists { path }
+            | ReadCall::GetChildren { path }
+            | ReadCall::GetAcl { path } => path,
+        }
+    }
+
+    /// The same question once more.
+    pub fn copy(&self) -> Result<ReadCall, NoMemory>
+        ensures { IfOk result (λ copy. copy ≡ self.now) }
+    {
+        let path = self.path().copy()?;
+        match self {
+            ReadCall::GetData { .. } => Ok(ReadCall::GetData { path }),
+            ReadCall::Exists { .. } => Ok(ReadCall::Exists { path }),
+            ReadCall::GetChildren { .. } => Ok(ReadCall::GetChildren { path }),
+            ReadCall::GetAcl { .. } => Ok(ReadCall::GetAcl { path }),
+        }
+    }
+}
+
+/// What a read is told: each answer with the node's stat.
+///
+/// ZooKeeper Programmer's Guide, "Data Access" and "ZooKeeper Stat Structure".
+#[derive(Debug, Drop)]
+pub enum ReadReply {
+    /// What the node holds; null content is none.
+    Content {
+        content: Option<Content>,
+        stat: Stat,
+    },
+    /// There is such a node.
+    Found(Stat),
+    /// The names of the node's children, in order.
+    Children {
+        names: Names,
+        stat: Stat,
+    },
+    /// The node's access control list.
+    AclIs {
+        acl: Acls,
+        stat: Stat,
+    },
+    /// The code of a refusal.
+    Refused(i32),
+}
+
+impl ReadReply {
+    /// The same answer once more.
+    pub fn copy(&self) -> Result<ReadReply, NoMemory>
+        ensures { IfOk result (λ copy. copy ≡ self.now) }
+    {
+        match self {
+            ReadReply::Content { content, stat } => copy_of_content(content, *stat),
+            ReadReply::Found(stat) => Ok(ReadReply::Found(*stat)),
+            ReadReply::Children { names, stat } => copy_of_children(names, *stat),
+            ReadReply::AclIs { acl, stat } => copy_of_acl(acl, *stat),
+            ReadReply::Refused(code) => Ok(ReadReply::Refused(*code)),
+        }
+    }
+}
+
+fn copy_of_content(content: &Option<Content>, stat: Stat) -> Result<ReadReply, NoMemory>
+    ensures { IfOk result (λ reply. reply ≡ replies.Content content.now stat) }
+{
+    let content = Content::copy_of(content)?;
+    Ok(ReadReply::Content { content, stat })
+}
+
+fn copy_of_children(names: &Names, stat: Stat) -> Result<ReadReply, NoMemory>
+    ensures { IfOk result (λ reply. reply ≡ replies.Children names.now stat) }
+{
+    let names = names.copy()?;
+    Ok(ReadReply::Children { names, stat })
+}
+
+fn copy_of_acl(acl: &Acls, stat: Stat) -> Result<ReadReply, NoMemory>
+    ensures { IfOk result (λ reply. reply ≡ replies.AclIs acl.now stat) }
+{
+    let acl = acl.copy()?;
+    Ok(ReadReply::AclIs { acl, stat })
+}
