@@ -1,7 +1,6 @@
 ghost use Rattle.std.specs.Prelude.{◌≡◌, ℤ, [], IfOk, IsOk, OnErr};
 ghost use Rattle.zk_txn.specs.declared.txn.Op.TheVariants as ops;
 ghost use Rattle.std.specs.FinMap as finite;
-ghost use Rattle.zk_txn.specs.Answers.{plain_answer};
 ghost use Rattle.zk_table.specs.States.{start_state, stat_of};
 ghost use Rattle.zk_table.specs.Multis.{multi};
 ghost use Rattle.zk_table.specs.Operations.{told};
