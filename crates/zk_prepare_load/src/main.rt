@@ -37,14 +37,58 @@ fn count_of(rt: &HostRuntime) -> Result<u32> {
     }
 }
 
-/// A leader with nothing but a session, and the list that opens a node to all.
+/// What each node is made with: the list that opens it to all, and a content.
+#[derive(Drop)]
+struct Given {
+    open_to_all: Acls,
+    content: Content,
+}
+
+impl Given {
+    fn new(alloc: Global) -> Result<Given, NoMemory> {
+        let open_to_all = open_to_all(alloc)?;
+        let content = Content::read(alloc, b"content")?;
+        Ok(Given {
+            open_to_all,
+            content,
+        })
+    }
+}
+
+/// A leader with nothing but a session, and what it gives to nodes.
 #[derive(Drop)]
 struct Leader {
     alloc: Global,
     prep: Prep,
     zxid: i64,
-    open_to_all: Acls,
-    content: Content,
+    given: Given,
+}
+
+/// The opening of the session.
+const OPENING: Txn = Txn {
+    session: SESSION,
+    cxid: 0,
+    zxid: 1,
+    time: 0,
+    op: Op::OpenSession { timeout: 30000 },
+};
+
+/// What is prepared on: a new machine, with the opening of the session behind it.
+fn new_prep(alloc: Global) -> Result<Prep, NoMemory> {
+    let machine = Machine::new(alloc)?;
+    Prep::start(alloc, &machine, &[OPENING])
+}
+
+/// The session's call of a request.
+fn call_of(alloc: Global, request: Request) -> Call {
+    Call {
+        tag: 0,
+        session: SESSION,
+        cxid: 0,
+        auths: Ids::new(Vec::new(alloc)),
+        now: 0,
+        request,
+    }
 }
 
 fn open_to_all(alloc: Global) -> Result<Acls, NoMemory> {
@@ -71,47 +115,37 @@ fn path_of(alloc: Global, number: u32) -> Result<Text, NoMemory> {
 
 impl Leader {
     fn new(alloc: Global) -> Result<Leader, NoMemory> {
-        let machine = Machine::new(alloc)?;
-        let mut tail = Vec::new(alloc);
-        tail.push(Txn {
-            session: SESSION,
-            cxid: 0,
-            zxid: 1,
-            time: 0,
-            op: Op::OpenSession { timeout: 30000 },
-        })?;
+        let given = Given::new(alloc)?;
+        let prep = new_prep(alloc)?;
         Ok(Leader {
             alloc,
-            prep: Prep::start(alloc, &machine, tail.as_slice())?,
+            prep,
             zxid: 1,
-            open_to_all: open_to_all(alloc)?,
-            content: Content::read(alloc, b"content")?,
+            given,
         })
     }
 
-    /// Prepares a request and takes what it comes to. Whether it was refused.
-    fn ask(&mut self, request: Request) -> Result<bool, NoMemory> {
+    /// Prepares a call and takes what it comes to. Whether it was refused.
+    fn take(&mut self, call: &Call) -> Result<bool, NoMemory> {
         if self.prep.has_failed() {
             return Err(NoMemory);
         }
         self.zxid = self.zxid.wrapping_add(1);
-        let call = Call {
-            tag: 0,
-            session: SESSION,
-            cxid: 0,
-            auths: Ids::new(Vec::new(self.alloc)),
-            now: 0,
-            request,
-        };
-        let txn = self.prep.make(&call, self.zxid)?;
+        let txn = self.prep.make(call, self.zxid)?;
         self.prep.taken(&txn)?;
         Ok(matches!(txn.op, Op::Error { .. }))
     }
 
+    /// The same of a request.
+    fn ask(&mut self, request: Request) -> Result<bool, NoMemory> {
+        let call = call_of(self.alloc, request);
+        self.take(&call)
+    }
+
     fn create(&mut self, number: u32) -> Result<bool, NoMemory> {
         let path = path_of(self.alloc, number)?;
-        let acl = self.open_to_all.copy()?;
-        let content = self.content.copy()?;
+        let acl = self.given.open_to_all.copy()?;
+        let content = self.given.content.copy()?;
         self.ask(Request::Create {
             path,
             content: Some(content),
@@ -123,7 +157,7 @@ impl Leader {
     /// Sets one of the nodes that are there: not the newest alone.
     fn set(&mut self, number: u32) -> Result<bool, NoMemory> {
         let path = path_of(self.alloc, number / 2)?;
-        let content = self.content.copy()?;
+        let content = self.given.content.copy()?;
         self.ask(Request::SetData {
             path,
             content: Some(content),
@@ -140,8 +174,7 @@ impl Leader {
 }
 
 /// Creates so many nodes and sets one after each. How many of these were refused.
-fn prepare_all(alloc: Global, count: u32) -> Result<u64, NoMemory> {
-    let mut leader = Leader::new(alloc)?;
+fn drive(leader: &mut Leader, count: u32) -> Result<u64, NoMemory> {
     let mut refused: u64 = 0;
     for number in 0..count {
         let created = leader.create(number)?;
@@ -152,4 +185,10 @@ fn prepare_all(alloc: Global, count: u32) -> Result<u64, NoMemory> {
         }
     }
     Ok(refused)
+}
+
+/// The same of a new leader.
+fn prepare_all(alloc: Global, count: u32) -> Result<u64, NoMemory> {
+    let mut leader = Leader::new(alloc)?;
+    drive(&mut leader, count)
 }

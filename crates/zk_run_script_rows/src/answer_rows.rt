@@ -1,11 +1,10 @@
 //! What is told, as text.
-use std::process::Abort;
-use std::test::Fail;
+use std::alloc::Global;
 use zab_epoch::Entry;
 use zab_runs::Moved;
 use zk_acl::{Acls, Stat, Text};
 use zk_machine::{ChangeKind, Machine};
-use zk_path::Path;
+use zk_path::{NoMemory, Path};
 use zk_request_lines::{push_refusal, push_reply};
 use zk_run_answers::{push_answers, push_counted_tree, push_delivered, push_events, push_told};
 use zk_runs::{Answer, Answered, EnsembleFault};
@@ -30,89 +29,122 @@ const STAT: Stat = Stat {
 const FIELDS: &str =
     "0000000000000001 0000000000000002 3 4 5 6 7 0000000000000008 9 10 000000000000000b";
 
-/// A reply is told so, its stat left out.
-fn check_reply(rt: &(impl Abort + AllocGlobal), reply: ReadReply, front: &str) -> Result<(), Fail> {
-    let expected = format!(in rt.alloc(); "{front}{FIELDS}")?;
-    let mut line = String::new(rt.alloc());
-    push_reply(&mut line, &reply)?;
-    assert_eq!(rt; line.as_str(), expected.as_str());
-    Ok(())
-}
-
-#[test]
-fn replies_are_told_with_their_stat(rt: HostRuntime) -> Result<(), Fail> {
-    let alloc = rt.alloc();
-    let content = Some(Content::read(alloc, b"hi")?);
-    check_reply(
-        &rt,
-        ReadReply::Content {
-            content,
-            stat: STAT,
-        },
-        "ok x6869 ",
-    )?;
-    let none = ReadReply::Content {
-        content: None,
-        stat: STAT,
-    };
-    check_reply(&rt, none, "ok - ")?;
-    check_reply(&rt, ReadReply::Found(STAT), "ok ")?;
-    let names = Names::new(vec![in alloc; Text::read(alloc, "a")?, Text::read(alloc, "b\"")?]?);
-    check_reply(
-        &rt,
-        ReadReply::Children { names, stat: STAT },
-        "ok 2 \"a\" \"b\\\"\" ",
-    )?;
-    let acl = Acls::new(alloc, Vec::new(alloc))?;
-    check_reply(&rt, ReadReply::AclIs { acl, stat: STAT }, "ok 0 ")?;
+/// Whether a reply is told by these words and its stat.
+fn tells(alloc: Global, made: Result<ReadReply, NoMemory>, front: &str) -> bool {
     let mut line = String::new(alloc);
-    push_reply(&mut line, &ReadReply::Refused(-101))?;
-    push_refusal(&mut line, -8)?;
-    assert_eq!(rt; line.as_str(), "err -101err -8");
-    Ok(())
+    matches!(&made, Ok(reply) if push_reply(&mut line, reply).is_ok())
+        && line.as_str().strip_prefix(front) == Some(FIELDS)
 }
 
-#[test]
-fn events_are_told_by_messages_and_numbers(rt: HostRuntime) -> Result<(), Fail> {
-    for (told, expected) in [
-        (Ok(Answer::Moved(Moved { first: 0, count: 0 })), "ok\n"),
-        (
-            Ok(Answer::Moved(Moved { first: 9, count: 3 })),
-            "ok 9 10 11\n",
-        ),
-        (Ok(Answer::Looked(ReadReply::Refused(-112))), "err -112\n"),
-        (
-            Err(EnsembleFault::Behind { seen: 16, at: -1 }),
-            "E1 0000000000000010 ffffffffffffffff\n",
-        ),
-        (Err(EnsembleFault::NoServer), "E2\n"),
-        (Err(EnsembleFault::NoMessage), "E3\n"),
-        (Err(EnsembleFault::Down), "E4\n"),
-        (Err(EnsembleFault::NotDown), "E5\n"),
-        (Err(EnsembleFault::NotServing), "E6\n"),
-        (Err(EnsembleFault::DuplicateCall), "E7\n"),
-        (Err(EnsembleFault::EpochFull), "E8\n"),
-        (Err(EnsembleFault::NoMemory), "E9\n"),
-    ] {
-        let mut line = String::new(rt.alloc());
-        push_told(&mut line, &told)?;
-        assert_eq!(rt; line.as_str(), expected);
+/// Null content, which takes no memory.
+const NO_CONTENT: ReadReply = ReadReply::Content {
+    content: None,
+    stat: STAT,
+};
+
+fn content_reply(alloc: Global) -> Result<ReadReply, NoMemory> {
+    let content = Some(Content::read(alloc, b"hi")?);
+    Ok(ReadReply::Content {
+        content,
+        stat: STAT,
+    })
+}
+
+fn children_reply(alloc: Global) -> Result<ReadReply, NoMemory> {
+    let mut names = Vec::new(alloc);
+    for name in ["a", "b\""] {
+        names.push(Text::read(alloc, name)?)?;
     }
-    Ok(())
+    Ok(ReadReply::Children {
+        names: Names::new(names),
+        stat: STAT,
+    })
+}
+
+fn acl_reply(alloc: Global) -> Result<ReadReply, NoMemory> {
+    let acl = Acls::new(alloc, Vec::new(alloc))?;
+    Ok(ReadReply::AclIs { acl, stat: STAT })
+}
+
+/// Whether refusals are told by their numbers alone, one behind the other.
+fn refusals_are_told(alloc: Global) -> bool {
+    let mut line = String::new(alloc);
+    push_reply(&mut line, &ReadReply::Refused(-101)).is_ok()
+        && push_refusal(&mut line, -8).is_ok()
+        && line.as_str() == "err -101err -8"
 }
 
 #[test]
-fn reports_count_their_lines(rt: HostRuntime) -> Result<(), Fail> {
+fn replies_are_told_with_their_stat(rt: HostRuntime) {
     let alloc = rt.alloc();
-    let mut page = String::new(alloc);
-    let txn = Txn {
-        session: 1,
-        cxid: 2,
-        zxid: 3,
-        time: 4,
-        op: Op::CloseSession,
-    };
-    push_delivered(&mut page, &[Entry { tag: 5, txn }])?;
+    assert!(rt; tells(alloc, content_reply(alloc), "ok x6869 "));
+    assert!(rt; tells(alloc, Ok(NO_CONTENT), "ok - "));
+    assert!(rt; tells(alloc, Ok(ReadReply::Found(STAT)), "ok "));
+    assert!(rt; tells(alloc, children_reply(alloc), "ok 2 \"a\" \"b\\\"\" "));
+    assert!(rt; tells(alloc, acl_reply(alloc), "ok 0 "));
+    assert!(rt; refusals_are_told(alloc));
+}
+
+static MOVES: [(Moved, &str); 2] = [
+    (Moved { first: 0, count: 0 }, "ok\n"),
+    (Moved { first: 9, count: 3 }, "ok 9 10 11\n"),
+];
+
+static FAULTS: [(EnsembleFault, &str); 9] = [
+    (
+        EnsembleFault::Behind { seen: 16, at: -1 },
+        "E1 0000000000000010 ffffffffffffffff\n",
+    ),
+    (EnsembleFault::NoServer, "E2\n"),
+    (EnsembleFault::NoMessage, "E3\n"),
+    (EnsembleFault::Down, "E4\n"),
+    (EnsembleFault::NotDown, "E5\n"),
+    (EnsembleFault::NotServing, "E6\n"),
+    (EnsembleFault::DuplicateCall, "E7\n"),
+    (EnsembleFault::EpochFull, "E8\n"),
+    (EnsembleFault::NoMemory, "E9\n"),
+];
+
+/// Whether what an event comes to is told by this line.
+fn event_is_told(alloc: Global, told: Result<Answer, EnsembleFault>, expected: &str) -> bool {
+    let mut line = String::new(alloc);
+    push_told(&mut line, &told).is_ok() && line.as_str() == expected
+}
+
+#[test]
+fn events_are_told_by_messages_and_numbers(rt: HostRuntime) {
+    let alloc = rt.alloc();
+    for (moved, expected) in &MOVES {
+        assert!(rt; event_is_told(alloc, Ok(Answer::Moved(*moved)), expected));
+    }
+    for (fault, expected) in &FAULTS {
+        assert!(rt; event_is_told(alloc, Err(*fault), expected));
+    }
+    let refused = Answer::Looked(ReadReply::Refused(-112));
+    assert!(rt; event_is_told(alloc, Ok(refused), "err -112\n"));
+}
+
+/// A session's end.
+const CLOSING: Txn = Txn {
+    session: 1,
+    cxid: 2,
+    zxid: 3,
+    time: 4,
+    op: Op::CloseSession,
+};
+
+fn push_closing(page: &mut String) -> Result<(), NoMemory> {
+    push_delivered(
+        page,
+        &[Entry {
+            tag: 5,
+            txn: CLOSING,
+        }],
+    )
+}
+
+/// What it is answered.
+fn push_closing_answer(alloc: Global, page: &mut String) -> Result<(), NoMemory> {
     let result = TxnResult {
         zxid: 3,
         err: 0,
@@ -121,33 +153,61 @@ fn reports_count_their_lines(rt: HostRuntime) -> Result<(), Fail> {
         parts: PartResults::new(Vec::new(alloc)),
     };
     push_answers(
-        &mut page,
+        page,
         &[Answered {
             tag: 5,
             session: 1,
             result,
         }],
-    )?;
+    )
+}
+
+/// A change at `/a`, of which session 1 is told.
+fn push_event(alloc: Global, page: &mut String, kind: ChangeKind) -> Result<(), NoMemory> {
+    let Ok(path) = Path::read(alloc, "/a") else {
+        return Err(NoMemory);
+    };
+    push_events(
+        page,
+        &[Fired {
+            session: 1,
+            kind,
+            path,
+        }],
+    )
+}
+
+/// One event of each kind, and then none.
+fn push_each_event(alloc: Global, page: &mut String) -> Result<(), NoMemory> {
     for kind in [
         ChangeKind::Created,
         ChangeKind::Deleted,
         ChangeKind::DataChanged,
         ChangeKind::ChildrenChanged,
     ] {
-        let path = Path::read(alloc, "/a")?;
-        push_events(
-            &mut page,
-            &[Fired {
-                session: 1,
-                kind,
-                path,
-            }],
-        )?;
+        push_event(alloc, page, kind)?;
     }
-    push_events(&mut page, &[])?;
-    push_counted_tree(&mut page, &Machine::new(alloc)?)?;
-    assert_eq!(rt; page.as_str(), REPORTS);
-    Ok(())
+    push_events(page, &[])
+}
+
+fn push_new_tree(alloc: Global, page: &mut String) -> Result<(), NoMemory> {
+    let machine = Machine::new(alloc)?;
+    push_counted_tree(page, &machine)
+}
+
+/// Whether the reports, one behind the other, are this page.
+fn are_reported(alloc: Global, expected: &str) -> bool {
+    let mut page = String::new(alloc);
+    push_closing(&mut page).is_ok()
+        && push_closing_answer(alloc, &mut page).is_ok()
+        && push_each_event(alloc, &mut page).is_ok()
+        && push_new_tree(alloc, &mut page).is_ok()
+        && page.as_str() == expected
+}
+
+#[test]
+fn reports_count_their_lines(rt: HostRuntime) {
+    assert!(rt; are_reported(rt.alloc(), REPORTS));
 }
 
 const REPORTS: &str = "lines 1

@@ -7,6 +7,8 @@
 #[cfg(test)]
 mod answer_rows;
 #[cfg(test)]
+mod asked;
+#[cfg(test)]
 mod request_rows;
 #[cfg(test)]
 mod run_rows;

@@ -1,48 +1,95 @@
 //! Lines that ask something, and lines that ask nothing.
-use std::process::Abort;
-use std::test::Fail;
+use crate::asked::Asked::{Alone, Close, Multi, Open, Permit};
+use crate::asked::AskedPart::{Check, Create, Delete, Set};
+use crate::asked::{Asked, NewNode, asks_for, asks_part};
+use std::alloc::Global;
 use zk_listing::ListCause;
-use zk_prepare::{Part, Request};
+use zk_prepare::Request;
 use zk_request_lines::{
     Lookup, read_lookup, read_part, read_request, take_id, take_ids, take_int, take_long,
     take_lookup, take_number, take_request, take_space, take_word,
 };
 use zk_table::ReadCall;
 
-/// Lines that each ask for a request, and its short form.
-const REQUESTS: [(&str, &str); 13] = [
+/// Lines that each ask for a request.
+static REQUESTS: [(&str, Asked); 13] = [
     (
         "create \"/a\" x6869 1 31 \"world\" \"anyone\"",
-        "create 0 /a 6869 1",
+        Alone(Create(NewNode {
+            path: "/a",
+            content: Some(b"hi"),
+            entries: 1,
+            flags: 0,
+        })),
     ),
     (
         "create \"/a\" \"hi\" 1 31 \"world\" \"anyone\"",
-        "create 0 /a 6869 1",
+        Alone(Create(NewNode {
+            path: "/a",
+            content: Some(b"hi"),
+            entries: 1,
+            flags: 0,
+        })),
     ),
-    ("create -e \"/a\" \"\" 0", "create 1 /a  0"),
-    ("create -s \"/a/\" x 0", "create 2 /a/  0"),
-    ("create -s -e \"no path\" - 0", "create 3 no path - 0"),
-    ("delete \"/a\" -1", "delete /a -1"),
-    ("set \"/a\" - 2147483647", "set /a - 2147483647"),
+    (
+        "create -e \"/a\" \"\" 0",
+        Alone(Create(NewNode {
+            path: "/a",
+            content: Some(b""),
+            entries: 0,
+            flags: 1,
+        })),
+    ),
+    (
+        "create -s \"/a/\" x 0",
+        Alone(Create(NewNode {
+            path: "/a/",
+            content: Some(b""),
+            entries: 0,
+            flags: 2,
+        })),
+    ),
+    (
+        "create -s -e \"no path\" - 0",
+        Alone(Create(NewNode {
+            path: "no path",
+            content: None,
+            entries: 0,
+            flags: 3,
+        })),
+    ),
+    ("delete \"/a\" -1", Alone(Delete("/a", -1))),
+    (
+        "set \"/a\" - 2147483647",
+        Alone(Set("/a", None, 2147483647)),
+    ),
     (
         "setacl \"/a\" 2 31 \"world\" \"anyone\" 1 \"auth\" \"\" 0",
-        "setacl /a 2 0",
+        Permit("/a", 2, 0),
     ),
-    ("open 30000", "open 30000"),
-    ("close", "close"),
-    ("multi", "multi"),
+    ("open 30000", Open(30000)),
+    ("close", Close),
+    ("multi", Multi(&[])),
     (
         "multi ; check \"/a\" 7 ; delete \"/a\" 0",
-        "multi ; check /a 7 ; delete /a 0",
+        Multi(&[Check("/a", 7), Delete("/a", 0)]),
     ),
     (
         "multi ; create -s -e \"/s\" \"\\\"\" 0 ; set \"/b\" x00 -1",
-        "multi ; create 3 /s 22 0 ; set /b 00 -1",
+        Multi(&[
+            Create(NewNode {
+                path: "/s",
+                content: Some(b"\""),
+                entries: 0,
+                flags: 3,
+            }),
+            Set("/b", Some(b"\0"), -1),
+        ]),
     ),
 ];
 
 /// Lines that ask for none.
-const OTHERS: [&str; 26] = [
+static OTHERS: [&str; 26] = [
     "",
     "close ",
     " close",
@@ -71,202 +118,151 @@ const OTHERS: [&str; 26] = [
     "multi; delete \"/a\" 0",
 ];
 
-/// Appends bytes in short: two digits for each, or `-` for none.
-fn push_short(line: &mut String, content: Option<&[u8]>) -> Result<(), Fail> {
-    match content {
-        None => line.push('-')?,
-        Some(bytes) => {
-            for byte in bytes {
-                write!(line, "{byte:02x}")?;
-            }
-        }
+/// Whether a line asks for this.
+fn is_read(alloc: Global, line: &str, asked: Asked) -> bool {
+    match read_request(alloc, line) {
+        Ok(request) => asks_for(&request, asked),
+        Err(_) => false,
     }
-    Ok(())
 }
 
-/// Appends a part's short form.
-fn push_part(line: &mut String, part: &Part) -> Result<(), Fail> {
-    match part {
-        Part::Create {
-            path,
-            content,
-            acl,
-            flags,
-        } => {
-            write!(line, "create {flags} {} ", path.as_str())?;
-            push_short(line, content.as_ref().map(|content| content.as_slice()))?;
-            write!(line, " {}", acl.as_slice().len())?;
-        }
-        Part::Delete { path, version } => write!(line, "delete {} {version}", path.as_str())?,
-        Part::SetData {
-            path,
-            content,
-            version,
-        } => {
-            write!(line, "set {} ", path.as_str())?;
-            push_short(line, content.as_ref().map(|content| content.as_slice()))?;
-            write!(line, " {version}")?;
-        }
-        Part::Check { path, version } => write!(line, "check {} {version}", path.as_str())?,
+/// Whether a line asks for nothing.
+fn is_refused(alloc: Global, line: &str) -> bool {
+    match read_request(alloc, line) {
+        Ok(_) => false,
+        Err(cause) => cause != ListCause::NoMemory,
     }
-    Ok(())
-}
-
-/// A request's short form.
-fn short_form(rt: &(impl Abort + AllocGlobal), request: &Request) -> Result<String, Fail> {
-    let mut line = String::new(rt.alloc());
-    match request {
-        Request::Create {
-            path,
-            content,
-            acl,
-            flags,
-        } => {
-            write!(line, "create {flags} {} ", path.as_str())?;
-            push_short(
-                &mut line,
-                content.as_ref().map(|content| content.as_slice()),
-            )?;
-            write!(line, " {}", acl.as_slice().len())?;
-        }
-        Request::Delete { path, version } => write!(line, "delete {} {version}", path.as_str())?,
-        Request::SetData {
-            path,
-            content,
-            version,
-        } => {
-            write!(line, "set {} ", path.as_str())?;
-            push_short(
-                &mut line,
-                content.as_ref().map(|content| content.as_slice()),
-            )?;
-            write!(line, " {version}")?;
-        }
-        Request::SetAcl { path, acl, version } => {
-            write!(
-                line,
-                "setacl {} {} {version}",
-                path.as_str(),
-                acl.as_slice().len()
-            )?;
-        }
-        Request::Multi { parts } => {
-            line.push_str("multi")?;
-            for part in parts.as_slice() {
-                line.push_str(" ; ")?;
-                push_part(&mut line, part)?;
-            }
-        }
-        Request::OpenSession { timeout } => write!(line, "open {timeout}")?,
-        Request::CloseSession => line.push_str("close")?,
-    }
-    Ok(line)
 }
 
 #[test]
-fn each_request_has_a_line(rt: HostRuntime) -> Result<(), Fail> {
-    for (line, short) in REQUESTS {
-        let request = read_request(rt.alloc(), line)?;
-        assert_eq!(rt; short_form(&rt, &request)?.as_str(), short);
+fn each_request_has_a_line(rt: HostRuntime) {
+    for (line, asked) in &REQUESTS {
+        assert!(rt; is_read(rt.alloc(), line, *asked), "{line}");
     }
-    Ok(())
 }
 
 #[test]
-fn other_lines_ask_for_nothing(rt: HostRuntime) -> Result<(), Fail> {
-    for line in OTHERS {
-        let refused = matches!(
-            read_request(rt.alloc(), line),
-            Err(cause) if cause != ListCause::NoMemory
-        );
-        assert!(rt; refused, "{line}");
+fn other_lines_ask_for_nothing(rt: HostRuntime) {
+    for line in &OTHERS {
+        assert!(rt; is_refused(rt.alloc(), line), "{line}");
     }
-    Ok(())
 }
 
 #[test]
-fn parts_of_a_multi_have_lines(rt: HostRuntime) -> Result<(), Fail> {
-    let mut line = String::new(rt.alloc());
-    push_part(&mut line, &read_part(rt.alloc(), "check \"/a\" 3")?)?;
-    assert_eq!(rt; line.as_str(), "check /a 3");
+fn parts_of_a_multi_have_lines(rt: HostRuntime) {
+    assert!(rt;
+        matches!(&read_part(rt.alloc(), "check \"/a\" 3"), Ok(part) if asks_part(part, Check("/a", 3)))
+    );
     assert!(rt; read_part(rt.alloc(), "setacl \"/a\" 0 0").is_err());
     assert!(rt; read_part(rt.alloc(), "check \"/a\" 3 ;").is_err());
-    Ok(())
 }
 
-/// A read's word, path and watch; none for a text that is no path.
-fn read_parts(lookup: &Lookup) -> Option<(&'static str, &str, bool)> {
-    match lookup {
-        Lookup::Asks { call, watch } => {
-            let word = match call {
-                ReadCall::GetData { .. } => "get",
-                ReadCall::Exists { .. } => "stat",
-                ReadCall::GetChildren { .. } => "ls",
-                ReadCall::GetAcl { .. } => "getacl",
-            };
-            Some((word, call.path().text(), *watch))
+/// The word of a read.
+fn word_of(call: &ReadCall) -> &'static str {
+    match call {
+        ReadCall::GetData { .. } => "get",
+        ReadCall::Exists { .. } => "stat",
+        ReadCall::GetChildren { .. } => "ls",
+        ReadCall::GetAcl { .. } => "getacl",
+    }
+}
+
+/// Whether a read has this word, path and watch; none is a read at a text that is no path.
+fn is_lookup(lookup: &Lookup, expected: Option<(&str, &str, bool)>) -> bool {
+    match (lookup, expected) {
+        (Lookup::Asks { call, watch }, Some((word, path, told))) => {
+            word_of(call) == word && call.path().text() == path && *watch == told
         }
-        Lookup::BadPath => None,
+        (Lookup::BadPath, None) => true,
+        _ => false,
+    }
+}
+
+/// Lines of reads, with the word, path and watch of each; none for a text that is no path.
+static READS: [(&str, Option<(&str, &str, bool)>); 9] = [
+    ("get \"/a\"", Some(("get", "/a", false))),
+    ("get -w \"/\"", Some(("get", "/", true))),
+    ("stat \"/a b\"", Some(("stat", "/a b", false))),
+    ("stat -w \"/\"", Some(("stat", "/", true))),
+    ("ls \"/\"", Some(("ls", "/", false))),
+    ("ls -w \"/\"", Some(("ls", "/", true))),
+    ("getacl \"/\"", Some(("getacl", "/", false))),
+    ("get \"/a/\"", None),
+    ("getacl \"\"", None),
+];
+
+/// Lines that are no reads.
+static NO_READS: [&str; 6] = [
+    "get",
+    "get /a",
+    "getacl -w \"/\"",
+    "ls -w -w \"/\"",
+    "ls \"/\" ",
+    "exists \"/\"",
+];
+
+/// Whether a line is such a read.
+fn reads(alloc: Global, line: &str, expected: Option<(&str, &str, bool)>) -> bool {
+    match read_lookup(alloc, line) {
+        Ok(lookup) => is_lookup(&lookup, expected),
+        Err(_) => false,
     }
 }
 
 #[test]
-fn each_read_has_a_line(rt: HostRuntime) -> Result<(), Fail> {
-    for (line, expected) in [
-        ("get \"/a\"", Some(("get", "/a", false))),
-        ("get -w \"/\"", Some(("get", "/", true))),
-        ("stat \"/a b\"", Some(("stat", "/a b", false))),
-        ("stat -w \"/\"", Some(("stat", "/", true))),
-        ("ls \"/\"", Some(("ls", "/", false))),
-        ("ls -w \"/\"", Some(("ls", "/", true))),
-        ("getacl \"/\"", Some(("getacl", "/", false))),
-        ("get \"/a/\"", None),
-        ("getacl \"\"", None),
-    ] {
-        assert_eq!(rt; read_parts(&read_lookup(rt.alloc(), line)?), expected);
+fn each_read_has_a_line(rt: HostRuntime) {
+    for (line, expected) in &READS {
+        assert!(rt; reads(rt.alloc(), line, *expected), "{line}");
     }
-    for line in [
-        "get",
-        "get /a",
-        "getacl -w \"/\"",
-        "ls -w -w \"/\"",
-        "ls \"/\" ",
-        "exists \"/\"",
-    ] {
+    for line in &NO_READS {
         assert!(rt; read_lookup(rt.alloc(), line).is_err(), "{line}");
     }
-    Ok(())
+}
+
+/// Takes a word and numbers. Whether they are these.
+fn takes_numbers(rest: &mut &str) -> bool {
+    take_word(rest) == "one"
+        && take_space(rest).is_ok()
+        && take_id(rest) == Ok(10)
+        && take_space(rest).is_ok()
+        && take_int(rest) == Ok(-5)
+        && take_space(rest).is_ok()
+        && take_number(rest) == Ok(u64::MAX)
+        && take_space(rest).is_ok()
+        && take_long(rest) == Ok(i64::MIN)
+        && take_space(rest).is_ok()
+}
+
+/// Takes identities. Whether they are two, of which the first is `a:b` of the scheme `digest`.
+fn takes_ids(alloc: Global, rest: &mut &str) -> bool {
+    match take_ids(alloc, rest) {
+        Ok(ids) => match ids.as_slice() {
+            [first, _] => first.scheme.as_str() == "digest" && first.id.as_str() == "a:b",
+            _ => false,
+        },
+        Err(_) => false,
+    }
+}
+
+/// Takes a read. Whether it is that of the root's content.
+fn takes_lookup(alloc: Global, rest: &mut &str) -> bool {
+    match take_lookup(alloc, rest) {
+        Ok(lookup) => is_lookup(&lookup, Some(("get", "/", false))),
+        Err(_) => false,
+    }
 }
 
 #[test]
-fn fields_are_taken_from_the_front(rt: HostRuntime) -> Result<(), Fail> {
+fn fields_are_taken_from_the_front(rt: HostRuntime) {
+    let alloc = rt.alloc();
     let mut rest =
         "one 000000000000000a -5 18446744073709551615 -9223372036854775808 2 \"a:b\" \"\" get \"/\" close x";
-    assert_eq!(rt; take_word(&mut rest), "one");
-    take_space(&mut rest)?;
-    assert_eq!(rt; take_id(&mut rest)?, 10);
-    take_space(&mut rest)?;
-    assert_eq!(rt; take_int(&mut rest)?, -5);
-    take_space(&mut rest)?;
-    assert_eq!(rt; take_number(&mut rest)?, u64::MAX);
-    take_space(&mut rest)?;
-    assert_eq!(rt; take_long(&mut rest)?, i64::MIN);
-    take_space(&mut rest)?;
-    let ids = take_ids(rt.alloc(), &mut rest)?;
-    assert_eq!(rt; ids.as_slice().len(), 2);
-    assert_eq!(rt; ids.as_slice()[0].scheme.as_str(), "digest");
-    assert_eq!(rt; ids.as_slice()[0].id.as_str(), "a:b");
-    take_space(&mut rest)?;
-    assert_eq!(rt;
-        read_parts(&take_lookup(rt.alloc(), &mut rest)?),
-        Some(("get", "/", false))
-    );
-    take_space(&mut rest)?;
-    assert!(rt; matches!(take_request(rt.alloc(), &mut rest)?, Request::CloseSession));
+    assert!(rt; takes_numbers(&mut rest));
+    assert!(rt; takes_ids(alloc, &mut rest) && take_space(&mut rest).is_ok());
+    assert!(rt; takes_lookup(alloc, &mut rest) && take_space(&mut rest).is_ok());
+    assert!(rt; matches!(take_request(alloc, &mut rest), Ok(Request::CloseSession)));
     assert_eq!(rt; rest, " x");
-    assert!(rt; take_number(&mut "+1").is_err());
-    assert!(rt; take_number(&mut "01").is_err());
-    assert!(rt; take_number(&mut "18446744073709551616").is_err());
-    assert!(rt; take_number(&mut "").is_err());
-    Ok(())
+    for mut refused in ["+1", "01", "18446744073709551616", ""] {
+        assert!(rt; take_number(&mut refused).is_err());
+    }
 }

@@ -1,12 +1,12 @@
 //! Lines of run scripts, and what scripts are answered. Longer scripts stand under `examples/runs`.
-use std::test::Fail;
+use std::alloc::Global;
 use zk_ensemble::Ensemble;
 use zk_listing::ListCause;
-use zk_run_commands::{read_command, read_servers};
+use zk_run_commands::{Command, read_command, read_servers};
 use zk_run_script::{ScriptFault, run_command, run_script};
 
 /// Lines that each say a command, and what they are answered in turn by two new servers.
-const COMMANDS: [(&str, &str); 22] = [
+static COMMANDS: [(&str, &str); 22] = [
     ("lead 18446744073709551615", "E2\n"),
     ("lead 0", "E2\n"),
     ("arrive 0", "E3\n"),
@@ -41,7 +41,7 @@ const COMMANDS: [(&str, &str); 22] = [
 ];
 
 /// Lines that say none among two servers.
-const OTHERS: [&str; 30] = [
+static OTHERS: [&str; 30] = [
     "",
     "lead",
     "lead 1 ",
@@ -74,66 +74,101 @@ const OTHERS: [&str; 30] = [
     "syncs 1",
 ];
 
-#[test]
-fn each_command_has_a_line(rt: HostRuntime) -> Result<(), Fail> {
-    let mut ensemble = Ensemble::new(rt.alloc(), 2)?;
-    for (line, expected) in COMMANDS {
-        let mut answer = String::new(rt.alloc());
-        let command = read_command(rt.alloc(), 2, line)?;
-        run_command(&mut ensemble, command, &mut answer)?;
-        assert_eq!(rt; answer.as_str(), expected);
+/// Whether a command is answered this.
+fn answers(alloc: Global, ensemble: &mut Ensemble, command: Command, expected: &str) -> bool {
+    let mut answer = String::new(alloc);
+    run_command(ensemble, command, &mut answer).is_ok() && answer.as_str() == expected
+}
+
+/// Whether a line says a command among two servers that is answered this.
+fn is_answered(alloc: Global, ensemble: &mut Ensemble, line: &str, expected: &str) -> bool {
+    match read_command(alloc, 2, line) {
+        Ok(command) => answers(alloc, ensemble, command, expected),
+        Err(_) => false,
     }
-    Ok(())
+}
+
+/// The first line that is not answered what it should be.
+fn first_wrong(alloc: Global, ensemble: &mut Ensemble) -> Option<&'static str> {
+    for (line, expected) in &COMMANDS {
+        if !is_answered(alloc, ensemble, line, expected) {
+            return Some(line);
+        }
+    }
+    None
+}
+
+/// The same of two new servers.
+fn first_wrong_of_two(alloc: Global) -> Option<&'static str> {
+    match Ensemble::new(alloc, 2) {
+        Ok(mut ensemble) => first_wrong(alloc, &mut ensemble),
+        Err(_) => Some("no memory"),
+    }
 }
 
 #[test]
-fn other_lines_say_nothing(rt: HostRuntime) -> Result<(), Fail> {
-    for line in OTHERS {
-        let refused = matches!(
-            read_command(rt.alloc(), 2, line),
-            Err(cause) if cause != ListCause::NoMemory
-        );
-        assert!(rt; refused, "{line}");
+fn each_command_has_a_line(rt: HostRuntime) {
+    assert_eq!(rt; first_wrong_of_two(rt.alloc()), None);
+}
+
+/// Whether a line says nothing among two servers.
+fn is_refused(alloc: Global, line: &str) -> bool {
+    match read_command(alloc, 2, line) {
+        Ok(_) => false,
+        Err(cause) => cause != ListCause::NoMemory,
     }
-    Ok(())
 }
 
 #[test]
-fn first_lines_tell_the_number_of_servers(rt: HostRuntime) -> Result<(), Fail> {
-    assert_eq!(rt; read_servers("servers 2"), Ok(2));
-    assert_eq!(rt; read_servers("servers 15"), Ok(15));
-    for line in [
-        "",
-        "servers",
-        "servers 1",
-        "servers 16",
-        "servers 02",
-        "servers 3 ",
-        "lead 1",
-    ] {
+fn other_lines_say_nothing(rt: HostRuntime) {
+    for line in &OTHERS {
+        assert!(rt; is_refused(rt.alloc(), line), "{line}");
+    }
+}
+
+/// Lines that tell no number of servers.
+static NO_SERVERS: [&str; 7] = [
+    "",
+    "servers",
+    "servers 1",
+    "servers 16",
+    "servers 02",
+    "servers 3 ",
+    "lead 1",
+];
+
+#[test]
+fn first_lines_tell_the_number_of_servers(rt: HostRuntime) {
+    assert!(rt; read_servers("servers 2") == Ok(2) && read_servers("servers 15") == Ok(15));
+    for line in &NO_SERVERS {
         assert!(rt; read_servers(line).is_err(), "{line}");
     }
-    Ok(())
+}
+
+/// Scripts, how they end, and what they are answered.
+static SCRIPTS: [(&str, Result<(), ScriptFault>, &str); 7] = [
+    ("servers 3\nlead 1\nfollow 2 1", Ok(()), "ok\nok\nok 1\n"),
+    ("servers 2", Ok(()), "ok\n"),
+    ("", Err(ScriptFault::Malformed(1)), ""),
+    ("\n", Err(ScriptFault::Malformed(1)), ""),
+    ("lead 1\n", Err(ScriptFault::Malformed(1)), ""),
+    ("servers 2\n\n", Err(ScriptFault::Malformed(2)), "ok\n"),
+    (
+        "servers 2\nlead 1\ntree 3\nlead 2\n",
+        Err(ScriptFault::Malformed(3)),
+        "ok\nok\n",
+    ),
+];
+
+/// Whether a script ends so, and is answered this.
+fn runs(alloc: Global, script: &str, ran: Result<(), ScriptFault>, expected: &str) -> bool {
+    let mut answers = String::new(alloc);
+    run_script(alloc, script, &mut answers) == ran && answers.as_str() == expected
 }
 
 #[test]
-fn scripts_are_answered_up_to_a_malformed_line(rt: HostRuntime) -> Result<(), Fail> {
-    for (script, ran, expected) in [
-        ("servers 3\nlead 1\nfollow 2 1", Ok(()), "ok\nok\nok 1\n"),
-        ("servers 2", Ok(()), "ok\n"),
-        ("", Err(ScriptFault::Malformed(1)), ""),
-        ("\n", Err(ScriptFault::Malformed(1)), ""),
-        ("lead 1\n", Err(ScriptFault::Malformed(1)), ""),
-        ("servers 2\n\n", Err(ScriptFault::Malformed(2)), "ok\n"),
-        (
-            "servers 2\nlead 1\ntree 3\nlead 2\n",
-            Err(ScriptFault::Malformed(3)),
-            "ok\nok\n",
-        ),
-    ] {
-        let mut answers = String::new(rt.alloc());
-        assert_eq!(rt; run_script(rt.alloc(), script, &mut answers), ran);
-        assert_eq!(rt; answers.as_str(), expected);
+fn scripts_are_answered_up_to_a_malformed_line(rt: HostRuntime) {
+    for (script, ran, expected) in &SCRIPTS {
+        assert!(rt; runs(rt.alloc(), script, *ran, expected), "{script}");
     }
-    Ok(())
 }
