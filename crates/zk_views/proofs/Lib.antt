@@ -1,0 +1,4 @@
+pub mod Prefixes
+pub mod Steps
+pub mod Trees
+pub mod Outcomes

@@ -1,0 +1,20 @@
+//! Views: the list of transactions that a server has published, and the threads that read its tree without waiting.
+//!
+//! One [`Publisher`] holds a view. Each [`Reader`] enters it at its own time, and is answered from a list that was
+//! published, which begins with all that this reader met before. A client carries a [`Pass`] from reader to reader, so
+//! that no view answers it which is behind what it has seen.
+#![tactic(auto)]
+
+mod fault;
+mod pass;
+mod publisher;
+mod reader;
+mod rule;
+mod seen;
+mod view;
+
+pub use fault::ViewFault;
+pub use pass::Pass;
+pub use publisher::Publisher;
+pub use reader::Reader;
+pub use seen::Seen;

@@ -1,0 +1,84 @@
+ghost use Rattle.std.specs.Prelude.{◌≡◌, [], IfErr, IfOk, OnErr};
+ghost use Rattle.left_right.specs.Sides as sides;
+ghost use Rattle.zk_views.specs.Answers.{IsAnswered, IsRefused};
+ghost use Rattle.zk_views.specs.Views.{IsPrefix};
+
+use crate::fault::ViewFault;
+use crate::pass::Pass;
+use crate::rule::{Enter, ViewReader};
+use crate::seen::Seen;
+use std::marker::Model;
+use zk_acl::Id;
+use zk_table::ReadCall;
+
+/// One thread's end of a view. It never waits.
+#[derive(Drop)]
+pub struct Reader {
+    // There, but for the time of a read.
+    end: Option<ViewReader>,
+}
+
+/// A reader is seen as the list that it entered last, and as none at first.
+impl Model for Reader {
+    ghost use Rattle.std.specs.Prelude.{List, [], IsSome, option_map, unwrap_or};
+    ghost use Rattle.left_right.specs.Sides as sides;
+    ghost use Rattle.zk_txn.specs.declared.txn.Txn.{Txn};
+
+    ghost Value = { List Txn };
+
+    ghost view = { λ reader. unwrap_or (option_map (λ end. sides.view end.place) reader.end) [] };
+
+    ghost invariant = { λ reader. IsSome reader.end };
+}
+
+impl Reader {
+    /// A reader that has entered nothing.
+    pub(crate) fn new(end: ViewReader) -> Reader
+        ensures { result ≡ sides.view end.place }
+    {
+        Reader { end: Some(end) }
+    }
+
+    /// Answers a client from a list that is published now, where the client has seen no later transaction; its pass
+    /// then has seen the last one of that list. A refusal leaves the pass.
+    ///
+    /// The list begins with the one that this reader entered before, and takes its place, also where the client is
+    /// ahead of it or memory is refused. Once the publisher has closed the view, the reader enters nothing more.
+    pub fn read(
+        &mut self,
+        pass: &mut Pass,
+        call: &ReadCall,
+        auths: &[Id],
+    ) -> Result<Seen, ViewFault>
+        ensures later { IsPrefix self.old self.new }
+        ensures answered { IfOk result (IsAnswered self.new call.now auths.now pass.old pass.new) }
+        ensures refused { IfErr result (IsRefused (self.new ≡ self.old) self.new pass.old) }
+        ensures kept { OnErr result (pass.new ≡ pass.old) }
+    {
+        let end = self.end.take().unwrap();
+        let (end, answer) = read_by(end, pass, call, auths);
+        self.end = Some(end);
+        answer
+    }
+}
+
+/// Enters the view, asks what it holds then, and leaves it.
+fn read_by(
+    reader: ViewReader,
+    pass: &mut Pass,
+    call: &ReadCall,
+    auths: &[Id],
+) -> (ViewReader, Result<Seen, ViewFault>)
+    ensures later { IsPrefix (sides.view reader.place) (sides.view result.0.place) }
+    ensures answered { IfOk result.1 (IsAnswered (sides.view result.0.place) call.now auths.now pass.old pass.new) }
+    ensures refused { IfErr result.1 (IsRefused (sides.view result.0.place ≡ sides.view reader.place) (sides.view result.0.place) pass.old) }
+    ensures kept { OnErr result.1 (pass.new ≡ pass.old) }
+{
+    match reader.enter_as::<Enter>() {
+        Ok(reading) => {
+            let answer = reading.get().tell(pass, call, auths);
+            (reading.leave(), answer)
+        }
+        Err(reader) => (reader, Err(ViewFault::Gone)),
+    }
+}

@@ -1,0 +1,48 @@
+//! The rule of a view: what its readers have met is always a beginning of what is published.
+//!
+//! A token is what a reader or the publisher carries; it knows a list. There are two kinds of step, to publish and to
+//! enter, and after either the token knows what is published then.
+
+use crate::view::View;
+use crossbeam_utils::rule::{Outcome, Protocol};
+use left_right::{reader, writer};
+use zk_table::Txn;
+
+/// The list that a token knows. No value of it is made; a clause reads an array as a list, of any length.
+pub(crate) type Known = [Txn; 0];
+
+/// The rule.
+pub(crate) struct Growing;
+
+impl Protocol<View, Known> for Growing {
+    ghost use Rattle.std.specs.Prelude.{[]};
+    ghost use Rattle.zk_views.specs.Views.{BeginsWithAll};
+
+    ghost holds = { BeginsWithAll };
+
+    ghost first = { [] };
+}
+
+/// To publish.
+pub(crate) struct Publish;
+
+impl Outcome<View, Known> for Publish {
+    ghost use Rattle.zk_views.specs.Views.{Publishes};
+
+    ghost then = { Publishes };
+}
+
+/// To enter.
+pub(crate) struct Enter;
+
+impl Outcome<View, Known> for Enter {
+    ghost use Rattle.zk_views.specs.Views.{Enters};
+
+    ghost then = { Enters };
+}
+
+/// The publisher's end.
+pub(crate) type ViewWriter = writer::Writer<View, Txn, Known, Growing>;
+
+/// A reader's end.
+pub(crate) type ViewReader = reader::Reader<View, Known, Growing>;

@@ -1,0 +1,110 @@
+ghost use Rattle.std.specs.Prelude.{◌≡◌, [], IfOk, IfErr, OnErr};
+ghost use Rattle.zk_views.specs.Answers.{IsAnswered, IsRefused};
+
+use crate::fault::ViewFault;
+use crate::pass::Pass;
+use crate::seen::Seen;
+use left_right::Absorb;
+use std::alloc::{AllocError, Global};
+use std::marker::Model;
+use zk_acl::Id;
+use zk_path::NoMemory;
+use zk_table::{Plain, ReadCall, Txn};
+
+/// One of the two copies of what is published: a list of transactions, and the tree that they make.
+#[derive(Drop)]
+pub struct View {
+    txns: Vec<Txn>,
+    tree: Plain,
+}
+
+/// A view is seen as its list.
+impl Model for View {
+    ghost use Rattle.std.specs.Prelude.{◌≡◌, List};
+    ghost use Rattle.zk_txn.specs.declared.txn.Txn.{Txn};
+    ghost use Rattle.zk_table.specs.Histories.{tree_of};
+
+    ghost Value = { List Txn };
+
+    ghost view = { λ view. view.txns.items };
+
+    ghost invariant = { λ view. view.tree ≡ tree_of view.txns.items };
+}
+
+impl View {
+    /// No transaction, and the start tree.
+    pub fn new(alloc: Global) -> Result<View, NoMemory>
+        ensures { IfOk result (λ view. view ≡ []) }
+    {
+        let tree = Plain::new(alloc)?;
+        Ok(View {
+            txns: Vec::new(alloc),
+            tree,
+        })
+    }
+
+    /// The transactions, lent.
+    pub fn txns(&self) -> &[Txn]
+        ensures { result.now ≡ self.now }
+    {
+        self.txns.as_slice()
+    }
+
+    /// The transactions, handed out.
+    pub fn into_txns(self) -> Vec<Txn>
+        ensures { result.items ≡ self }
+    {
+        let View { txns, .. } = self;
+        txns
+    }
+
+    /// Answers a client's read, where the client has seen no later transaction; its pass then has seen the last one.
+    pub fn tell(&self, pass: &mut Pass, call: &ReadCall, auths: &[Id]) -> Result<Seen, ViewFault>
+        ensures answered { IfOk result (IsAnswered self.now call.now auths.now pass.old pass.new) }
+        ensures refused { IfErr result (IsRefused ⊥ self.now pass.old) }
+        ensures kept { OnErr result (pass.new ≡ pass.old) }
+    {
+        let seen = pass.seen();
+        let zxid = self.tree.last();
+        if zxid < seen {
+            return Err(ViewFault::Behind { seen, zxid });
+        }
+        let reply = self.tree.read(call, auths)?;
+        pass.take(zxid);
+        Ok(Seen { zxid, reply })
+    }
+}
+
+/// A transaction is appended to the list, and applied to the tree.
+impl Absorb<Txn> for View {
+    // A clause reads an array as a list, of any length.
+    type State = [Txn; 0];
+
+    ghost use Rattle.std.specs.Prelude.{[], ◌∷◌, ◌++◌};
+
+    ghost state = { λ view. view };
+
+    ghost applied = { λ txns txn. txns ++ txn ∷ [] };
+
+    fn absorb_first(&mut self, operation: &Txn, other: &View) -> Result<(), AllocError> {
+        let Ok(txn) = operation.copy() else {
+            return Err(AllocError);
+        };
+        match self.absorb_second(txn, other) {
+            Ok(()) => Ok(()),
+            Err(_) => Err(AllocError),
+        }
+    }
+
+    /// The room in the list comes first, so that a refusal changes nothing.
+    fn absorb_second(&mut self, operation: Txn, _other: &View) -> Result<(), Txn> {
+        if self.txns.reserve(1).is_err() {
+            return Err(operation);
+        }
+        let Ok(_answered) = self.tree.apply(&operation) else {
+            return Err(operation);
+        };
+        self.txns.push_reserved(operation);
+        Ok(())
+    }
+}
