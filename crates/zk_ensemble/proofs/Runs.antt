@@ -146,6 +146,13 @@ looked_on w rs given news question told said all was runs is =
     ∙ ap (λ l. looks (ensemble w (shown_by l)) question (shown_at (shown_by l) question.server)) all
     ∙ sym (reads_running (ensemble w (shown_by rs)) question (running w.servers question.server) (sym was ∙ runs))
 
+-- what a read would be told
+pub peeked : (w : World Call) (rs given : List ReplicaView) (question : Question) (told : Told) (said : Result (Unit {0}) WorldFault) → given ≡ rs → said ≡ if_running (running w.servers question.server) → said ≡ Ok tt → told ≡ (looks (ensemble w (shown_by given)) question (shown_at (shown_by given) question.server)).1 → told ≡ (reads (ensemble w (shown_by rs)) question (running w.servers question.server)).1
+peeked w rs given question told said all was runs is =
+    is
+    ∙ ap (λ l. (looks (ensemble w (shown_by l)) question (shown_at (shown_by l) question.server)).1) all
+    ∙ ap (λ (p : Ensemble × Told). p.1) (sym (reads_running (ensemble w (shown_by rs)) question (running w.servers question.server) (sym was ∙ runs)))
+
 -- after a read it is still that of a run
 pub read_of_run : (below : Sight Majority Call) (rs given news : List ReplicaView) (question : Question) (told : Told) → IsOfRun below rs → given ≡ rs → AreRunning news → OnErr told (news ≡ given) → (told ≢ Err faults.NoMemory → (ensemble below.world (shown_by news), told) ≡ reads (ensemble below.world (shown_by rs)) question (running below.world.servers question.server)) → IsOfRun below news
 read_of_run below rs given news question (Err fault) r all run same acts = subst (IsOfRun below) (sym (same ∙ all)) r

@@ -6,6 +6,7 @@ use Rattle.zab_epoch.specs.declared.quorums.Majority.{Majority}
 use Rattle.zab_epoch.specs.Quorums.{is_majority}
 use Rattle.zab_epoch.specs.declared.message.Message.{Message}
 use Rattle.zab_broadcast.specs.declared.state.State.{State as ServerState}
+use Rattle.zab_runs.specs.Movers.{mover}
 use Rattle.zab_runs.specs.Runs.{Sight}
 use Rattle.zab_runs.specs.Standings.{Standing}
 use Rattle.zab_runs.specs.Worlds.{World, Profile}
@@ -86,6 +87,11 @@ pub record IsOfRun (below : Sight Majority Call) (replicas : List ReplicaView) :
   pub events : List Event
   pub fit : FitEvents events
   pub reached : ensemble below.world (shown_by replicas) ≡ (run (profile_in below) below.servers events).0
+
+-- the server that an event is about: the one that it may change, or that is read; 0 where there is no such message
+abbrev pub server_of : World Call → Event → ℕ
+server_of w (events.World event) = mover w event
+server_of w (events.Read question) = question.server
 
 abbrev pub IsRead : Event → Type 0
 IsRead (events.World event) = ⊥

@@ -3,7 +3,7 @@ ghost use Rattle.zab_runs.specs.declared.fault.WorldFault.TheVariants as world_f
 ghost use Rattle.zk_runs.specs.Consequences.{FitsInWorld};
 ghost use Rattle.zk_runs.specs.Ensembles.{of_world};
 
-use crate::moving::{catch_up, find, look, mover};
+use crate::moving::{catch_up, find, look, mover, peek};
 use crate::replica::Replica;
 use std::alloc::Global;
 use std::marker::Model;
@@ -63,7 +63,7 @@ impl Ensemble {
     ghost use Rattle.zk_runs.specs.Headline.{IsNextInRun};
     ghost use Rattle.zk_runs.specs.Runs.{answered_of};
     ghost use Rattle.zk_table.specs.Histories.{tree_of};
-    ghost use Rattle.zk_ensemble.specs.Views.{state_of, profile_in, IsRead, answers_in, events_in, tree_in};
+    ghost use Rattle.zk_ensemble.specs.Views.{state_of, profile_in, server_of, IsRead, answers_in, events_in, tree_in};
 
     /// A new ensemble of so many servers, all of them up, in which the quorums are the majorities.
     pub fn new(alloc: Global, servers: usize) -> Result<Ensemble, NoMemory>
@@ -147,6 +147,17 @@ impl Ensemble {
         look(&mut self.replicas, question)
     }
 
+    /// What a client would be answered that reads now. It sets no watch.
+    pub fn peek(&self, question: &Question) -> Result<Answer, EnsembleFault>
+        requires { self.now.failed ≡ false }
+        ensures { result ≢ Err faults.NoMemory → result ≡ (happens (profile_in self.now.below) (state_of self.now) (events.Read question.now)).1 }
+    {
+        if let Err(fault) = self.world.running(question.server) {
+            return Err(EnsembleFault::from(fault));
+        }
+        peek(&self.replicas, question)
+    }
+
     /// Whether memory was refused at an event that is no read.
     pub fn has_failed(&self) -> bool
         ensures { result ≡ self.now.failed }
@@ -175,6 +186,29 @@ impl Ensemble {
         match find(&self.replicas, number) {
             Some(replica) => replica.events(),
             None => &[],
+        }
+    }
+
+    /// The last transaction of a server's tree: 0 before the first, where the server is down, and where no server has this
+    /// number.
+    pub fn last(&self, number: usize) -> i64
+        requires { self.now.failed ≡ false }
+        ensures { result ≡ (tree_in (shown_at self.now.shown number)).last }
+    {
+        match find(&self.replicas, number) {
+            Some(replica) => replica.last(),
+            None => 0,
+        }
+    }
+
+    /// The server that an event is about: the one that it may change, or that is read. 0 where there is no such message.
+    pub fn server_of(&self, event: &Event) -> usize
+        requires { self.now.failed ≡ false }
+        ensures { result ≡ server_of self.now.below.world event.now }
+    {
+        match event {
+            Event::World(event) => mover(self.world.messages(), event),
+            Event::Read(question) => question.server,
         }
     }
 

@@ -129,3 +129,20 @@ pub(crate) fn look(replicas: &mut [Replica], question: &Question) -> Result<Answ
     }
     Ok(Answer::Looked(replica.look(question)?))
 }
+
+/// What a client would be told that reads at one of the servers.
+pub(crate) fn peek(replicas: &[Replica], question: &Question) -> Result<Answer, EnsembleFault>
+    requires { AreRunning replicas.now }
+    ensures { (w : WorldState SomeCall) → result ≢ Err faults.NoMemory
+        → result ≡ (looks (ensemble w (shown_by replicas.now)) question.now (shown_at (shown_by replicas.now) question.now.server)).1 }
+{
+    let number = question.server;
+    if number == 0 || number > replicas.len() {
+        return Err(EnsembleFault::NoServer);
+    }
+    let replica = &replicas[number - 1];
+    if let Some(fault) = behind(replica, question) {
+        return Err(fault);
+    }
+    Ok(Answer::Looked(replica.reply_of(question)?))
+}

@@ -96,7 +96,7 @@ impl Replica {
     }
 
     /// What a client's question is told.
-    fn reply_of(&self, question: &Question) -> Result<ReadReply, NoMemory>
+    pub(crate) fn reply_of(&self, question: &Question) -> Result<ReadReply, NoMemory>
         requires { self.now.failed ≡ false }
         ensures { IfOk result (λ reply. reply ≡ reply_of question.now self.now.shown.tree) }
     {
