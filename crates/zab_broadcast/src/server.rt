@@ -38,10 +38,10 @@ impl<P: Primary> Server<P> {
     ghost use Rattle.zab_broadcast.specs.Calls.{setting_of};
     ghost use Rattle.zab_broadcast.specs.Rules.{restored, is_serving, lead, follow, c_epoch, new_epoch, ack_epoch};
     ghost use Rattle.zab_broadcast.specs.Rules.{new_leader, ack_leader, submit, request, propose, ack, commit};
-    ghost use Rattle.zab_broadcast.specs.Rules.{begun, counted, settles, raised, enters, catching_up, tells_news};
+    ghost use Rattle.zab_broadcast.specs.Rules.{begun, joined, counted, settles, raised, enters, catching_up, tells_news};
     ghost use Rattle.zab_broadcast.specs.Rules.{silent, took, appends, with_history};
     ghost use Rattle.zab_epoch.specs.Tables.{marks_of};
-    ghost use Rattle.zab_epoch.specs.Rules.{ack_epoch as peer_ack_epoch};
+    ghost use Rattle.zab_epoch.specs.Rules.{ack_epoch as peer_ack_epoch, new_leader as peer_new_leader};
 
     /// A server that has started again with its stable part: it has delivered nothing, and is Looking.
     pub fn restored(alloc: Global, servers: usize, me: usize, stable: Stable) -> Server<P>
@@ -203,17 +203,34 @@ impl<P: Primary> Server<P> {
         alloc: Global,
         from: usize,
         epoch: u32,
-        history: &History,
+        keep: i64,
+        rest: &History,
     ) -> Result<Messages<P::Call>, NoMemory>
         ensures acts { IfOk result (λ messages. (self.new, Ok messages)
-            ≡ new_leader self.old from epoch history.now) }
+            ≡ new_leader self.old from epoch keep rest.now) }
         ensures err { OnErr result (self.new ≡ self.old) }
     {
         if !self.state.peer.role.follows(from) {
             return Ok(Messages::new(alloc));
         }
+        self.join(alloc, from, epoch, keep, rest)
+    }
+
+    /// A NewLeader comes from the server's leader. What is delivered is at most the history.
+    fn join(
+        &mut self,
+        alloc: Global,
+        from: usize,
+        epoch: u32,
+        keep: i64,
+        rest: &History,
+    ) -> Result<Messages<P::Call>, NoMemory>
+        ensures acts { IfOk result (λ messages. (self.new, Ok messages)
+            ≡ joined self.old (peer_new_leader self.old.peer from epoch keep rest.now)) }
+        ensures err { OnErr result (self.new ≡ self.old) }
+    {
         self.primary = None;
-        let messages = self.state.peer.new_leader(alloc, from, epoch, history)?;
+        let messages = self.state.peer.new_leader(alloc, from, epoch, keep, rest)?;
         let length = self.state.peer.stable.history.len();
         self.state.delivered = self.state.delivered.min(length);
         Ok(messages)
@@ -538,10 +555,12 @@ impl<P: Primary> Server<P> {
     {
         let mut messages = Messages::new(alloc);
         if self.state.peer.role.follows(from) && is_next(&self.state.peer.stable, epoch, index) {
-            let length = index;
-            messages.send(self.state.peer.me, from, Body::Ack { epoch, length })?;
-            self.primary = None;
-            self.state.peer.stable.history.push(entry.copy()?)?;
+            if is_above(&self.state.peer.stable, entry) {
+                let length = index;
+                messages.send(self.state.peer.me, from, Body::Ack { epoch, length })?;
+                self.primary = None;
+                self.state.peer.stable.history.push(entry.copy()?)?;
+            }
         }
         Ok(messages)
     }
@@ -599,11 +618,18 @@ impl<P: Primary> Server<P> {
 }
 
 ghost use Rattle.std.specs.Prelude.{◌≡◌};
-ghost use Rattle.zab_broadcast.specs.Rules.{is_next};
+ghost use Rattle.zab_broadcast.specs.Rules.{is_next, is_above};
 
 /// Whether an epoch is promised and current, and an index that of the next entry.
 fn is_next(stable: &Stable, epoch: u32, index: u64) -> bool
     ensures { result ≡ is_next stable.now epoch index }
 {
     epoch == stable.promised && epoch == stable.current && index == stable.history.len() as u64 + 1
+}
+
+/// Whether an entry's zxid is above the last.
+fn is_above(stable: &Stable, entry: &Entry) -> bool
+    ensures { result ≡ is_above stable.now entry.now }
+{
+    stable.history.last_zxid() < entry.txn.zxid
 }

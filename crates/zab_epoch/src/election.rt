@@ -1,52 +1,56 @@
-ghost use Rattle.std.specs.Prelude.{◌≡◌, Some, None, if◌then◌else◌, IfOk};
-ghost use Rattle.zab_epoch.specs.Rules.{best_of, history_of};
-ghost use Rattle.zab_epoch.specs.Sending.{to_others};
+ghost use Rattle.std.specs.Prelude.{◌≡◌, true, if◌then◌else◌, IfOk};
+ghost use Rattle.zab_epoch.specs.Rules.{exceeds, vote_of, to_joiners};
 ghost use Rattle.zab_epoch.specs.Tables.{marks_of};
-ghost use Rattle.zab_epoch.specs.declared.message.Body.TheVariants as say;
+ghost use Rattle.zab_epoch.specs.declared.election.Election.TheVariants as elections;
 
-use crate::history::History;
 use crate::message::Messages;
 use crate::quorums::Quorums;
 use crate::sending::new_leaders;
 use crate::stable::Stable;
 use crate::table::Table;
-use crate::votes::{Vote, best_history};
+use crate::votes::{Vote, exceeds};
 use std::alloc::Global;
 use zk_path::NoMemory;
 
-/// How a leader begins its epoch.
+/// What the votes on a leader's history come to.
 #[derive(Debug, Drop)]
-pub(crate) struct Beginning<C: Drop> {
-    /// The history of the best vote.
-    pub(crate) history: History,
-    /// A NewLeader to each joiner.
-    pub(crate) messages: Messages<C>,
+pub(crate) enum Election<C: Drop> {
+    /// The voters are no quorum.
+    Open,
+    /// A vote is greater than the leader's own.
+    Exceeded,
+    /// The epoch begins with the leader's history: a NewLeader to each joiner.
+    Begun(Messages<C>),
 }
 
-/// How the promised epoch begins; none while the voters are no quorum.
+/// What the votes come to.
 pub(crate) fn elect<Q: Quorums, C: Drop>(
     alloc: Global,
     quorums: &Q,
     me: usize,
     stable: &Stable,
     votes: &Table<Vote>,
-    joiners: &Table<()>,
-) -> Result<Option<Beginning<C>>, NoMemory>
-    ensures { IfOk result (λ begun. begun ≡ (if Q.passes quorums.now (marks_of votes.now)
-        then Some (record {
-          history = history_of stable.now.history (best_of None votes.now);
-          messages = to_others me 1
-              (say.NewLeader stable.now.promised (history_of stable.now.history (best_of None votes.now)))
-              (marks_of joiners.now);
-        })
-        else None)) }
+    joiners: &Table<i64>,
+) -> Result<Election<C>, NoMemory>
+    ensures { IfOk result (λ elected. elected ≡ (if Q.passes quorums.now (marks_of votes.now)
+        then (if exceeds (vote_of stable.now) votes.now
+        then elections.Exceeded
+        else elections.Begun (to_joiners me 1 stable.now.promised stable.now.history joiners.now))
+        else elections.Open)) }
 {
     let voters = votes.marks()?;
     if !quorums.is_quorum(&voters) {
-        return Ok(None);
+        return Ok(Election::Open);
     }
-    let joined = joiners.marks()?;
-    let history = best_history(&stable.history, votes.as_slice())?;
-    let messages = new_leaders(alloc, me, stable.promised, &history, &joined)?;
-    Ok(Some(Beginning { history, messages }))
+    if exceeds(&stable.vote(), votes.as_slice()) {
+        return Ok(Election::Exceeded);
+    }
+    let messages = new_leaders(
+        alloc,
+        me,
+        stable.promised,
+        &stable.history,
+        joiners.as_slice(),
+    )?;
+    Ok(Election::Begun(messages))
 }

@@ -11,5 +11,6 @@ mod laws;
 pub use event::{Event, Moved};
 pub use fault::WorldFault;
 pub use laws::{
-    four_facts_give_one_order, runs_agree, runs_keep_the_four_facts, stable_part_outlasts_crashes,
+    four_facts_give_one_order, runs_agree, runs_keep_the_four_facts,
+    servers_share_their_leaders_front, stable_part_outlasts_crashes,
 };

@@ -21,6 +21,7 @@ use Rattle.zk_debug.specs.declared.breakpoint.Kind.TheVariants as kinds
 
 abbrev pub kind_of : Op → Kind
 kind_of (ops.Create path content acl ephemeral count) = kinds.Create
+kind_of (ops.CreateOld path content acl ephemeral) = kinds.CreateOld
 kind_of (ops.Delete path) = kinds.Delete
 kind_of (ops.SetData path content version) = kinds.SetData
 kind_of (ops.SetAcl path acl version) = kinds.SetAcl
@@ -31,6 +32,7 @@ kind_of (ops.Multi parts) = kinds.Multi
 
 abbrev pub is_kind : Kind → Kind → Bool
 is_kind kinds.Create kinds.Create = true
+is_kind kinds.CreateOld kinds.CreateOld = true
 is_kind kinds.Delete kinds.Delete = true
 is_kind kinds.SetData kinds.SetData = true
 is_kind kinds.SetAcl kinds.SetAcl = true
@@ -61,6 +63,7 @@ is_removal path change = is_at path (removed change.kind change.path)
 -- an operation names the path, applied or refused, or a part of it does, or it closed a session whose node was there
 abbrev pub concerns : List ℕ → Op → List Change → Bool
 concerns path (ops.Create named content acl ephemeral count) changed = bytes_eq named path
+concerns path (ops.CreateOld named content acl ephemeral) changed = bytes_eq named path
 concerns path (ops.Delete named) changed = bytes_eq named path
 concerns path (ops.SetData named content version) changed = bytes_eq named path
 concerns path (ops.SetAcl named acl version) changed = bytes_eq named path

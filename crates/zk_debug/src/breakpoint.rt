@@ -26,6 +26,8 @@ pub enum Breakpoint {
 pub enum Kind {
     /// `create`.
     Create,
+    /// `create0`, of 3.3.
+    CreateOld,
     /// `delete`.
     Delete,
     /// `setData`.
@@ -49,6 +51,7 @@ impl Kind {
     {
         match op {
             Op::Create { .. } => Kind::Create,
+            Op::CreateOld { .. } => Kind::CreateOld,
             Op::Delete { .. } => Kind::Delete,
             Op::SetData { .. } => Kind::SetData,
             Op::SetAcl { .. } => Kind::SetAcl,
@@ -81,6 +84,7 @@ fn concerns(path: &Path, op: &Op, changes: &[Change]) -> bool
 {
     match op {
         Op::Create { path: named, .. }
+        | Op::CreateOld { path: named, .. }
         | Op::Delete { path: named }
         | Op::SetData { path: named, .. }
         | Op::SetAcl { path: named, .. } => named.text() == path.text(),

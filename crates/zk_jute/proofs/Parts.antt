@@ -121,7 +121,7 @@ numbered (subs.Error code) = refl
 
 part_body_again : (sub : Sub) (rest : List ℕ) → IsSub sub → part_body_at (kind_of_part sub) (part_body_of sub ++ rest) ≡ Ok (sub, rest)
 unfolding part_body_at check_at
-part_body_again (subs.Create path content acl ephemeral count) rest is = rw (create_field.again (record { path = path; content = content; acl = acl; ephemeral = ephemeral; count = count }) rest is) refl
+part_body_again (subs.Create path content acl ephemeral count) rest is = rw (create_field.again (record { front = record { path = path; content = content; acl = acl; ephemeral = ephemeral }; count = count }) rest is) refl
 part_body_again (subs.Delete path) rest is = rw (path_field.again path rest is) refl
 part_body_again (subs.SetData path content version) rest is = rw (set_data_field.again (record { path = path; content = content; version = version }) rest is) refl
 part_body_again (subs.Check path version) rest is =

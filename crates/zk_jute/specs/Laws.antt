@@ -1,13 +1,13 @@
 -- Laws of records.
-use Rattle.std.specs.Prelude.{◌≡◌, ◌≤◌, ℕ, List, [], ◌++◌}
+use Rattle.std.specs.Prelude.{◌≡◌, ◌≤◌, ◌⊎◌, ℕ, List, [], ◌++◌, length}
 use Rattle.zk_jute.specs.Ranges.{InRange}
-use Rattle.zk_jute.specs.Records.{record_of, IsRecordOf}
+use Rattle.zk_jute.specs.Records.{record_of, IsRecordOf, IsOldCreate}
 use Rattle.zk_jute.specs.Sizes.{size_of}
 use Rattle.zk_txn.specs.declared.txn.Txn.{Txn}
 
--- no record is a proper prefix of another
-abbrev pub NoRecordBeginsAnother : Type 0
-NoRecordBeginsAnother = (front rest : List ℕ) (first second : Txn) → IsRecordOf front first → IsRecordOf (front ++ rest) second → rest ≡ []
+-- where one record is a proper prefix of another, the shorter is a create of 3.3, and the longer is it with four bytes more
+abbrev pub OldCreatesBeginOthers : Type 0
+OldCreatesBeginOthers = (front rest : List ℕ) (first second : Txn) → IsRecordOf front first → IsRecordOf (front ++ rest) second → (rest ≡ []) ⊎ (IsOldCreate first.op × (length rest ≡ 4))
 
 -- bytes are the record of one transaction at most
 abbrev pub RecordsAreOfOne : Type 0

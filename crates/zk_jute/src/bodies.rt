@@ -1,7 +1,7 @@
 //! The bodies that stand alone and as parts of a multi.
 
 ghost use Rattle.std.specs.Prelude.{◌≡◌};
-ghost use Rattle.zk_jute.specs.Reading.{Takes, create_at, set_data_at, create_op, set_data_op, create_part, set_data_part};
+ghost use Rattle.zk_jute.specs.Reading.{Takes, front_at, create_at, created_at, set_data_at, create_op, old_create_op, set_data_op, create_part, set_data_part};
 
 use crate::acls::acl_vector;
 use crate::fault::JuteFault;
@@ -11,13 +11,38 @@ use zk_acl::Acls;
 use zk_path::Path;
 use zk_table::{Content, Op, Sub};
 
-/// `CreateTxn`.
+/// `CreateTxnV0`, and the front of `CreateTxn`.
 #[derive(Debug, Drop)]
-pub(crate) struct CreateTxn {
+pub(crate) struct CreateTxnV0 {
     path: Path,
     content: Option<Content>,
     acl: Acls,
     ephemeral: bool,
+}
+
+impl CreateTxnV0 {
+    pub(crate) fn into_op(self) -> Op
+        ensures { result ≡ old_create_op self }
+    {
+        let CreateTxnV0 {
+            path,
+            content,
+            acl,
+            ephemeral,
+        } = self;
+        Op::CreateOld {
+            path,
+            content,
+            acl,
+            ephemeral,
+        }
+    }
+}
+
+/// `CreateTxn`.
+#[derive(Debug, Drop)]
+pub(crate) struct CreateTxn {
+    front: CreateTxnV0,
     count: i32,
 }
 
@@ -25,13 +50,13 @@ impl CreateTxn {
     pub(crate) fn into_op(self) -> Op
         ensures { result ≡ create_op self }
     {
-        let CreateTxn {
+        let CreateTxn { front, count } = self;
+        let CreateTxnV0 {
             path,
             content,
             acl,
             ephemeral,
-            count,
-        } = self;
+        } = front;
         Op::Create {
             path,
             content,
@@ -44,13 +69,13 @@ impl CreateTxn {
     pub(crate) fn into_part(self) -> Sub
         ensures { result ≡ create_part self }
     {
-        let CreateTxn {
+        let CreateTxn { front, count } = self;
+        let CreateTxnV0 {
             path,
             content,
             acl,
             ephemeral,
-            count,
-        } = self;
+        } = front;
         Sub::Create {
             path,
             content,
@@ -101,6 +126,26 @@ impl SetDataTxn {
     }
 }
 
+#[tactic(auto, unfolding(crate::specs::Reading::front_at))]
+fn create_front(
+    alloc: Global,
+    earlier: &mut Option<Acls>,
+    input: &mut &[u8],
+) -> Result<CreateTxnV0, JuteFault>
+    ensures { Takes result input.new.now (front_at input.old.now) }
+{
+    let path = path(alloc, input)?;
+    let content = content(alloc, input)?;
+    let acl = acl_vector(alloc, earlier, input)?;
+    let ephemeral = boolean(input)?;
+    Ok(CreateTxnV0 {
+        path,
+        content,
+        acl,
+        ephemeral,
+    })
+}
+
 #[tactic(auto, unfolding(crate::specs::Reading::create_at))]
 pub(crate) fn create(
     alloc: Global,
@@ -109,18 +154,26 @@ pub(crate) fn create(
 ) -> Result<CreateTxn, JuteFault>
     ensures { Takes result input.new.now (create_at input.old.now) }
 {
-    let path = path(alloc, input)?;
-    let content = content(alloc, input)?;
-    let acl = acl_vector(alloc, earlier, input)?;
-    let ephemeral = boolean(input)?;
+    let front = create_front(alloc, earlier, input)?;
     let count = int(input)?;
-    Ok(CreateTxn {
-        path,
-        content,
-        acl,
-        ephemeral,
-        count,
-    })
+    Ok(CreateTxn { front, count })
+}
+
+/// A create that stands alone: one of 3.3 ends behind its boolean.
+#[tactic(auto, unfolding(crate::specs::Reading::created_at, crate::specs::Reading::ended_or_counted))]
+pub(crate) fn created(
+    alloc: Global,
+    earlier: &mut Option<Acls>,
+    input: &mut &[u8],
+) -> Result<Op, JuteFault>
+    ensures { Takes result input.new.now (created_at input.old.now) }
+{
+    let front = create_front(alloc, earlier, input)?;
+    if input.is_empty() {
+        return Ok(front.into_op());
+    }
+    let count = int(input)?;
+    Ok(CreateTxn { front, count }.into_op())
 }
 
 #[tactic(auto, unfolding(crate::specs::Reading::set_data_at))]

@@ -1,11 +1,11 @@
 //! Laws of records: the contracts of functions that do nothing.
 
-ghost use Rattle.zk_jute.specs.Laws.{NoRecordBeginsAnother, RecordsAreOfOne, ShortOnesHaveRecords};
+ghost use Rattle.zk_jute.specs.Laws.{OldCreatesBeginOthers, RecordsAreOfOne, ShortOnesHaveRecords};
 
 /// Where one record ends is known from its own bytes, and so is its transaction.
 pub fn records_end_by_themselves()
-    // No record is a proper prefix of another.
-    ensures ends { NoRecordBeginsAnother }
+    // Where one record is a proper prefix of another, the shorter is a create of 3.3, and the longer is it with four bytes more.
+    ensures ends { OldCreatesBeginOthers }
     // Bytes are the record of one transaction at most.
     ensures one { RecordsAreOfOne }
 {}

@@ -3,7 +3,7 @@
 ghost use Rattle.zk_jute.specs.Reading.{Takes, set_acl_at, op_at};
 
 use crate::acls::acl_vector;
-use crate::bodies::{create, set_data};
+use crate::bodies::{created, set_data};
 use crate::fault::JuteFault;
 use crate::fields::{int, path};
 use crate::kinds;
@@ -34,7 +34,7 @@ pub(crate) fn op(
     ensures { Takes result input.new.now (op_at kind input.old.now) }
 {
     match kind {
-        kinds::CREATE => Ok(create(alloc, earlier, input)?.into_op()),
+        kinds::CREATE => created(alloc, earlier, input),
         kinds::DELETE => Ok(Op::Delete {
             path: path(alloc, input)?,
         }),

@@ -17,7 +17,7 @@ use Rattle.zk_listing.specs.declared.ops.Word.TheVariants as words
 use Rattle.zk_listing.specs.declared.fault.ListCause.{ListCause}
 use Rattle.zk_spelling.specs.Spelling.{quoted, content_text, acl_text}
 use Rattle.zk_spelling.specs.Listings.{ephemeral_text, sub_text, part_text, op_text, IsListedPath, IsListedContent, AreListedAcls, IsListedSub, IsListedOp}
-use Rattle.zk_listing.specs.Reading.{IsEnd, behind, both, spaced, mapped, of_field, int_at, path_at, content_at, content_from, acl_at, ephemeral_at, ephemeral_from, word_at, word_from, semicolon_from, created_of, create_at, written_of, set_data_at, set_acl_op_at, check_at, sub_created, sub_written, sub_by, sub_at, part_at, begins_with_space, parts_at, parts_in, op_created, op_written, op_by, op_at, Fails}
+use Rattle.zk_listing.specs.Reading.{IsEnd, behind, both, spaced, mapped, of_field, int_at, path_at, content_at, content_from, acl_at, ephemeral_at, ephemeral_from, word_at, word_from, semicolon_from, created_of, create_at, create_old_op_at, written_of, set_data_at, set_acl_op_at, check_at, sub_created, sub_written, sub_by, sub_at, part_at, begins_with_space, parts_at, parts_in, op_created, op_written, op_by, op_at, Fails}
 use Rattle.zk_listing.proofs.Exact.{IsExact, bind_some, first_is, second_is, exact_field, exact_spaced, exact_both, exact_mapped}
 use Rattle.zk_listing.proofs.DecimalLaws.{narrow32}
 use Rattle.zk_listing.proofs.HexLaws.{content_field}
@@ -109,6 +109,18 @@ set_acl_fields =
     let two = exact_both (λ (x : List Acl). 32 ∷ acl_text x) AreListedAcls (spaced acl_at) (λ (x : ℤ). 32 ∷ signed_decimal x) (FitsSigned w32) (spaced (int_at w32)) spaced_acl_exact spaced_int_exact (λ y rest. refl) in
     exact_both (λ (x : List ℕ). 32 ∷ quoted x) IsListedPath (spaced path_at) (λ (p : List Acl × ℤ). (32 ∷ acl_text p.0) ++ (32 ∷ signed_decimal p.1)) (λ p. AreListedAcls p.0 × FitsSigned w32 p.1) (both (spaced acl_at) (spaced (int_at w32))) spaced_path_exact two (λ y rest. refl)
 
+abbrev OldFields : Type 0
+OldFields = List ℕ × (Option (List ℕ) × (List Acl × Bool))
+
+create_old_fields : IsExact {X = OldFields} (λ x. (32 ∷ quoted x.0) ++ ((32 ∷ content_text x.1.0) ++ ((32 ∷ acl_text x.1.1.0) ++ (32 ∷ ephemeral_text x.1.1.1)))) (λ x. IsListedPath x.0 × (IsListedContent x.1.0 × (AreListedAcls x.1.1.0 × Always x.1.1.1))) (both (spaced path_at) (both (spaced content_at) (both (spaced acl_at) (spaced ephemeral_at))))
+create_old_fields =
+    let two = exact_both (λ (x : List Acl). 32 ∷ acl_text x) AreListedAcls (spaced acl_at) (λ (x : Bool). 32 ∷ ephemeral_text x) Always (spaced ephemeral_at) spaced_acl_exact spaced_ephemeral_exact (λ y rest. refl) in
+    let three = exact_both (λ (x : Option (List ℕ)). 32 ∷ content_text x) IsListedContent (spaced content_at) (λ (p : List Acl × Bool). (32 ∷ acl_text p.0) ++ (32 ∷ ephemeral_text p.1)) (λ p. AreListedAcls p.0 × Always p.1) (both (spaced acl_at) (spaced ephemeral_at)) spaced_content_exact two (λ y rest. refl) in
+    exact_both (λ (x : List ℕ). 32 ∷ quoted x) IsListedPath (spaced path_at) (λ (p : Option (List ℕ) × (List Acl × Bool)). (32 ∷ content_text p.0) ++ ((32 ∷ acl_text p.1.0) ++ (32 ∷ ephemeral_text p.1.1))) (λ p. IsListedContent p.0 × (AreListedAcls p.1.0 × Always p.1.1)) (both (spaced content_at) (both (spaced acl_at) (spaced ephemeral_at))) spaced_path_exact three (λ y rest. refl)
+
+old_texts : (a b c d rest : List ℕ) → (a ++ (b ++ (c ++ d))) ++ rest ≡ (((a ++ b) ++ c) ++ d) ++ rest
+old_texts a b c d rest = simp append_assoc
+
 check_fields : IsExact {X = List ℕ × ℤ} (λ x. (32 ∷ quoted x.0) ++ (32 ∷ signed_decimal x.1)) (λ x. IsListedPath x.0 × FitsSigned w32 x.1) (both (spaced path_at) (spaced (int_at w32)))
 check_fields = exact_both (λ (x : List ℕ). 32 ∷ quoted x) IsListedPath (spaced path_at) (λ (x : ℤ). 32 ∷ signed_decimal x) (FitsSigned w32) (spaced (int_at w32)) spaced_path_exact spaced_int_exact (λ y rest. refl)
 
@@ -143,6 +155,7 @@ sub_by_takes words.Delete bytes y rest h = by_fields sub_text IsListedSub words.
 sub_by_takes words.SetData bytes y rest h = by_fields sub_text IsListedSub words.SetData written_text IsWritten set_data_at sub_written set_data_exact (λ x r. refl) (λ x fits. fits) bytes y rest h
 sub_by_takes words.Check bytes y rest h = by_fields {X = List ℕ × ℤ} sub_text IsListedSub words.Check (λ x. (32 ∷ quoted x.0) ++ (32 ∷ signed_decimal x.1)) (λ x. IsListedPath x.0 × FitsSigned w32 x.1) (both (spaced path_at) (spaced (int_at w32))) (λ x. sub.Check x.0 x.1) check_fields (λ x r. refl) (λ x fits. fits) bytes y rest h
 sub_by_takes words.Error bytes y rest h = by_fields sub_text IsListedSub words.Error (λ (x : ℤ). 32 ∷ signed_decimal x) (FitsSigned w32) (spaced (int_at w32)) sub.Error spaced_int_exact (λ x r. refl) (λ x fits. fits) bytes y rest h
+sub_by_takes words.CreateOld bytes y rest h = no_such (y, rest) h
 sub_by_takes words.SetAcl bytes y rest h = no_such (y, rest) h
 sub_by_takes words.CreateSession bytes y rest h = no_such (y, rest) h
 sub_by_takes words.CloseSession bytes y rest h = no_such (y, rest) h
@@ -304,10 +317,11 @@ set_acl_text_of : AclFields → List ℕ
 set_acl_text_of x = (32 ∷ quoted x.0) ++ ((32 ∷ acl_text x.1.0) ++ (32 ∷ signed_decimal x.1.1))
 
 op_by_takes : (word : Word) (bytes : List ℕ) (y : Op) (rest : List ℕ) → op_by word bytes ≡ Some (y, rest) → IsMade op_text IsListedOp word bytes y rest
-unfolding op_by set_acl_op_at
+unfolding op_by set_acl_op_at create_old_op_at
 op_by_takes words.Create bytes y rest h = by_fields op_text IsListedOp words.Create created_text IsCreated create_at op_created create_exact (λ x r. refl) (λ x fits. fits) bytes y rest h
 op_by_takes words.Delete bytes y rest h = by_fields op_text IsListedOp words.Delete (λ (x : List ℕ). 32 ∷ quoted x) IsListedPath (spaced path_at) op.Delete spaced_path_exact (λ x r. refl) (λ x fits. fits) bytes y rest h
 op_by_takes words.SetData bytes y rest h = by_fields op_text IsListedOp words.SetData written_text IsWritten set_data_at op_written set_data_exact (λ x r. refl) (λ x fits. fits) bytes y rest h
+op_by_takes words.CreateOld bytes y rest h = by_fields {X = OldFields} op_text IsListedOp words.CreateOld (λ x. (32 ∷ quoted x.0) ++ ((32 ∷ content_text x.1.0) ++ ((32 ∷ acl_text x.1.1.0) ++ (32 ∷ ephemeral_text x.1.1.1)))) (λ x. IsListedPath x.0 × (IsListedContent x.1.0 × (AreListedAcls x.1.1.0 × Always x.1.1.1))) (both (spaced path_at) (both (spaced content_at) (both (spaced acl_at) (spaced ephemeral_at)))) (λ x. op.CreateOld x.0 x.1.0 x.1.1.0 x.1.1.1) create_old_fields (λ x r. ap (λ (b : List ℕ). word_text words.CreateOld ++ b) (old_texts (32 ∷ quoted x.0) (32 ∷ content_text x.1.0) (32 ∷ acl_text x.1.1.0) (32 ∷ ephemeral_text x.1.1.1) r)) (λ x fits. (fits.0, fits.1.0, fits.1.1.0)) bytes y rest h
 op_by_takes words.SetAcl bytes y rest h = by_fields {X = AclFields} op_text IsListedOp words.SetAcl (λ x. (32 ∷ quoted x.0) ++ ((32 ∷ acl_text x.1.0) ++ (32 ∷ signed_decimal x.1.1))) (λ x. IsListedPath x.0 × (AreListedAcls x.1.0 × FitsSigned w32 x.1.1)) (both (spaced path_at) (both (spaced acl_at) (spaced (int_at w32)))) (λ x. op.SetAcl x.0 x.1.0 x.1.1) set_acl_fields (λ x r. ap (λ (b : List ℕ). word_text words.SetAcl ++ b) (set_acl_texts (32 ∷ quoted x.0) (32 ∷ acl_text x.1.0) (32 ∷ signed_decimal x.1.1) r)) (λ x fits. (fits.0, fits.1.0, fits.1.1)) bytes y rest h
 op_by_takes words.CreateSession bytes y rest h = by_fields op_text IsListedOp words.CreateSession (λ (x : ℤ). 32 ∷ signed_decimal x) (FitsSigned w32) (spaced (int_at w32)) op.OpenSession spaced_int_exact (λ x r. refl) (λ x fits. fits) bytes y rest h
 op_by_takes words.CloseSession bytes y rest h = closed_made bytes y rest h
@@ -329,7 +343,7 @@ op_after_word word behind_it bytes y rest e h spelled = rw (spelled, word_exact.
 
 -- an operation is read again where its line ends
 pub op_at_again : (y : Op) (more : List ℕ) → IsListedOp y → op_at (op_text y ++ 10 ∷ more) ≡ Some (y, 10 ∷ more)
-unfolding op_by set_acl_op_at
+unfolding op_by set_acl_op_at create_old_op_at
 op_at_again (op.Create path content acl ephemeral count) more fits =
     let x : Created = record { path = path; content = content; acl = acl; ephemeral = ephemeral; count = count } in
     op_after_word words.Create (created_text x ++ 10 ∷ more) (op_text (op_created x) ++ 10 ∷ more) (op_created x) (10 ∷ more) refl (op_by_again_fields created_text IsCreated create_at op_created create_exact x (10 ∷ more) fits refl) refl
@@ -338,6 +352,9 @@ op_at_again (op.Delete path) more fits =
 op_at_again (op.SetData path content version) more fits =
     let x : Written = record { path = path; content = content; version = version } in
     op_after_word words.SetData (written_text x ++ 10 ∷ more) (op_text (op_written x) ++ 10 ∷ more) (op_written x) (10 ∷ more) refl (op_by_again_fields written_text IsWritten set_data_at op_written set_data_exact x (10 ∷ more) fits refl) refl
+op_at_again (op.CreateOld path content acl ephemeral) more fits =
+    let x : OldFields = (path, (content, (acl, ephemeral))) in
+    op_after_word words.CreateOld (((32 ∷ quoted path) ++ ((32 ∷ content_text content) ++ ((32 ∷ acl_text acl) ++ (32 ∷ ephemeral_text ephemeral)))) ++ 10 ∷ more) (op_text (op.CreateOld path content acl ephemeral) ++ 10 ∷ more) (op.CreateOld path content acl ephemeral) (10 ∷ more) refl (op_by_again_fields {X = OldFields} (λ v. (32 ∷ quoted v.0) ++ ((32 ∷ content_text v.1.0) ++ ((32 ∷ acl_text v.1.1.0) ++ (32 ∷ ephemeral_text v.1.1.1)))) (λ v. IsListedPath v.0 × (IsListedContent v.1.0 × (AreListedAcls v.1.1.0 × Always v.1.1.1))) (both (spaced path_at) (both (spaced content_at) (both (spaced acl_at) (spaced ephemeral_at)))) (λ v. op.CreateOld v.0 v.1.0 v.1.1.0 v.1.1.1) create_old_fields x (10 ∷ more) (fits.0, (fits.1, (fits.2, tt))) refl) (ap (λ (b : List ℕ). word_text words.CreateOld ++ b) (sym (old_texts (32 ∷ quoted path) (32 ∷ content_text content) (32 ∷ acl_text acl) (32 ∷ ephemeral_text ephemeral) (10 ∷ more))))
 op_at_again (op.SetAcl path acl version) more fits =
     let x : AclFields = (path, (acl, version)) in
     op_after_word words.SetAcl (((32 ∷ quoted path) ++ ((32 ∷ acl_text acl) ++ (32 ∷ signed_decimal version))) ++ 10 ∷ more) (op_text (op.SetAcl path acl version) ++ 10 ∷ more) (op.SetAcl path acl version) (10 ∷ more) refl (op_by_again_fields {X = AclFields} (λ v. (32 ∷ quoted v.0) ++ ((32 ∷ acl_text v.1.0) ++ (32 ∷ signed_decimal v.1.1))) (λ v. IsListedPath v.0 × (AreListedAcls v.1.0 × FitsSigned w32 v.1.1)) (both (spaced path_at) (both (spaced acl_at) (spaced (int_at w32)))) (λ v. op.SetAcl v.0 v.1.0 v.1.1) set_acl_fields x (10 ∷ more) (fits.0, (fits.1, fits.2)) refl) (ap (λ (b : List ℕ). word_text words.SetAcl ++ b) (sym (set_acl_texts (32 ∷ quoted path) (32 ∷ acl_text acl) (32 ∷ signed_decimal version) (10 ∷ more))))

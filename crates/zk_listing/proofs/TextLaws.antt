@@ -14,7 +14,7 @@ use Rattle.std.specs.List.{flat_map, AllByRecursion}
 use Rattle.std.specs.Str.{IsUtf8, chars}
 use Rattle.zk_acl.specs.declared.acl.Acl.{Acl}
 use Rattle.zk_spelling.proofs.HexBytes.{both_true, low, ascii, digits_utf8}
-use Rattle.zk_spelling.specs.Listings.{create_text, delete_text, set_data_text, set_acl_text, check_text, error_text, ephemeral_text, sub_text, part_text, op_text, header_text, line_of, listing_of, IsListed, IsListedAcl, AreListedAcls, IsListedPath, IsListedSub, IsListedOp}
+use Rattle.zk_spelling.specs.Listings.{create_text, create_old_text, delete_text, set_data_text, set_acl_text, check_text, error_text, ephemeral_text, sub_text, part_text, op_text, header_text, line_of, listing_of, IsListed, IsListedAcl, AreListedAcls, IsListedPath, IsListedSub, IsListedOp}
 use Rattle.zk_spelling.specs.Spelling.{escaped, quoted, content_text, acl_entry_text, acl_text, sixteen_digits, id_digits}
 use Rattle.zk_txn.specs.declared.sub.Sub.{Sub}
 use Rattle.zk_txn.specs.declared.sub.Sub.TheVariants as subs
@@ -120,6 +120,10 @@ create : (path : List ℕ) (bytes : Option (List ℕ)) (acls : List Acl) (epheme
 create path bytes acls ephemeral count p q r =
     join (join (join (join (join (word (codes "create ") refl) (between_quotes path p.utf8)) (space (content bytes))) (space (acl_list acls q))) (space (kind ephemeral))) (space (int count r))
 
+create_old : (path : List ℕ) (bytes : Option (List ℕ)) (acls : List Acl) (ephemeral : Bool) → IsListedPath path → AreListedAcls acls → IsUtf8 (create_old_text path bytes acls ephemeral)
+create_old path bytes acls ephemeral p q =
+    join (join (join (join (word (codes "create0 ") refl) (between_quotes path p.utf8)) (space (content bytes))) (space (acl_list acls q))) (space (kind ephemeral))
+
 delete : (path : List ℕ) → IsListedPath path → IsUtf8 (delete_text path)
 delete path p = join (word (codes "delete ") refl) (between_quotes path p.utf8)
 
@@ -147,6 +151,7 @@ behind sub p = join (word (codes " ; ") refl) (part sub p)
 
 operation : (op : Op) → IsListedOp op → IsUtf8 (op_text op)
 operation (ops.Create path bytes acls ephemeral count) p = create path bytes acls ephemeral count p.0 p.2 p.3
+operation (ops.CreateOld path bytes acls ephemeral) p = create_old path bytes acls ephemeral p.0 p.2
 operation (ops.Delete path) p = delete path p
 operation (ops.SetData path bytes version) p = set_data path bytes version p.0 p.2
 operation (ops.SetAcl path acls version) p = set_acl path acls version p.0 p.1 p.2

@@ -11,6 +11,7 @@ use Rattle.zk_listing.specs.Reading.{word_from, ephemeral_from, semicolon_from, 
 use Rattle.zk_listing.proofs.Exact.{IsExactField, some_is}
 
 abbrev pub word_text : Word → List ℕ
+word_text words.CreateOld = codes "create0"
 word_text words.Create = codes "create"
 word_text words.Delete = codes "delete"
 word_text words.SetData = codes "setData"
@@ -56,8 +57,12 @@ word_is_1 field w h = elim (one_word (codes "delete") field words.Delete w (cond
 word_is_0 : (field : List ℕ) (w : Word) → cond (bytes_eq field (codes "create")) (Some words.Create) (cond (bytes_eq field (codes "delete")) (Some words.Delete) (cond (bytes_eq field (codes "setData")) (Some words.SetData) (cond (bytes_eq field (codes "setACL")) (Some words.SetAcl) (cond (bytes_eq field (codes "createSession")) (Some words.CreateSession) (cond (bytes_eq field (codes "closeSession")) (Some words.CloseSession) (cond (bytes_eq field (codes "error")) (Some words.Error) (cond (bytes_eq field (codes "multi")) (Some words.Multi) (cond (bytes_eq field (codes "check")) (Some words.Check) None)))))))) ≡ Some w → field ≡ word_text w
 word_is_0 field w h = elim (one_word (codes "create") field words.Create w (cond (bytes_eq field (codes "delete")) (Some words.Delete) (cond (bytes_eq field (codes "setData")) (Some words.SetData) (cond (bytes_eq field (codes "setACL")) (Some words.SetAcl) (cond (bytes_eq field (codes "createSession")) (Some words.CreateSession) (cond (bytes_eq field (codes "closeSession")) (Some words.CloseSession) (cond (bytes_eq field (codes "error")) (Some words.Error) (cond (bytes_eq field (codes "multi")) (Some words.Multi) (cond (bytes_eq field (codes "check")) (Some words.Check) None)))))))) h) [ inl found ↦ found.0 ∙ ap word_text found.1 | inr later ↦ word_is_1 field w later ]
 
+word_is : (field : List ℕ) (w : Word) → cond (bytes_eq field (codes "create0")) (Some words.CreateOld) (cond (bytes_eq field (codes "create")) (Some words.Create) (cond (bytes_eq field (codes "delete")) (Some words.Delete) (cond (bytes_eq field (codes "setData")) (Some words.SetData) (cond (bytes_eq field (codes "setACL")) (Some words.SetAcl) (cond (bytes_eq field (codes "createSession")) (Some words.CreateSession) (cond (bytes_eq field (codes "closeSession")) (Some words.CloseSession) (cond (bytes_eq field (codes "error")) (Some words.Error) (cond (bytes_eq field (codes "multi")) (Some words.Multi) (cond (bytes_eq field (codes "check")) (Some words.Check) None))))))))) ≡ Some w → field ≡ word_text w
+word_is field w h = elim (one_word (codes "create0") field words.CreateOld w (cond (bytes_eq field (codes "create")) (Some words.Create) (cond (bytes_eq field (codes "delete")) (Some words.Delete) (cond (bytes_eq field (codes "setData")) (Some words.SetData) (cond (bytes_eq field (codes "setACL")) (Some words.SetAcl) (cond (bytes_eq field (codes "createSession")) (Some words.CreateSession) (cond (bytes_eq field (codes "closeSession")) (Some words.CloseSession) (cond (bytes_eq field (codes "error")) (Some words.Error) (cond (bytes_eq field (codes "multi")) (Some words.Multi) (cond (bytes_eq field (codes "check")) (Some words.Check) None))))))))) h) [ inl found ↦ found.0 ∙ ap word_text found.1 | inr later ↦ word_is_0 field w later ]
+
 word_again : (w : Word) → word_from (word_text w) ≡ Some w
 unfolding word_from
+word_again words.CreateOld = refl
 word_again words.Create = refl
 word_again words.Delete = refl
 word_again words.SetData = refl
@@ -69,6 +74,7 @@ word_again words.Multi = refl
 word_again words.Check = refl
 
 word_plain : (w : Word) → AllByRecursion (λ b. is_end b ≡ false) (word_text w)
+word_plain words.CreateOld = (refl, (refl, (refl, (refl, (refl, (refl, (refl, tt)))))))
 word_plain words.Create = (refl, (refl, (refl, (refl, (refl, (refl, tt))))))
 word_plain words.Delete = (refl, (refl, (refl, (refl, (refl, (refl, tt))))))
 word_plain words.SetData = (refl, (refl, (refl, (refl, (refl, (refl, (refl, tt)))))))
@@ -85,7 +91,7 @@ Always x = Unit {0}
 pub word_field : IsExactField word_text Always word_from
 unfolding word_from
 word_field = record {
-  takes = λ field w h. (tt, word_is_0 field w h);
+  takes = λ field w h. (tt, word_is field w h);
   again = λ w fits. word_again w;
   plain = λ w fits. word_plain w;
 }

@@ -245,7 +245,8 @@ ephemeral_at bytes = of_field ephemeral_from bytes
 -- the words that operations begin with
 unfoldable pub word_from : List ℕ → Option Word
 word_from field =
-    if bytes_eq field (codes "create") then Some words.Create
+    if bytes_eq field (codes "create0") then Some words.CreateOld
+    else if bytes_eq field (codes "create") then Some words.Create
     else if bytes_eq field (codes "delete") then Some words.Delete
     else if bytes_eq field (codes "setData") then Some words.SetData
     else if bytes_eq field (codes "setACL") then Some words.SetAcl
@@ -274,6 +275,9 @@ set_data_at bytes = mapped written_of (both (spaced path_at) (both (spaced conte
 
 unfoldable pub set_acl_op_at : List ℕ → Option (Op × List ℕ)
 set_acl_op_at bytes = mapped (λ x. op.SetAcl x.0 x.1.0 x.1.1) (both (spaced path_at) (both (spaced acl_at) (spaced (int_at w32)))) bytes
+
+unfoldable pub create_old_op_at : List ℕ → Option (Op × List ℕ)
+create_old_op_at bytes = mapped (λ x. op.CreateOld x.0 x.1.0 x.1.1.0 x.1.1.1) (both (spaced path_at) (both (spaced content_at) (both (spaced acl_at) (spaced ephemeral_at)))) bytes
 
 unfoldable pub check_at : List ℕ → Option (Sub × List ℕ)
 check_at bytes = mapped (λ x. sub.Check x.0 x.1) (both (spaced path_at) (spaced (int_at w32))) bytes
@@ -331,6 +335,7 @@ op_written x = op.SetData x.path x.content x.version
 
 -- an operation, behind its word
 unfoldable pub op_by : Word → List ℕ → Option (Op × List ℕ)
+op_by words.CreateOld bytes = create_old_op_at bytes
 op_by words.Create bytes = mapped op_created create_at bytes
 op_by words.Delete bytes = mapped op.Delete (spaced path_at) bytes
 op_by words.SetData bytes = mapped op_written set_data_at bytes

@@ -1,6 +1,6 @@
 //! The readers of operations: a word, and a space before each field.
 ghost use Rattle.std.specs.Prelude.{◌≡◌};
-ghost use Rattle.zk_listing.specs.Reading.{Takes, TakesUnit, ContinuesParts, of_field, spaced, ephemeral_at, word_from, word_at, create_at, set_data_at, set_acl_op_at, check_at, sub_by, sub_at, semicolon_from, part_at, parts_in, op_by, op_at, mapped, sub_created, sub_written, op_created, op_written};
+ghost use Rattle.zk_listing.specs.Reading.{Takes, TakesUnit, ContinuesParts, of_field, spaced, ephemeral_at, word_from, word_at, create_at, set_data_at, set_acl_op_at, create_old_op_at, check_at, sub_by, sub_at, semicolon_from, part_at, parts_in, op_by, op_at, mapped, sub_created, sub_written, op_created, op_written};
 
 use crate::fault::ListCause;
 use crate::fields::take_field;
@@ -13,6 +13,7 @@ use zk_table::{Content, Op, Sub, Subs};
 /// The word that an operation or a multi's part begins with.
 #[derive(Clone, Copy, Debug)]
 pub(crate) enum Word {
+    CreateOld,
     Create,
     Delete,
     SetData,
@@ -39,6 +40,7 @@ fn word_of(field: &str) -> Option<Word>
     ensures { result ≡ word_from field.now }
 {
     match field {
+        "create0" => Some(Word::CreateOld),
         "create" => Some(Word::Create),
         "delete" => Some(Word::Delete),
         "setData" => Some(Word::SetData),
@@ -122,6 +124,23 @@ fn set_data(alloc: Global, input: &mut &str) -> Result<Written, ListCause>
     })
 }
 
+/// A create of 3.3.
+#[tactic(auto, unfolding(crate::specs::Reading::create_old_op_at))]
+fn create_old(alloc: Global, input: &mut &str) -> Result<Op, ListCause>
+    ensures { Takes result input.new.now (create_old_op_at input.old.now) }
+{
+    let path = spaced_path(alloc, input)?;
+    let content = spaced_content(alloc, input)?;
+    let acl = spaced_acl(alloc, input)?;
+    let ephemeral = spaced_ephemeral(input)?;
+    Ok(Op::CreateOld {
+        path,
+        content,
+        acl,
+        ephemeral,
+    })
+}
+
 #[tactic(auto, unfolding(crate::specs::Reading::set_acl_op_at))]
 fn set_acl(alloc: Global, input: &mut &str) -> Result<Op, ListCause>
     ensures { Takes result input.new.now (set_acl_op_at input.old.now) }
@@ -165,9 +184,8 @@ fn sub_fields(alloc: Global, word: Word, input: &mut &str) -> Result<Sub, ListCa
         Word::Error => Ok(Sub::Error {
             code: spaced_int(input)?,
         }),
-        Word::SetAcl | Word::CreateSession | Word::CloseSession | Word::Multi => Err(
-            ListCause::Word,
-        ),
+        Word::CreateOld | Word::SetAcl | Word::CreateSession | Word::CloseSession | Word::Multi =>
+            Err(ListCause::Word),
     }
 }
 
@@ -253,6 +271,7 @@ fn op_fields(alloc: Global, word: Word, input: &mut &str) -> Result<Op, ListCaus
     ensures { Takes result input.new.now (op_by word input.old.now) }
 {
     match word {
+        Word::CreateOld => create_old(alloc, input),
         Word::Create => op_create(alloc, input),
         Word::Delete => Ok(Op::Delete {
             path: spaced_path(alloc, input)?,

@@ -1,5 +1,5 @@
 -- An instruction changes a path in one way.
-use Rattle.std.proofs.Common.{◌≡◌, ℕ, ℤ, Bool, true, false, cond, ◌||◌, ◌&&◌, if◌then◌else◌, List, [], ◌∷◌, ◌++◌, map, Option, Some, None, is_some, unwrap_or, refl, sym, ap, subst, ◌∙◌, is_lt, Less, Equal, Greater}
+use Rattle.std.proofs.Common.{◌≡◌, ℕ, ℤ, negsuc, Bool, true, false, cond, ◌||◌, ◌&&◌, if◌then◌else◌, List, [], ◌∷◌, ◌++◌, map, Option, Some, None, is_some, unwrap_or, refl, sym, ap, subst, ◌∙◌, is_lt, Less, Equal, Greater}
 use Rattle.std.proofs.lemmas.Bool.{false≢true, and_parts}
 use Rattle.std.proofs.lemmas.Cmp.{nat_list_cmp_total, int_eq_equiv}
 use Rattle.std.proofs.lemmas.List.{append-nil}
@@ -260,6 +260,7 @@ instructions_whole state txn = by_op txn.op
 
     by_op : (op : Op) → flat_map (λ changes. changes) (changes_by_op state txn op) ≡ op_changes state txn op
     by_op (ops.Create path content acl ephemeral count) = one
+    by_op (ops.CreateOld path content acl ephemeral) = one
     by_op (ops.Delete path) = one
     by_op (ops.SetData path content version) = one
     by_op (ops.SetAcl path acl version) = one
@@ -283,6 +284,7 @@ instructions_one_way state txn = by_op txn.op refl
 
     by_op : (op : Op) → txn.op ≡ op → AllByRecursion PathsRise (changes_by_op state txn op)
     by_op (ops.Create path content acl ephemeral count) is = one _ is (create_one_way m txn path content acl ephemeral count)
+    by_op (ops.CreateOld path content acl ephemeral) is = one _ is (create_one_way m txn path content acl ephemeral (negsuc 0))
     by_op (ops.Delete path) is = one _ is (delete_one_way m txn path)
     by_op (ops.SetData path content version) is = one _ is (set_data_one_way m txn path content version)
     by_op (ops.SetAcl path acl version) is = one _ is (set_acl_one_way m path acl version)

@@ -52,7 +52,7 @@ path_takes = whole_takes quoted IsListedPath path_at path_exact
 kind_takes : (word : List ℕ) (kind : Kind) → kind_from word ≡ Some kind → Unit {0} × (word ≡ kind_text kind)
 unfolding kind_from
 kind_takes word kind h =
-    (tt, looked_up_is (λ (w : List ℕ) (k : Kind). w ≡ kind_text k) kind_words (refl, (refl, (refl, (refl, (refl, (refl, (refl, (refl, tt)))))))) word kind h)
+    (tt, looked_up_is (λ (w : List ℕ) (k : Kind). w ≡ kind_text k) kind_words (refl, (refl, (refl, (refl, (refl, (refl, (refl, (refl, (refl, tt))))))))) word kind h)
 
 breakpoints_made : AllByRecursion (λ e. MakesOf IsBreakpoint breakpoint_text e.0 e.1) breakpoint_words
 breakpoints_made = (
@@ -124,6 +124,7 @@ command_takes line c h = by_command_field line c (field_in line) refl h
 
 kind_again : (kind : Kind) → kind_from (kind_text kind) ≡ Some kind
 unfolding kind_from
+kind_again kinds.CreateOld = refl
 kind_again kinds.Create = refl
 kind_again kinds.Delete = refl
 kind_again kinds.SetData = refl

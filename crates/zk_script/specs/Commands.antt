@@ -15,6 +15,7 @@ use Rattle.zk_script.specs.declared.fault.CommandFault.TheVariants as faults
 
 -- a listing's word for a kind of transactions
 abbrev pub kind_text : Kind → List ℕ
+kind_text kinds.CreateOld = codes "create0"
 kind_text kinds.Create = codes "create"
 kind_text kinds.Delete = codes "delete"
 kind_text kinds.SetData = codes "setData"

@@ -63,7 +63,7 @@ looked_up word (e ∷ es) = if bytes_eq word e.0 then Some e.1 else looked_up wo
 
 abbrev pub kind_words : List (List ℕ × Kind)
 kind_words =
-    (codes "create", kinds.Create) ∷ (codes "delete", kinds.Delete) ∷ (codes "setData", kinds.SetData) ∷ (codes "setACL", kinds.SetAcl) ∷ (codes "createSession", kinds.OpenSession) ∷ (codes "closeSession", kinds.CloseSession) ∷ (codes "error", kinds.Error) ∷ (codes "multi", kinds.Multi) ∷ []
+    (codes "create0", kinds.CreateOld) ∷ (codes "create", kinds.Create) ∷ (codes "delete", kinds.Delete) ∷ (codes "setData", kinds.SetData) ∷ (codes "setACL", kinds.SetAcl) ∷ (codes "createSession", kinds.OpenSession) ∷ (codes "closeSession", kinds.CloseSession) ∷ (codes "error", kinds.Error) ∷ (codes "multi", kinds.Multi) ∷ []
 
 unfoldable pub kind_from : List ℕ → Option Kind
 kind_from word = looked_up word kind_words

@@ -90,6 +90,7 @@ fn kind(word: &str) -> Option<Kind>
     ensures { result ≡ kind_from word.now }
 {
     match word {
+        "create0" => Some(Kind::CreateOld),
         "create" => Some(Kind::Create),
         "delete" => Some(Kind::Delete),
         "setData" => Some(Kind::SetData),

@@ -24,6 +24,10 @@ abbrev pub create_text : List ℕ → Option (List ℕ) → List Acl → Bool �
 create_text path content acl ephemeral count =
     codes "create " ++ quoted path ++ 32 ∷ content_text content ++ 32 ∷ acl_text acl ++ 32 ∷ ephemeral_text ephemeral ++ 32 ∷ signed_decimal count
 
+abbrev pub create_old_text : List ℕ → Option (List ℕ) → List Acl → Bool → List ℕ
+create_old_text path content acl ephemeral =
+    codes "create0 " ++ quoted path ++ 32 ∷ content_text content ++ 32 ∷ acl_text acl ++ 32 ∷ ephemeral_text ephemeral
+
 abbrev pub delete_text : List ℕ → List ℕ
 delete_text path = codes "delete " ++ quoted path
 
@@ -52,6 +56,7 @@ part_text part = codes " ; " ++ sub_text part
 
 abbrev pub op_text : Op → List ℕ
 op_text (op.Create path content acl ephemeral count) = create_text path content acl ephemeral count
+op_text (op.CreateOld path content acl ephemeral) = create_old_text path content acl ephemeral
 op_text (op.Delete path) = delete_text path
 op_text (op.SetData path content version) = set_data_text path content version
 op_text (op.SetAcl path acl version) = set_acl_text path acl version
@@ -101,6 +106,7 @@ IsListedSub (sub.Error code) = FitsSigned w32 code
 
 abbrev pub IsListedOp : Op → Type 0
 IsListedOp (op.Create path content acl ephemeral count) = IsListedPath path × IsListedContent content × AreListedAcls acl × FitsSigned w32 count
+IsListedOp (op.CreateOld path content acl ephemeral) = IsListedPath path × IsListedContent content × AreListedAcls acl
 IsListedOp (op.Delete path) = IsListedPath path
 IsListedOp (op.SetData path content version) = IsListedPath path × IsListedContent content × FitsSigned w32 version
 IsListedOp (op.SetAcl path acl version) = IsListedPath path × AreListedAcls acl × FitsSigned w32 version
@@ -129,6 +135,7 @@ SubHasCountedAcls (sub.Error code) = Unit {0}
 
 abbrev pub OpHasCountedAcls : Op → Type 0
 OpHasCountedAcls (op.Create path content acl ephemeral count) = length acl < 2 ^ 31
+OpHasCountedAcls (op.CreateOld path content acl ephemeral) = length acl < 2 ^ 31
 OpHasCountedAcls (op.Delete path) = Unit {0}
 OpHasCountedAcls (op.SetData path content version) = Unit {0}
 OpHasCountedAcls (op.SetAcl path acl version) = length acl < 2 ^ 31

@@ -1,7 +1,7 @@
 ghost use Rattle.std.specs.Prelude.{◌≡◌, ◌++◌, ◌∷◌, codes, IfOk, OnErr, OnOk};
 ghost use Rattle.std.specs.List.{flat_map, AllByRecursion};
 ghost use Rattle.std.specs.String.{string_bytes};
-ghost use Rattle.zk_spelling.specs.Listings.{IsListed, HasCountedAcls, listing_of, line_of, op_text, sub_text, part_text, create_text, delete_text, set_data_text, set_acl_text, check_text, error_text, ephemeral_text, header_text};
+ghost use Rattle.zk_spelling.specs.Listings.{IsListed, HasCountedAcls, listing_of, line_of, op_text, sub_text, part_text, create_text, create_old_text, delete_text, set_data_text, set_acl_text, check_text, error_text, ephemeral_text, header_text};
 
 use crate::ranges::{txn_is_listed, txns_are_listed};
 use crate::spelling::{LINE, push_id, spell_acl, spell_content, spell_next_id, spell_quoted};
@@ -71,6 +71,12 @@ fn spell_op(text: &mut String, op: &Op) -> Result<(), NoMemory>
             ephemeral,
             count,
         } => spell_create(text, path, content, acl, *ephemeral, *count),
+        Op::CreateOld {
+            path,
+            content,
+            acl,
+            ephemeral,
+        } => spell_create_old(text, path, content, acl, *ephemeral),
         Op::Delete { path } => spell_delete(text, path),
         Op::SetData {
             path,
@@ -153,6 +159,25 @@ fn spell_ephemeral(text: &mut String, ephemeral: bool) -> Result<(), NoMemory>
         text.push_str(" p")?;
     }
     Ok(())
+}
+
+fn spell_create_old(
+    text: &mut String,
+    path: &Path,
+    content: &Option<Content>,
+    acl: &Acls,
+    ephemeral: bool,
+) -> Result<(), NoMemory>
+    ensures { OnOk result (string_bytes text.new
+        ≡ string_bytes text.old ++ create_old_text path.now content.now acl.now ephemeral) }
+{
+    text.push_str("create0 ")?;
+    spell_quoted(text, path.text())?;
+    text.push(' ')?;
+    spell_content(text, content)?;
+    text.push(' ')?;
+    spell_acl(text, acl)?;
+    spell_ephemeral(text, ephemeral)
 }
 
 fn spell_delete(text: &mut String, path: &Path) -> Result<(), NoMemory>

@@ -1,11 +1,11 @@
 -- What each transaction does to a state, and what it answers: `zookeeper.jute`, module `org.apache.zookeeper.txn`, as
 -- the 3.4 server applies its log. Each refusal changes nothing but the last zxid.
-use Rattle.std.specs.Prelude.{ℤ, pos, []}
+use Rattle.std.specs.Prelude.{ℤ, pos, negsuc, []}
 use Rattle.std.specs.Int.{w64, cast_unsigned}
 use Rattle.std.specs.FinMap.{insert, remove}
 use Rattle.zk_txn.specs.declared.result.TxnResult.{TxnResult}
 use Rattle.zk_txn.specs.declared.txn.Op.{Op}
-use Rattle.zk_txn.specs.declared.txn.Op.TheVariants.{Create, Delete, SetData, SetAcl, OpenSession, CloseSession, Error, Multi}
+use Rattle.zk_txn.specs.declared.txn.Op.TheVariants.{Create, CreateOld, Delete, SetData, SetAcl, OpenSession, CloseSession, Error, Multi}
 use Rattle.zk_txn.specs.declared.txn.Txn.{Txn}
 use Rattle.zk_txn.specs.Answers.{plain_answer}
 use Rattle.zk_table.specs.Multis.{multi}
@@ -28,6 +28,7 @@ close_session state txn =
 
 abbrev pub step_by : State → Txn → Op → State × TxnResult
 step_by state txn (Create path content acl ephemeral count) = on_nodes state txn (create state.nodes txn path content acl ephemeral count)
+step_by state txn (CreateOld path content acl ephemeral) = on_nodes state txn (create state.nodes txn path content acl ephemeral (negsuc 0))
 step_by state txn (Delete path) = on_nodes state txn (delete state.nodes txn path)
 step_by state txn (SetData path content version) = on_nodes state txn (set_data state.nodes txn path content version)
 step_by state txn (SetAcl path acl version) = on_nodes state txn (set_acl state.nodes path acl version)

@@ -68,6 +68,12 @@ impl Plain {
             } => self
                 .nodes
                 .create(txn, path, content, acl, *ephemeral, *count)?,
+            Op::CreateOld {
+                path,
+                content,
+                acl,
+                ephemeral,
+            } => self.nodes.create(txn, path, content, acl, *ephemeral, -1)?,
             Op::Delete { path } => self.nodes.delete(txn, path)?,
             Op::SetData {
                 path,

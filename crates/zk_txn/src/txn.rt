@@ -45,6 +45,15 @@ pub enum Op {
         ephemeral: bool,
         count: i32,
     },
+    /// Makes a node, as the servers of 3.3 logged it: one create more is counted.
+    ///
+    /// `zookeeper.jute`, `CreateTxnV0`.
+    CreateOld {
+        path: Path,
+        content: Option<Content>,
+        acl: Acls,
+        ephemeral: bool,
+    },
     /// Removes a node that has no children.
     Delete {
         path: Path,
@@ -92,6 +101,12 @@ impl Op {
                 ephemeral,
                 count,
             } => copy_of_create(path, content, acl, *ephemeral, *count),
+            Op::CreateOld {
+                path,
+                content,
+                acl,
+                ephemeral,
+            } => copy_of_create_old(path, content, acl, *ephemeral),
             Op::Delete { path } => copy_of_delete(path),
             Op::SetData {
                 path,
@@ -125,6 +140,25 @@ fn copy_of_create(
         acl,
         ephemeral,
         count,
+    })
+}
+
+fn copy_of_create_old(
+    path: &Path,
+    content: &Option<Content>,
+    acl: &Acls,
+    ephemeral: bool,
+) -> Result<Op, NoMemory>
+    ensures { IfOk result (λ op. op ≡ ops.CreateOld path.now content.now acl.now ephemeral) }
+{
+    let path = path.copy()?;
+    let content = Content::copy_of(content)?;
+    let acl = acl.copy()?;
+    Ok(Op::CreateOld {
+        path,
+        content,
+        acl,
+        ephemeral,
     })
 }
 
