@@ -1,4 +1,5 @@
 use crate::act::act;
+use std::alloc::Global;
 use std::fmt::Display;
 use std::process::Abort;
 use std::test::Fail;
@@ -100,11 +101,12 @@ fn check(
     rt: &(impl Abort + AllocGlobal),
     order: Order,
     file: DripIn,
+    script: &[u8],
     output: DripOut,
     expected: (&[u8], &str),
 ) -> Result<(), Fail> {
     let mut file = Source::new(file);
-    let mut script = Source::new(DripIn::new(b"", 1, None));
+    let mut script = Source::new(DripIn::new(script, 5, None));
     let mut output = Sink::new(output);
     let mut faults = Sink::new(DripOut::new(rt.alloc(), 64, None));
     let status = act(
@@ -137,11 +139,11 @@ fn check_failing(
     if order == Order::Asm {
         let log = hex::decode(rt.alloc(), written.as_str())?;
         let source = DripIn::new(input.as_bytes(), 7, good_reads);
-        check(rt, order, source, sink, (&log, told))
+        check(rt, order, source, b"", sink, (&log, told))
     } else {
         let log = hex::decode(rt.alloc(), input.as_str())?;
         let source = DripIn::new(&log, 7, good_reads);
-        check(rt, order, source, sink, (written.as_bytes(), told))
+        check(rt, order, source, b"", sink, (written.as_bytes(), told))
     }
 }
 
@@ -348,7 +350,167 @@ fn refused_listings_leave_the_output_empty(rt: HostRuntime) -> Result<(), Fail> 
     check_all(&rt, rows.as_slice())?;
     let output = DripOut::new(rt.alloc(), 4, None);
     let input = DripIn::new(b"0\xff", 7, None);
-    check(&rt, Order::Asm, input, output, (b"", "zk: utf8\n"))
+    check(&rt, Order::Asm, input, b"", output, (b"", "zk: utf8\n"))
+}
+
+/// An order, the log in hexadecimal digits, the text that is read beside it or in place of it, and the line of the fault.
+type FaultRow = (
+    Order,
+    &'static [&'static str],
+    &'static [u8],
+    &'static str,
+);
+
+/// A fault of each kind that needs no failing device.
+static FAULTS: [FaultRow; 22] = [
+    // a header without its last byte
+    (LAST, &["5a4b4c470000000200000000000000"], b"", "zk: G1\n"),
+    // the last byte of the second entry's checksum
+    (
+        LAST,
+        &[HEADER, OPEN, "000000009d970700", CREATE_RECORD, LAST_BYTE],
+        b"",
+        "zk: G2 65\n",
+    ),
+    (
+        LAST,
+        &[HEADER, OPEN, CREATE_SUM, CREATE_RECORD, LAST_BYTE, NO_KIND],
+        b"",
+        "zk: G3 154\n",
+    ),
+    // the second entry twice
+    (
+        Order::List,
+        &[
+            HEADER,
+            OPEN,
+            CREATE_SUM,
+            CREATE_RECORD,
+            LAST_BYTE,
+            CREATE_SUM,
+            CREATE_RECORD,
+            LAST_BYTE,
+        ],
+        b"",
+        "zk: G4 154\n",
+    ),
+    // a length of 16,777,217 bytes
+    (
+        Order::Debug,
+        &[
+            HEADER,
+            OPEN,
+            CREATE_SUM,
+            CREATE_RECORD,
+            LAST_BYTE,
+            "000000000e8104be01000001",
+        ],
+        b"step\n",
+        "zk: G5 154\n",
+    ),
+    (Order::Asm, &[], b"\n", "zk: L1 1\n"),
+    (Order::Asm, &[], b"+1\n", "zk: L2 1\n"),
+    (
+        Order::Asm,
+        &[],
+        b"0000000100000001 0100000000000001 0 1000 delete /a\n",
+        "zk: L3 1\n",
+    ),
+    (
+        Order::Asm,
+        &[],
+        b"0000000100000001 0100000000000001 0 1000 setData \"/a\" x6 0\n",
+        "zk: L4 1\n",
+    ),
+    (
+        Order::Asm,
+        &[],
+        b"0000000100000001 0100000000000001 0 1000 open 30000\n",
+        "zk: L5 1\n",
+    ),
+    (
+        Order::Asm,
+        &[],
+        b"0000000100000001 0100000000000001 0 1000 delete \"a\"\n",
+        "zk: L6 1\n",
+    ),
+    (Order::Asm, &[], b"x", "zk: L7 1\n"),
+    // two equal zxids
+    (
+        Order::Asm,
+        &[],
+        b"0000000000000001 0000000000000000 0 0 closeSession\n\
+          0000000000000001 0000000000000000 0 0 closeSession\n",
+        "zk: order 2\n",
+    ),
+    (Order::Asm, &[], b"0\xff", "zk: utf8\n"),
+    (Order::Debug, &[HEADER], b"step\xff", "zk: utf8\n"),
+    (Order::Run, &[], b"servers 2\xff", "zk: utf8\n"),
+    (Order::Debug, &[HEADER], b"stop\n", "zk: script 1\n"),
+    (Order::Debug, &[HEADER], b"\n", "zk: script 1\n"),
+    (Order::Run, &[], b"lead 1\n", "zk: script 1\n"),
+    (Order::Run, &[], b"servers 1\n", "zk: script 1\n"),
+    (Order::Run, &[], b"\n", "zk: script 1\n"),
+    (Order::Run, &[], b"", "zk: script 1\n"),
+];
+
+const LAST: Order = Order::Show { upto: None };
+
+/// Whether an order reads a text in place of a log.
+fn reads_text(order: Order) -> bool {
+    matches!(order, Order::Asm | Order::Run)
+}
+
+/// Acts, and nothing is written but the fault.
+fn check_fault(rt: &(impl Abort + AllocGlobal), row: &FaultRow) -> Result<(), Fail> {
+    let (order, log, text, told) = *row;
+    let log = joined(rt, log)?;
+    let log = hex::decode(rt.alloc(), log.as_str())?;
+    let file = if reads_text(order) { text } else { &log };
+    let source = DripIn::new(file, 7, None);
+    let output = DripOut::new(rt.alloc(), 4, None);
+    check(rt, order, source, text, output, (b"", told))
+}
+
+#[test]
+fn each_fault_has_its_line_and_status(rt: HostRuntime) -> Result<(), Fail> {
+    for row in &FAULTS {
+        check_fault(&rt, row)?;
+    }
+    Ok(())
+}
+
+/// The header and the head of an entry of 16,777,216 bytes, and so many bytes more.
+fn long_entry(alloc: Global, length: usize) -> Result<Vec<u8>, Fail> {
+    let mut log = hex::decode(
+        alloc,
+        "5a4b4c47000000020000000000000000000000000000000001000000",
+    )?;
+    log.extend_from_slice(vec![in alloc; 0; length]?.as_slice())?;
+    Ok(log)
+}
+
+/// Acts on a file that is read one byte at a time, and nothing is written but the fault.
+fn check_long(
+    rt: &(impl Abort + AllocGlobal),
+    order: Order,
+    file: &[u8],
+    told: &str,
+) -> Result<(), Fail> {
+    let source = DripIn::new(file, 1, None);
+    let output = DripOut::new(rt.alloc(), 4, None);
+    check(rt, order, source, b"", output, (b"", told))
+}
+
+#[test]
+fn reads_are_counted_up_to_1048576(rt: HostRuntime) -> Result<(), Fail> {
+    let log = long_entry(rt.alloc(), 1_048_576)?;
+    check_long(&rt, LAST, &log, "zk: G7\n")?;
+    // the last of the reads meets the end, and with one byte more it does not
+    let text = vec![in rt.alloc(); b'\n'; 1_048_576]?;
+    check_long(&rt, Order::Asm, &text[1..], "zk: L1 1\n")?;
+    check_long(&rt, Order::Asm, &text, "zk: read\n")?;
+    check_long(&rt, Order::Run, &text, "zk: read\n")
 }
 
 #[test]

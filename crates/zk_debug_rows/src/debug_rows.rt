@@ -23,7 +23,8 @@ const WITH_EACH_KIND: &str = "0000000100000001 0100000000000001 0 1000 createSes
     0000000100000007 0200000000000001 1 7000 create \"/b\" - 1 31 \"world\" \"anyone\" p 2\n\
     0000000100000008 0200000000000001 2 8000 delete \"/b\"\n\
     0000000100000009 0200000000000001 3 9000 multi ; check \"/d\" 0 ; create \"/c\" x 1 31 \"world\" \"anyone\" p 3\n\
-    000000010000000a 0300000000000001 0 10000 createSession 4000\n";
+    000000010000000a 0300000000000001 0 10000 create0 \"/o\" x 1 31 \"world\" \"anyone\" p\n\
+    000000010000000b 0300000000000001 1 11000 createSession 4000\n";
 
 /// A move.
 #[derive(Clone, Copy)]
@@ -126,13 +127,15 @@ static MOVES: [Moved; 18] = [
 ];
 
 /// What is sought, the first place above the start where it is met, and the last one below the end.
-static MEETINGS: [(Sought, usize, usize); 14] = [
+static MEETINGS: [(Sought, usize, usize); 16] = [
     (Sought::At(0x1_0000_0005), 5, 5),
     (Sought::Path("/lock"), 2, 6),
     (Sought::Path("/b"), 7, 8),
     (Sought::Path("/c"), 9, 9),
+    (Sought::Path("/o"), 10, 10),
     (Sought::Session(0x0200_0000_0000_0001), 3, 9),
     (Sought::Kind(Kind::Create), 2, 7),
+    (Sought::Kind(Kind::CreateOld), 10, 10),
     (Sought::Kind(Kind::Delete), 8, 8),
     (Sought::Kind(Kind::SetData), 4, 4),
     (Sought::Kind(Kind::SetAcl), 5, 5),

@@ -169,6 +169,72 @@ fn create_is_read(rt: HostRuntime) {
     assert!(rt; is_create(rt.alloc(), &SECOND));
 }
 
+/// Whether `/a` is created, as the servers of 3.3 logged it.
+fn creates_old(op: &Op) -> bool {
+    match op {
+        Op::CreateOld {
+            path,
+            content,
+            acl,
+            ephemeral: false,
+        } => path.text() == "/a" && holds(content, b"hi") && is_open(acl.as_slice()),
+        _ => false,
+    }
+}
+
+/// Whether this is the record of it.
+fn is_old_create(alloc: Global, record: &[u8]) -> bool {
+    matches!(read_txn(alloc, record), Ok(txn) if creates_old(&txn.op))
+}
+
+/// The second record and one byte more.
+fn longer_create(alloc: Global) -> Option<Vec<u8>> {
+    joined(alloc, &SECOND, &[0], &[]).ok()
+}
+
+#[test]
+fn part_of_a_count_is_short(rt: HostRuntime) {
+    assert!(rt; is_old_create(rt.alloc(), &SECOND[..72]));
+    assert!(rt; is_written_back(rt.alloc(), &SECOND[..72]));
+    for length in [71, 73, 74, 75] {
+        assert_eq!(rt; fault_of(rt.alloc(), &SECOND[..length]), Some(JuteFault::Short));
+    }
+    assert!(rt; is_create(rt.alloc(), &SECOND));
+    let longer = longer_create(rt.alloc()).expect(&rt, "memory");
+    assert_eq!(rt; fault_of(rt.alloc(), longer.as_slice()), Some(JuteFault::Trailing));
+}
+
+/// What stands before the body of a multi's only part, a create: the last byte is the body's length.
+const BEFORE_A_BODY: [u8; 44] = [
+    1, 0, 0, 0, 0, 0, 0, 1, // session
+    0, 0, 0, 3, // cxid
+    0, 0, 0, 1, 0, 0, 0, 4, // zxid
+    0, 0, 0, 0, 0, 0, 0x0b, 0xb8, // time
+    0, 0, 0, 14, // multi
+    0, 0, 0, 1, // one part
+    0, 0, 0, 1, // create
+    0, 0, 0, 40, // its body: that of the second record without its count
+];
+
+/// What the multi is refused with whose only part has the second record's body, cut to this length.
+fn fault_of_part(alloc: Global, length: u8) -> Option<JuteFault> {
+    let body = SECOND.get(32..32 + usize::from(length))?;
+    let record = joined(alloc, &BEFORE_A_BODY[..43], &[length], body).ok()?;
+    fault_of(alloc, record.as_slice())
+}
+
+#[test]
+fn old_create_in_a_multi_is_short(rt: HostRuntime) {
+    for (length, fault) in [
+        (40, Some(JuteFault::Short)),
+        (41, Some(JuteFault::Short)),
+        (43, Some(JuteFault::Short)),
+        (44, None),
+    ] {
+        assert_eq!(rt; fault_of_part(rt.alloc(), length), fault);
+    }
+}
+
 /// Whether the parts are a check of `/a` and an error.
 fn checks(op: &Op) -> bool {
     match op {

@@ -32,7 +32,9 @@ const ALL_WORDS: &str =
     0000000000000003 0000000000000000 0 0 setACL \"/\" 0 0\n\
     0000000000000004 0000000000000000 0 0 multi\n\
     0000000000000005 0000000000000000 0 0 multi ; check \"/a\" 3 ; setData \"/a\" - 1 \
-    ; error -2 ; create \"/e\" - 0 e -1\n";
+    ; error -2 ; create \"/e\" - 0 e -1\n\
+    0000000000000006 0000000000000000 0 0 create0 \"/o\" - 0 e\n\
+    0000000000000007 0000000000000000 0 0 create0 \"/a\" x6869 1 31 \"world\" \"anyone\" p\n";
 
 /// What each line below begins with.
 const HEAD: &str = "0000000100000001 0100000000000001 0 1000 ";
@@ -129,10 +131,17 @@ fn copied_lines(alloc: Global, txns: &[Txn]) -> Result<String, NoMemory> {
     Ok(text)
 }
 
+/// The lines of copies of what a listing assembles to.
+fn copied(alloc: Global, text: &str) -> Option<String> {
+    let txns = assemble(alloc, text).ok()?;
+    copied_lines(alloc, txns.as_slice()).ok()
+}
+
 #[test]
 fn copies_have_the_same_lines(rt: HostRuntime) {
-    let txns = assemble(rt.alloc(), WITH_A_MULTI).expect(&rt, "a listing");
-    assert!(rt; is_text(copied_lines(rt.alloc(), txns.as_slice()).ok(), WITH_A_MULTI));
+    for text in [WITH_A_MULTI, ALL_WORDS] {
+        assert!(rt; is_text(copied(rt.alloc(), text), text), "{text:?}");
+    }
 }
 
 #[test]
@@ -267,7 +276,7 @@ static ENDS: [(&str, &str); 5] = [
 ];
 
 /// What is refused behind a line's head, and the cause.
-static REFUSED: [(&str, &str); 38] = [
+static REFUSED: [(&str, &str); 42] = [
     ("createSession 30000\r", "L2"),
     ("createSession 30000 ", "L1"),
     ("createSession 30000 1", "L1"),
@@ -286,6 +295,10 @@ static REFUSED: [(&str, &str); 38] = [
     ("create \"/a\"  0 p 1", "L1"),
     ("create \"/a\" x 0  1", "L1"),
     ("create \"/a\" x 0 q 1", "L5"),
+    ("create \"/a\" x 0 p", "L1"),
+    ("create0 \"/a\" x 0 p 1", "L1"),
+    ("create0 \"/a\" x 0 q", "L5"),
+    ("multi ; create0 \"/a\" x 0 p", "L5"),
     ("delete /a", "L3"),
     ("delete \"/a", "L3"),
     ("delete \"/\t\"", "L3"),

@@ -6,8 +6,8 @@ use Rattle.zk_jute.specs.Sizes.{size_of}
 use Rattle.zk_txn.specs.declared.txn.Txn.{Txn}
 
 -- where one record is a proper prefix of another, the shorter is a create of 3.3, and the longer is it with four bytes more
-abbrev pub OldCreatesBeginOthers : Type 0
-OldCreatesBeginOthers = (front rest : List ℕ) (first second : Txn) → IsRecordOf front first → IsRecordOf (front ++ rest) second → (rest ≡ []) ⊎ (IsOldCreate first.op × (length rest ≡ 4))
+abbrev pub OnlyOldCreatesBeginOthers : Type 0
+OnlyOldCreatesBeginOthers = (front rest : List ℕ) (first second : Txn) → IsRecordOf front first → IsRecordOf (front ++ rest) second → (rest ≡ []) ⊎ (IsOldCreate first.op × (length rest ≡ 4))
 
 -- bytes are the record of one transaction at most
 abbrev pub RecordsAreOfOne : Type 0

@@ -1,11 +1,11 @@
 //! Laws of records: the contracts of functions that do nothing.
 
-ghost use Rattle.zk_jute.specs.Laws.{OldCreatesBeginOthers, RecordsAreOfOne, ShortOnesHaveRecords};
+ghost use Rattle.zk_jute.specs.Laws.{OnlyOldCreatesBeginOthers, RecordsAreOfOne, ShortOnesHaveRecords};
 
-/// Where one record ends is known from its own bytes, and so is its transaction.
-pub fn records_end_by_themselves()
+/// Bytes are the record of one transaction at most, and only a create of 3.3 begins another record.
+pub fn only_old_creates_begin_others()
     // Where one record is a proper prefix of another, the shorter is a create of 3.3, and the longer is it with four bytes more.
-    ensures ends { OldCreatesBeginOthers }
+    ensures begins { OnlyOldCreatesBeginOthers }
     // Bytes are the record of one transaction at most.
     ensures one { RecordsAreOfOne }
 {}

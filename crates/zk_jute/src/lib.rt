@@ -17,7 +17,7 @@ mod sizes;
 mod writing;
 
 pub use fault::JuteFault;
-pub use laws::{records_end_by_themselves, short_transactions_have_records};
+pub use laws::{only_old_creates_begin_others, short_transactions_have_records};
 pub use reading::{read_txn, read_txn_sharing};
 pub use sizes::size;
 pub use writing::write_txn;

@@ -198,7 +198,7 @@ fn advances(alloc: Global, listing: &str) -> Result<bool, MachineFault> {
     let mut plain = Plain::new(alloc)?;
     let txns = txns_of(alloc, listing)?;
     let alike = advance_alike(alloc, &mut machine, &mut plain, txns.as_slice())?;
-    Ok(alike && machine.steps()? == 17 && stand_alike(alloc, &machine, &plain)?)
+    Ok(alike && machine.steps()? == 18 && stand_alike(alloc, &machine, &plain)?)
 }
 
 #[test]
@@ -207,7 +207,7 @@ fn a_machine_that_never_goes_back_is_the_table(rt: HostRuntime) {
 }
 
 /// Transactions of each kind: of nodes that come and go, of sessions that are opened twice and closed, of a session
-/// without nodes, of one that isn't open, and a create that wraps its parent's count.
+/// without nodes, of one that isn't open, a create that wraps its parent's count, and one of 3.3.
 const HISTORY: &str = "0000000000000001 0000000000000007 0 1000 createSession 4000\n\
     0000000000000002 0000000000000007 0 1000 create \"/a\" x6869 1 31 \"world\" \"anyone\" p 2147483647\n\
     0000000000000003 0000000000000007 0 1000 create \"/a/e\" x6869 1 31 \"world\" \"anyone\" e -1\n\
@@ -224,7 +224,8 @@ const HISTORY: &str = "0000000000000001 0000000000000007 0 1000 createSession 40
     000000000000000e 0000000000000007 0 1000 delete \"/a\"\n\
     000000000000000f 0000000000000007 0 1000 delete \"/w\"\n\
     0000000000000010 0000000000000007 0 1000 error -110\n\
-    0000000000000011 0000000000000007 0 1000 closeSession\n";
+    0000000000000011 0000000000000007 0 1000 closeSession\n\
+    0000000000000012 0000000000000008 0 1000 create0 \"/o\" x6869 1 31 \"world\" \"anyone\" p\n";
 
 /// What a new machine is after it has changed this much.
 fn shown_step(
@@ -448,7 +449,9 @@ const CHANGES: &str = "2 ChildrenChanged /\n\
     15 ChildrenChanged /\n\
     15 Deleted /w\n\
     17 ChildrenChanged /a\n\
-    17 Deleted /a/e\n";
+    17 Deleted /a/e\n\
+    18 ChildrenChanged /\n\
+    18 Created /o\n";
 
 #[test]
 fn changes_come_by_path(rt: HostRuntime) {
@@ -474,7 +477,7 @@ static SESSIONS: [&str; 4] = [
 ];
 
 /// What stands before a path, and what behind it.
-static PARTS: [(&str, &str); 10] = [
+static PARTS: [(&str, &str); 11] = [
     ("create", " x6869 1 31 \"world\" \"anyone\" p -1"),
     ("create", " x6869 1 31 \"world\" \"anyone\" p -1"),
     ("create", " - 0 p 5"),
@@ -485,6 +488,7 @@ static PARTS: [(&str, &str); 10] = [
     ("setData", " x6f6b 2"),
     ("setData", " - -1"),
     ("setACL", " 1 7 \"world\" \"anyone\" 3"),
+    ("create0", " x33 1 31 \"world\" \"anyone\" e"),
 ];
 
 /// What needs no path.
@@ -543,7 +547,7 @@ fn push_operation(text: &mut String, draws: &mut Draws) -> Result<(), NoMemory> 
     match draws.next() % 8 {
         0 => push_multi(text, draws),
         1 => Ok(text.push_str(draws.text(&OTHERS))?),
-        _ => push_part(text, draws, 10),
+        _ => push_part(text, draws, 11),
     }
 }
 

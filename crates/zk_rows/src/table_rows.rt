@@ -17,6 +17,7 @@ use zk_table::{
 #[derive(Clone, Copy)]
 enum Ask {
     Create,
+    CreateOld,
     CreateEphemeral,
     Delete,
     SetData,
@@ -70,6 +71,18 @@ fn create(alloc: Global, row: Row, ephemeral: bool) -> Result<Sub, NoMemory> {
         acl,
         ephemeral,
         count: row.4,
+    })
+}
+
+/// A create as the servers of 3.3 logged it.
+fn create_old(alloc: Global, row: Row) -> Result<Op, NoMemory> {
+    let acl = acl_of(alloc, 31)?;
+    let content = content_of(alloc, row.3)?;
+    Ok(Op::CreateOld {
+        path: path_of(alloc, row.2)?,
+        content,
+        acl,
+        ephemeral: false,
     })
 }
 
@@ -149,6 +162,7 @@ fn alone(part: Sub) -> Op {
 
 fn op_of(alloc: Global, row: Row) -> Result<Op, NoMemory> {
     match row.1 {
+        Ask::CreateOld => create_old(alloc, row),
         Ask::SetAcl => set_acl(alloc, row),
         Ask::OpenSession => Ok(Op::OpenSession { timeout: row.4 }),
         Ask::CloseSession => Ok(Op::CloseSession),
@@ -419,7 +433,7 @@ fn new_table_has_the_start_state(rt: HostRuntime) -> Result<(), Fail> {
 }
 
 /// The small tree, and what it refuses.
-static REFUSED: [Row; 13] = [
+static REFUSED: [Row; 16] = [
     (7, Ask::Create, "/a", Some("hi"), 1, 0),
     (7, Ask::Create, "/a/b", Some("hi"), 1, 0),
     (7, Ask::CreateEphemeral, "/e", Some("hi"), 2, 0),
@@ -427,6 +441,9 @@ static REFUSED: [Row; 13] = [
     (7, Ask::Create, "/", Some("hi"), 5, -110),
     (7, Ask::Create, "/x/y", Some("hi"), 5, -101),
     (7, Ask::Create, "/e/c", Some("hi"), 5, -108),
+    (7, Ask::CreateOld, "/a", Some("hi"), 0, -110),
+    (7, Ask::CreateOld, "/x/y", Some("hi"), 0, -101),
+    (7, Ask::CreateOld, "/e/c", Some("hi"), 0, -108),
     (7, Ask::Delete, "/", None, 0, -8),
     (7, Ask::Delete, "/x", None, 0, -101),
     (7, Ask::Delete, "/a", None, 0, -111),
@@ -441,13 +458,14 @@ fn refusals_change_only_the_last_zxid(rt: HostRuntime) -> Result<(), Fail> {
     Ok(())
 }
 
-static APPLIED: [Row; 6] = [
+static APPLIED: [Row; 7] = [
     (7, Ask::Create, "/a", Some("hi"), 2_147_483_647, 0),
     (7, Ask::Create, "/b", Some("hi"), -1, 0),
     (7, Ask::Create, "/b/c", Some("hi"), 1, 0),
     (7, Ask::SetData, "/a", Some("longer"), 9, 0),
     (7, Ask::SetAcl, "/b", None, 6, 0),
     (7, Ask::Delete, "/b/c", None, 0, 0),
+    (7, Ask::CreateOld, "/b/o", Some("hi"), 0, 0),
 ];
 
 #[test]
@@ -459,10 +477,12 @@ fn applied_operations_change_the_tree(rt: HostRuntime) -> Result<(), Fail> {
         data_length: 6,
         ..made_stat(1)
     };
+    // the second create below it counts one more
     let b = Stat {
-        cversion: 2,
+        cversion: 3,
         aversion: 6,
-        pzxid: 6,
+        num_children: 1,
+        pzxid: 7,
         ..made_stat(2)
     };
     // twice the creates wraps to 0
@@ -470,6 +490,7 @@ fn applied_operations_change_the_tree(rt: HostRuntime) -> Result<(), Fail> {
         first("/", -3, 3, 2),
         ("/a", Some("longer"), 31, a),
         ("/b", Some("hi"), 1, b),
+        made("/b/o", 7),
         first("/zookeeper", -1, 1, 0),
         first("/zookeeper/quota", 0, 0, 0),
     ];

@@ -13,7 +13,7 @@ use zk_script::{
 use zk_tree::Tree;
 
 /// Lines that each say a command, and what they answer in turn at the start of a log without transactions.
-static COMMANDS: [(&str, &str); 19] = [
+static COMMANDS: [(&str, &str); 20] = [
     ("step", "B1\n"),
     ("back", "B2\n"),
     ("run", "B1\n"),
@@ -26,7 +26,8 @@ static COMMANDS: [(&str, &str); 19] = [
     ("break session ffffffffffffffff", "break 3\n"),
     ("break kind createSession", "break 4\n"),
     ("break kind setACL", "break 5\n"),
-    ("break error", "break 6\n"),
+    ("break kind create0", "break 6\n"),
+    ("break error", "break 7\n"),
     ("clear 6", "ok\n"),
     ("clear 6", "B3\n"),
     ("clear 4294967295", "B3\n"),
