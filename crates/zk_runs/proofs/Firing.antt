@@ -1,5 +1,6 @@
 -- What servers fire, in runs: what the occasions that they have met fire.
-use Rattle.std.proofs.Common.{◌≡◌, ◌≢◌, ℕ, ◌==◌, inl, inr, Bool, true, false, cond, List, [], ◌∷◌, ◌++◌, map, length, drop, Option, Some, None, Result, Ok, Err, refl, sym, ap, subst, ◌∙◌, int_lt, eq-eqb, eqb-eq}
+use Rattle.std.proofs.Common.{◌≡◌, ◌≢◌, ℕ, ◌==◌, inl, inr, Bool, true, false, cond, List, [], ◌∷◌, ◌++◌, map, length, drop, Option, Some, None, Result, Ok, Err, refl, sym, ap, subst, ◌∙◌, int_lt, eq-eqb, arith}
+use Rattle.std.proofs.lemmas.Bool.Decides.{nat_tests}
 use Rattle.std.proofs.lemmas.List.{append-nil, append_assoc}
 use Rattle.zab_epoch.specs.declared.history.Entry.{Entry}
 use Rattle.zab_epoch.specs.Quorums.{IsQuorumSystem}
@@ -164,18 +165,18 @@ mover_fires profile law system servers x e m met s f = by_running (is_running ne
           ∙ front_and_rest before now (grows profile law system servers s.es e x.world m s.world runs);
       down = λ down. not_both (is_running next m) runs down;
       tells = λ it at.
-      let c = changed_here (change (is_running next m)) x.shown m it at in
-      subst (λ l. Tells l it) (sym same_met)
-      (subst (Tells (met ++ map Delivers (drop (length before) now))) (sym (c.is ∙ ap (λ b. change b c.old) runs))
-      (tells_all (drop (length before) now) met c.old
-      (subst (λ l. Shows l c.old) (sym f.entries) (s.shows m c.old c.was)) (f.tells c.old c.was)));
+          let c = changed_here (change (is_running next m)) x.shown m it at in
+          subst (λ l. Tells l it) (sym same_met)
+          (subst (Tells (met ++ map Delivers (drop (length before) now))) (sym (c.is ∙ ap (λ b. change b c.old) runs))
+          (tells_all (drop (length before) now) met c.old
+          (subst (λ l. Shows l c.old) (sym f.entries) (s.shows m c.old c.was)) (f.tells c.old c.was)));
     }
     by_running false stops = record {
       entries = sym (nothing profile servers (s.es ++ e ∷ []) next m (world_more profile servers s.es e x.world s.world) stops);
       down = λ down. refl;
       tells = λ it at.
-      let c = changed_here (change (is_running next m)) x.shown m it at in
-      subst (Tells []) (sym (c.is ∙ ap (λ b. change b c.old) stops)) tells_fresh;
+          let c = changed_here (change (is_running next m)) x.shown m it at in
+          subst (Tells []) (sym (c.is ∙ ap (λ b. change b c.old) stops)) tells_fresh;
     }
 
 -- nothing happens at a server
@@ -218,6 +219,9 @@ world_fires profile law system servers x e m p met is s f = elim (cases_eq p m) 
 
 -- ---- a read
 
+same_number : (a b : ℕ) → (a == b) ≡ true → a ≡ b
+same_number a b is = grind (arith, nat_tests)
+
 -- what stands after it, and was told
 IsFiring : Ensemble → Question → ℕ → List Occasion → Ensemble × Told → Type 0
 IsFiring x question p met next = Fires next.0 p (met_then x p (events.Read question) next met)
@@ -254,7 +258,7 @@ looked_fires x question reply p met runs f = elim (cases_eq p question.server) [
     differs p other = by_eq (question.server == p) refl
       where
         by_eq : (b : Bool) → (question.server == p) ≡ b → b ≡ false
-        by_eq true is = absurd (other (sym (eqb-eq question.server p is)))
+        by_eq true is = absurd (other (sym (same_number question.server p is)))
         by_eq false is = refl
 
     is_met : asked question.server ≡ met ++ Answers question reply ∷ []
@@ -268,8 +272,8 @@ looked_fires x question reply p met runs f = elim (cases_eq p question.server) [
       entries = ap entries_met is_met ∙ entries_more met (Answers question reply ∷ []) ∙ append-nil (entries_met met) ∙ g.entries;
       down = λ down. not_both (is_running x.world question.server) runs down;
       tells = λ it at.
-      let c = changed_here (watching question reply) x.shown question.server it at in
-      subst (λ l. Tells l it) (sym is_met) (subst (Tells (met ++ Answers question reply ∷ [])) (sym c.is) (tells_answer met c.old question reply (g.tells c.old c.was)));
+          let c = changed_here (watching question reply) x.shown question.server it at in
+          subst (λ l. Tells l it) (sym is_met) (subst (Tells (met ++ Answers question reply ∷ [])) (sym c.is) (tells_answer met c.old question reply (g.tells c.old c.was)));
     }
 
 by_test : (P : Ensemble × Told → Type 0) (b : Bool) (one other : Ensemble × Told) → P one → P other → P (cond b one other)
