@@ -1,5 +1,5 @@
 -- What is seen of the code's ensembles and of their servers.
-use Rattle.std.specs.Prelude.{◌≡◌, ℕ, Bool, false, List, [], Option, Some, None, map, refl}
+use Rattle.std.specs.Prelude.{◌≡◌, ℕ, Bool, true, false, List, [], Option, Some, None, map, refl}
 use Rattle.std.specs.Coded.{Coded, code_by, coded×, coded_list, coded_bool, coded_ℕ}
 use Rattle.std.specs.List.{AllByRecursion}
 use Rattle.zab_epoch.specs.declared.quorums.Majority.{Majority}
@@ -93,9 +93,10 @@ abbrev pub server_of : World Call → Event → ℕ
 server_of w (events.World event) = mover w event
 server_of w (events.Read question) = question.server
 
-abbrev pub IsRead : Event → Type 0
-IsRead (events.World event) = ⊥
-IsRead (events.Read question) = Unit {0}
+-- where an event is refused memory: a read leaves all as it was, and after another event the ensemble has failed
+abbrev pub IsRefused : Event → EnsembleView → EnsembleView → Type 0
+IsRefused (events.World event) old new = new.failed ≡ true
+IsRefused (events.Read question) old new = new ≡ old
 
 -- ---- what one of its servers shows; nothing where there is none
 

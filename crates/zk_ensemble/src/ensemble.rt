@@ -53,7 +53,7 @@ impl Model for Ensemble {
 }
 
 impl Ensemble {
-    ghost use Rattle.std.specs.Prelude.{◌≡◌, ◌≢◌, ◌⊎◌, replicate, true, false, IfOk, Err};
+    ghost use Rattle.std.specs.Prelude.{◌≡◌, ◌≢◌, replicate, true, false, IfOk, Err};
     ghost use Rattle.zab_runs.specs.Runs.{delivered_of};
     ghost use Rattle.zab_runs.specs.Worlds.{new_world, is_server};
     ghost use Rattle.zk_primary.specs.Entries.{txns_of};
@@ -63,7 +63,7 @@ impl Ensemble {
     ghost use Rattle.zk_runs.specs.Headline.{IsNextInRun};
     ghost use Rattle.zk_runs.specs.Runs.{answered_of};
     ghost use Rattle.zk_table.specs.Histories.{tree_of};
-    ghost use Rattle.zk_ensemble.specs.Views.{state_of, profile_in, server_of, IsRead, answers_in, events_in, tree_in};
+    ghost use Rattle.zk_ensemble.specs.Views.{state_of, profile_in, server_of, IsRefused, answers_in, events_in, tree_in};
 
     /// A new ensemble of so many servers, all of them up, in which the quorums are the majorities.
     pub fn new(alloc: Global, servers: usize) -> Result<Ensemble, NoMemory>
@@ -99,7 +99,7 @@ impl Ensemble {
             → IsNextInRun (profile_in self.old.below) self.old.below.servers (state_of self.old) event (state_of self.new) }
         ensures same { (self.new.below.quorums ≡ self.old.below.quorums) × (self.new.below.servers ≡ self.old.below.servers) }
         ensures fine { result ≢ Err faults.NoMemory → self.new.failed ≡ false }
-        ensures fails { result ≡ Err faults.NoMemory → (self.new.failed ≡ true) ⊎ (IsRead event × (self.new ≡ self.old)) }
+        ensures refused { result ≡ Err faults.NoMemory → IsRefused event self.old self.new }
         ensures failed { self.old.failed ≡ true → result ≡ Err faults.NoMemory }
     {
         if self.failed {

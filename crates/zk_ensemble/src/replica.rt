@@ -1,4 +1,4 @@
-ghost use Rattle.std.specs.Prelude.{◌≡◌, ◌<◌, ◌-◌, ◌^◌, false, IfOk, OnOk, IfErr, OnErr};
+ghost use Rattle.std.specs.Prelude.{◌≡◌, false, IfOk, OnOk, IfErr, OnErr};
 ghost use Rattle.zk_runs.specs.declared.fault.EnsembleFault.TheVariants as faults;
 ghost use Rattle.zk_runs.specs.Ensembles.{fresh, waiting, take_in, take_all, kind_set, watching, reply_of};
 ghost use Rattle.zk_ensemble.specs.Views.{replica};
@@ -58,7 +58,7 @@ impl Replica {
         requires { self.old.failed ≡ false }
         ensures { OnOk result (self.new ≡ replica (take_in self.old.shown entry.now) false) }
     {
-        make_countable(&mut self.machine)?;
+        self.machine.make_countable()?;
         let Ok(applied) = self.machine.apply(&entry.txn) else {
             return Err(NoMemory);
         };
@@ -150,22 +150,6 @@ impl Replica {
     {
         self.events.as_slice()
     }
-}
-
-/// A machine counts its steps in 64 bits, and a copy begins to count again.
-fn make_countable(machine: &mut Machine) -> Result<(), NoMemory>
-    requires { machine.old.failed ≡ false }
-    ensures state { OnOk result (machine.new.state ≡ machine.old.state) }
-    ensures running { OnOk result (machine.new.failed ≡ false) }
-    ensures room { OnOk result (machine.new.steps < 2 ^ 64 - 1) }
-{
-    let Ok(steps) = machine.steps() else {
-        unreachable!()
-    };
-    if steps == u64::MAX {
-        *machine = machine.copy()?;
-    }
-    Ok(())
 }
 
 /// A session that closes is told nothing of it.

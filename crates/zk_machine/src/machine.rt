@@ -214,6 +214,22 @@ impl Machine {
         Ok(self.steps)
     }
 
+    /// Makes room for a step: steps are counted in 64 bits, and behind the last number the machine begins to count again, as a
+    /// copy does, so that records of its steps are not its own any more. Where memory is refused it is as it was.
+    pub fn make_countable(&mut self) -> Result<(), NoMemory>
+        requires { self.old.failed ≡ false }
+        ensures state { self.new.state ≡ self.old.state }
+        ensures running { self.new.failed ≡ false }
+        ensures room { OnOk result (self.new.steps < 2 ^ 64 - 1) }
+        ensures same { self.old.steps < 2 ^ 64 - 1 → self.new.steps ≡ self.old.steps }
+        ensures err { OnErr result (self.new ≡ self.old) }
+    {
+        if self.steps == u64::MAX {
+            *self = self.copy()?;
+        }
+        Ok(())
+    }
+
     /// Whether memory was refused in the middle of a change.
     pub fn has_failed(&self) -> bool
         ensures { result ≡ self.now.failed }

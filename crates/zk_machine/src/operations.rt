@@ -66,7 +66,7 @@ impl NotedTree {
             return Ok(PartResult::refused(told, NO_NODE));
         };
         let mut node = node.copy()?;
-        node.write(txn, copy_of(content)?, version);
+        node.write(txn, Content::copy_of(content)?, version);
         self.change(path.copy()?, node)?;
         Ok(PartResult::done(told, self.tree.stat(path)))
     }
@@ -164,15 +164,5 @@ impl NotedTree {
         } else {
             None
         }
-    }
-}
-
-/// A copy of a node's content.
-fn copy_of(content: &Option<Content>) -> Result<Option<Content>, NoMemory>
-    ensures { IfOk result (λ copy. copy ≡ content.now) }
-{
-    match content {
-        Some(content) => Ok(Some(content.copy()?)),
-        None => Ok(None),
     }
 }

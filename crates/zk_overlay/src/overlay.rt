@@ -50,16 +50,6 @@ fn count_in(tree: &Tree, path: &str) -> usize
     }
 }
 
-/// A node's content once more.
-fn copy_of(content: &Option<Content>) -> Result<Option<Content>, NoMemory>
-    ensures { IfOk result (λ copy. copy ≡ content.now) }
-{
-    match content {
-        Some(content) => Ok(Some(content.copy()?)),
-        None => Ok(None),
-    }
-}
-
 impl<'a> Overlay<'a> {
     /// The nodes of a tree.
     pub fn new(alloc: Global, tree: &'a Tree) -> Overlay<'a>
@@ -159,7 +149,7 @@ impl<'a> Overlay<'a> {
             return Ok(self);
         };
         let mut node = node.copy()?;
-        node.write(txn, copy_of(content)?, version);
+        node.write(txn, Content::copy_of(content)?, version);
         self.with_other_node(path, node)
     }
 

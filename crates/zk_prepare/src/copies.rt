@@ -5,7 +5,6 @@ ghost use Rattle.zk_prepare.specs.declared.call.Part.TheVariants as asked;
 ghost use Rattle.zk_prepare.specs.declared.call.Request.TheVariants as requests;
 
 use crate::call::{Call, Part, Parts, Request};
-use crate::texts::copy_of;
 use zk_acl::{Acls, Text};
 use zk_path::NoMemory;
 use zk_table::Content;
@@ -48,7 +47,7 @@ fn create_part(
     ensures { IfOk result (λ part. part ≡ asked.Create path.now content.now acl.now flags) }
 {
     let path = path.copy()?;
-    let content = copy_of(content)?;
+    let content = Content::copy_of(content)?;
     let acl = acl.copy()?;
     Ok(Part::Create {
         path,
@@ -62,7 +61,7 @@ fn set_data_part(path: &Text, content: &Option<Content>, version: i32) -> Result
     ensures { IfOk result (λ part. part ≡ asked.SetData path.now content.now version) }
 {
     let path = path.copy()?;
-    let content = copy_of(content)?;
+    let content = Content::copy_of(content)?;
     Ok(Part::SetData {
         path,
         content,
@@ -110,7 +109,7 @@ fn create_request(
     ensures { IfOk result (λ request. request ≡ requests.Create path.now content.now acl.now flags) }
 {
     let path = path.copy()?;
-    let content = copy_of(content)?;
+    let content = Content::copy_of(content)?;
     let acl = acl.copy()?;
     Ok(Request::Create {
         path,
@@ -128,7 +127,7 @@ fn set_data_request(
     ensures { IfOk result (λ request. request ≡ requests.SetData path.now content.now version) }
 {
     let path = path.copy()?;
-    let content = copy_of(content)?;
+    let content = Content::copy_of(content)?;
     Ok(Request::SetData {
         path,
         content,

@@ -6,7 +6,7 @@ ghost use Rattle.zk_prepare.specs.Refusals.{Gives};
 ghost use Rattle.zk_prepare.specs.Requests.{are_flags, is_persistent, is_ephemeral, is_sequential, numbered, path_in, place_below, create_below, create};
 
 use crate::refusal::Refusal;
-use crate::texts::{copy_of, demand, is_legible, kept_acl, path_in, text_above};
+use crate::texts::{demand, is_legible, kept_acl, path_in, text_above};
 use crate::versions::one_more;
 use std::alloc::Global;
 use zk_acl::{Acls, CREATE, Id, allows};
@@ -92,7 +92,7 @@ fn create_below(
     ensures { Gives result (create_below nodes.now auths.now text.now content.now acl flags parent.now) }
 {
     let path = place_below(nodes, auths, text, flags, parent)?;
-    let content = copy_of(content)?;
+    let content = Content::copy_of(content)?;
     Ok(Sub::Create {
         path,
         content,

@@ -1,7 +1,6 @@
 //! The parts of a multi, each prepared on the nodes after those before it.
 
 ghost use Rattle.std.specs.Prelude.{◌≡◌, IfOk};
-ghost use Rattle.zk_txn.specs.Parts.{is_error};
 ghost use Rattle.zk_prepare.specs.Refusals.{Gives};
 ghost use Rattle.zk_prepare.specs.Requests.{part_on, next_part, parts_on};
 
@@ -53,12 +52,6 @@ fn next_part(nodes: &Overlay<'_>, auths: &[Id], refused: bool, part: &Part) -> R
     }
 }
 
-fn is_error(part: &Sub) -> bool
-    ensures { result ≡ is_error part.now }
-{
-    matches!(part, Sub::Error { .. })
-}
-
 /// What the parts of a multi with this header come to, in order.
 pub(crate) fn parts_on(
     nodes: Overlay<'_>,
@@ -74,7 +67,7 @@ pub(crate) fn parts_on(
     for part in parts {
         let next = next_part(&nodes, auths, refused, part)?;
         nodes = nodes.with_part(header, &next)?;
-        refused = is_error(&next);
+        refused = next.is_error();
         made.push(next)?;
     }
     Ok(made)

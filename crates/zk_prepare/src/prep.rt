@@ -1,4 +1,4 @@
-ghost use Rattle.std.specs.Prelude.{◌≡◌, ◌<◌, ◌≤◌, ◌-◌, ◌^◌, List, [], ◌∷◌, ◌++◌, take, drop, length, true, false, IfOk, OnOk, OnErr};
+ghost use Rattle.std.specs.Prelude.{◌≡◌, ◌≤◌, List, [], ◌∷◌, ◌++◌, take, drop, length, true, false, IfOk, OnOk, OnErr};
 ghost use Rattle.zk_txn.specs.declared.txn.Txn.{Txn as Taken};
 ghost use Rattle.zk_table.specs.Histories.{state_after};
 ghost use Rattle.zk_table.specs.States.{State};
@@ -108,25 +108,9 @@ fn advance(machine: &mut Machine, txn: &Txn) -> Result<(), NoMemory>
     ensures stepped { OnOk result (machine.new.state ≡ (step machine.old.state txn.now).0) }
     ensures running { OnOk result (machine.new.failed ≡ false) }
 {
-    make_countable(machine)?;
+    machine.make_countable()?;
     let Ok(_) = machine.advance(txn) else {
         return Err(NoMemory);
     };
-    Ok(())
-}
-
-/// A machine counts its steps in 64 bits, and a copy begins to count again.
-fn make_countable(machine: &mut Machine) -> Result<(), NoMemory>
-    requires { machine.old.failed ≡ false }
-    ensures state { OnOk result (machine.new.state ≡ machine.old.state) }
-    ensures running { OnOk result (machine.new.failed ≡ false) }
-    ensures room { OnOk result (machine.new.steps < 2 ^ 64 - 1) }
-{
-    let Ok(steps) = machine.steps() else {
-        unreachable!()
-    };
-    if steps == u64::MAX {
-        *machine = machine.copy()?;
-    }
     Ok(())
 }

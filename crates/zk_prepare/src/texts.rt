@@ -10,7 +10,6 @@ use crate::refusal::Refusal;
 use std::alloc::Global;
 use zk_acl::{AclFault, Acls, Id, fix};
 use zk_path::{NoMemory, Path, PathFault};
-use zk_table::Content;
 use zk_table::codes::{BAD_ARGUMENTS, INVALID_ACL};
 
 /// Refuses with a code, unless the test holds.
@@ -69,14 +68,4 @@ pub(crate) fn is_first_path(path: &str) -> bool
     ensures { result ≡ is_first_path path.now }
 {
     path == "/" || path == "/zookeeper" || path == "/zookeeper/quota"
-}
-
-/// A node's content once more.
-pub(crate) fn copy_of(content: &Option<Content>) -> Result<Option<Content>, NoMemory>
-    ensures { IfOk result (λ copy. copy ≡ content.now) }
-{
-    match content {
-        Some(content) => Ok(Some(content.copy()?)),
-        None => Ok(None),
-    }
 }

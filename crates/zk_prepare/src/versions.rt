@@ -5,7 +5,7 @@ ghost use Rattle.zk_prepare.specs.Refusals.{Gives};
 ghost use Rattle.zk_prepare.specs.Requests.{matches, one_more, next_version, next_aversion, set_data, check, set_acl};
 
 use crate::refusal::Refusal;
-use crate::texts::{copy_of, demand, kept_acl, path_in};
+use crate::texts::{demand, kept_acl, path_in};
 use zk_acl::{ADMIN, Acls, Id, READ, WRITE, allows};
 use zk_overlay::Overlay;
 use zk_table::codes::{BAD_VERSION, NO_AUTH, NO_NODE};
@@ -72,7 +72,7 @@ pub(crate) fn set_data(
 {
     let path = path_in(nodes.allocator(), text)?;
     let version = next_version(nodes, auths, text, version, WRITE)?;
-    let content = copy_of(content)?;
+    let content = Content::copy_of(content)?;
     Ok(Sub::SetData {
         path,
         content,

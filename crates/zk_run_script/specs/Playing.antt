@@ -1,8 +1,8 @@
 -- What an ensemble answers a command of a run script. This project's own.
-use Rattle.std.specs.Prelude.{◌≡◌, ◌≢◌, ◌++◌, ◌⊎◌, ℕ, List, replicate, Bool, true, false, if◌then◌else◌, Result, Ok, Err, OnOk}
+use Rattle.std.specs.Prelude.{◌≡◌, ◌≢◌, ◌++◌, ℕ, List, replicate, Bool, true, false, if◌then◌else◌, Result, Ok, Err, OnOk}
 use Rattle.zab_runs.specs.Runs.{delivered_of}
 use Rattle.zab_runs.specs.Worlds.{new_world}
-use Rattle.zk_ensemble.specs.Views.{EnsembleView, state_of, profile_in, IsRead, tree_in, answers_in, events_in}
+use Rattle.zk_ensemble.specs.Views.{EnsembleView, state_of, profile_in, IsRefused, tree_in, answers_in, events_in}
 use Rattle.zk_path.specs.declared.memory.NoMemory.{NoMemory}
 use Rattle.zk_request_lines.specs.ReplyLines.{refusal_text}
 use Rattle.zk_run_answers.specs.Answers.{told_text, fault_text, delivered_report, answers_report, events_report, counted_tree}
@@ -30,7 +30,7 @@ pub record Happened (old : EnsembleView) (event : Event) (told : Told) (new : En
   pub acts : told ≢ Err faults.NoMemory → (state_of new, told) ≡ happens (profile_in old.below) (state_of old) event
   pub same : (new.below.quorums ≡ old.below.quorums) × (new.below.servers ≡ old.below.servers)
   pub fine : told ≢ Err faults.NoMemory → new.failed ≡ false
-  pub fails : told ≡ Err faults.NoMemory → (new.failed ≡ true) ⊎ (IsRead event × (new ≡ old))
+  pub refused : told ≡ Err faults.NoMemory → IsRefused event old new
   pub failed : old.failed ≡ true → told ≡ Err faults.NoMemory
 
 -- what is told of a server

@@ -1,6 +1,7 @@
 -- The headline's first half, of every run.
 use Rattle.std.proofs.Common.{◌≡◌, ℕ, ℤ, pos, ◌≤ℤ◌, ◌⊎◌, Bool, true, false, cond, List, [], ◌∷◌, ◌++◌, take, Option, Some, None, Result, Ok, Err, refl, sym, ap, subst, ◌∙◌, int_lt, arith}
 use Rattle.std.proofs.lemmas.Bool.Decides.{nat_tests}
+use Rattle.std.specs.Int.{w64, cast_unsigned}
 use Rattle.std.proofs.lemmas.Int.{ints}
 use Rattle.zab_epoch.specs.declared.history.Entry.{Entry}
 use Rattle.zab_epoch.specs.Quorums.{IsQuorumSystem}
@@ -24,15 +25,24 @@ use Rattle.zk_runs.specs.declared.event.Question.{Question}
 use Rattle.zk_runs.specs.declared.fault.EnsembleFault.{EnsembleFault}
 use Rattle.zk_runs.specs.declared.fault.EnsembleFault.TheVariants as faults
 use Rattle.zk_runs.specs.Refusals.{ensemble_fault_of}
-use Rattle.zk_runs.specs.Ensembles.{Ensemble, Shown, Told, new_ensemble, looks, reads, shown_at, reply_of}
-use Rattle.zk_runs.specs.Headline.{Shows, IsShown, IsAnswered, Headline, last_zxid}
+use Rattle.zk_runs.specs.Ensembles.{Ensemble, Shown, Told, new_ensemble, looks, reads, shown_at, reply_of, waiting, waiting_by}
+use Rattle.zk_runs.specs.Headline.{Shows, IsShown, IsAnswered, ClosingIsUntold, Headline, last_zxid}
+use Rattle.zk_runs.specs.Occasions.{met_after, entries_met, fired_in}
 use Rattle.zk_runs.specs.Runs.{in_world, world_count, ensemble_after, shown_after, delivered_after, history_after}
+use Rattle.zk_runs.proofs.Firing.{fires_in_run}
 use Rattle.zk_runs.proofs.Lists.{is_there}
 use Rattle.zk_runs.proofs.ReadLaws.{earlier_is_prefix, last_of_the_list}
 use Rattle.zk_runs.proofs.Standing.{stands_in_run}
 use Rattle.zk_runs.proofs.Worlds.{take_in_world, delivered_then, history_then, answer_at}
 use Rattle.zk_txn.specs.declared.read.ReadReply.{ReadReply}
+use Rattle.zk_txn.specs.declared.txn.Op.TheVariants.{CloseSession}
+use Rattle.zk_txn.specs.declared.txn.Txn.{Txn}
+use Rattle.zk_machine.specs.Changes.{changes_of}
 use Rattle.zk_table.specs.Histories.{tree_of}
+use Rattle.zk_watch.proofs.Dropped.{stay_untold}
+use Rattle.zk_watch.specs.declared.watch.Watch.{Watch}
+use Rattle.zk_watch.specs.Watching.{fired_by, without_session}
+use Rattle.zk_watch.specs.WatchLaws.{is_told}
 
 -- ---- a read that was answered
 
@@ -73,6 +83,16 @@ looked profile servers some place question reply a =
     let x : Ensemble = ensemble_after profile servers some place in
     reads_told x question reply (running x.world.servers question.server)
     (same_told _ _ (sym (answer_at profile (new_ensemble servers) some place (events.Read question) a.asked) ∙ a.told))
+
+-- ---- a session that closes
+
+waits_without : (txn : Txn) (watches : List Watch) → txn.op ≡ CloseSession → waiting txn watches ≡ without_session (cast_unsigned w64 txn.session) watches
+waits_without txn watches is = ap (λ op. waiting_by op txn.session watches) is
+
+closing_untold : ClosingIsUntold
+closing_untold tree txn watches is =
+    ap (λ ws. is_told (cast_unsigned w64 txn.session) (fired_by (changes_of tree txn) ws)) (waits_without txn watches is)
+    ∙ stay_untold (cast_unsigned w64 txn.session) (changes_of tree txn) watches
 
 -- ---- lists that rise
 
@@ -127,5 +147,11 @@ module _ (profile : Profile Call) (law : CarriesZxid profile.setting) (system : 
       earlier_is_prefix (λ entry. entry.txn.zxid) (pos 0) _ _ (one_order count place number question.server) (delivered_rises count number)
       (not_behind (last_zxid (delivered_after profile servers some count number)) (last_zxid (delivered_after profile servers some place question.server)) question.seen near ends)
 
+  met : (count number : ℕ) → entries_met (met_after profile servers some count number) ≡ delivered_after profile servers some count number
+  met count number = (fires_in_run profile law system servers (take count some) number).entries
+
+  fired : (count number : ℕ) (it : Shown) → shown_after profile servers some count number ≡ Some it → it.events ≡ fired_in (met_after profile servers some count number)
+  fired count number it is = ((fires_in_run profile law system servers (take count some) number).tells it is).events
+
   pub headline : Headline profile servers some
-  headline = record { shown = shown; told = told; one_order = one_order; origins = made; never_back = never_back }
+  headline = record { shown = shown; told = told; met = met; fired = fired; closing = closing_untold; one_order = one_order; origins = made; never_back = never_back }

@@ -1,4 +1,5 @@
 pub mod Consequences
+pub mod Firing
 pub mod Following
 pub mod Headlines
 pub mod Lists

@@ -32,7 +32,7 @@ answered_are_results entries = results_are start_state entries
 
 -- ---- a server
 
-shows_in : (d : List Entry) (s : Shown) (e : Entry) → Shows d s → Shows (d ++ e ∷ []) (take_in s e)
+pub shows_in : (d : List Entry) (s : Shown) (e : Entry) → Shows d s → Shows (d ++ e ∷ []) (take_in s e)
 shows_in d s e h = record {
   tree = ap (λ t. (step t e.txn).0) h.tree ∙ sym (state_more start_state d e);
   answers = ap (λ (l : List Answered). l ++ answered e (step s.tree e.txn).1 ∷ []) h.answers

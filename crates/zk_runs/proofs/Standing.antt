@@ -42,11 +42,11 @@ grows profile law system servers es e w p is runs =
     subst (λ v. IsPrefix (delivered_of v p) (delivered_of (worlds.happens profile v e).0 p)) (sym is)
     (keeps.more p (λ crash. not_both (is_running (worlds.happens profile w e).0 p) runs (ap (λ event. is_running (worlds.happens profile w event).0 p) crash ∙ down_after_crash profile w p)))
 
-world_more : (profile : Profile Call) (servers : ℕ) (es : List (WorldEvent Call)) (e : WorldEvent Call) (w : World Call) → w ≡ zab.after profile (new_world servers) es → (worlds.happens profile w e).0 ≡ zab.after profile (new_world servers) (es ++ e ∷ [])
+pub world_more : (profile : Profile Call) (servers : ℕ) (es : List (WorldEvent Call)) (e : WorldEvent Call) (w : World Call) → w ≡ zab.after profile (new_world servers) es → (worlds.happens profile w e).0 ≡ zab.after profile (new_world servers) (es ++ e ∷ [])
 world_more profile servers es e w is = ap (λ v. (worlds.happens profile v e).0) is ∙ sym (zab_laws.after_more profile (new_world servers) es e)
 
 -- and one that does not run has delivered nothing
-nothing : (profile : Profile Call) (servers : ℕ) (es : List (WorldEvent Call)) (w : World Call) (p : ℕ) → w ≡ zab.after profile (new_world servers) es → is_running w p ≡ false → delivered_of w p ≡ []
+pub nothing : (profile : Profile Call) (servers : ℕ) (es : List (WorldEvent Call)) (w : World Call) (p : ℕ) → w ≡ zab.after profile (new_world servers) es → is_running w p ≡ false → delivered_of w p ≡ []
 nothing profile servers es w p is down =
     ap (λ v. delivered_of v p) is ∙ down_has_nothing profile servers es p (ap (λ v. is_running v p) (sym is) ∙ down)
 

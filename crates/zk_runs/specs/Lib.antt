@@ -2,5 +2,6 @@
 pub mod Consequences
 pub mod Ensembles
 pub mod Headline
+pub mod Occasions
 pub mod Refusals
 pub mod Runs

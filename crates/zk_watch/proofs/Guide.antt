@@ -51,7 +51,7 @@ told_once c (w ∷ ws) = by_life (is_live (spent_by c w)) (told_once c ws)
 -- ---- who sets a watch is told
 
 -- of the watches v ∷ ws
-told_first : (c : Change) (session : ℕ) (v : Watch) (ws : List Watch) → is_told session (told_by c (v ∷ ws)) ≡ ((is_hit c v && v.session == session) || is_told session (told_by c ws))
+pub told_first : (c : Change) (session : ℕ) (v : Watch) (ws : List Watch) → is_told session (told_by c (v ∷ ws)) ≡ ((is_hit c v && v.session == session) || is_told session (told_by c ws))
 told_first c session v ws = by_hit (is_hit c v)
   where
     by_hit : (b : Bool) → is_told session (map (told c) (cond b (v ∷ filter (is_hit c) ws) (filter (is_hit c) ws))) ≡ ((b && v.session == session) || is_told session (told_by c ws))
@@ -62,7 +62,7 @@ or_true : (a : Bool) → (a || true) ≡ true
 or_true true = refl
 or_true false = refl
 
-and_false : (a : Bool) → (a && false) ≡ false
+pub and_false : (a : Bool) → (a && false) ≡ false
 and_false true = refl
 and_false false = refl
 

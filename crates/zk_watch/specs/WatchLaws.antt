@@ -36,6 +36,10 @@ TwiceIsOnce = (session : ℕ) (kind : WatchKind) (path : List ℕ) (ws : List Wa
 abbrev pub DroppedAreToldNothing : Type 0
 DroppedAreToldNothing = (session : ℕ) (change : Change) (ws : List Watch) → told_by change (without_session session ws) ≡ filter (λ e. not (e.session == session)) (told_by change ws)
 
+-- and it is told of no later change either
+abbrev pub DroppedStayUntold : Type 0
+DroppedStayUntold = (session : ℕ) (changes : List Change) (ws : List Watch) → is_told session (fired_by changes (without_session session ws)) ≡ false
+
 -- by path, then by session
 abbrev pub event_cmp : Fired → Fired → Ordering
 event_cmp a b = ordering_then (path_cmp a.path b.path) (nat_cmp a.session b.session)

@@ -1,5 +1,5 @@
 //! What holds of every list of watches. The calls do nothing: each is there for its contract.
-ghost use Rattle.zk_watch.specs.WatchLaws.{WatchesAreToldOnce, SetWatchesAreTold, OthersStay, TwiceIsOnce, DroppedAreToldNothing, EventsRise, EventsComeByInstruction, EventsOfInstructionsRise};
+ghost use Rattle.zk_watch.specs.WatchLaws.{WatchesAreToldOnce, SetWatchesAreTold, OthersStay, TwiceIsOnce, DroppedAreToldNothing, DroppedStayUntold, EventsRise, EventsComeByInstruction, EventsOfInstructionsRise};
 
 use zk_machine::instructions_change_in_one_way;
 
@@ -15,9 +15,10 @@ pub fn set_watches_are_told()
     ensures twice { TwiceIsOnce }
 {}
 
-/// A session that was dropped is told nothing, and the others what they would have been told.
+/// A session that was dropped is told nothing, of later changes neither, and the others what they would have been told.
 pub fn dropped_are_told_nothing()
-    ensures { DroppedAreToldNothing }
+    ensures others { DroppedAreToldNothing }
+    ensures later { DroppedStayUntold }
 {}
 
 /// The events of changes at rising paths are in the order of paths and then of sessions' digits, one for each path and

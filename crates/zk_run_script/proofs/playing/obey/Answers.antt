@@ -12,7 +12,7 @@ returns-in-Happens c =
       acts = c.step-told.ensures.acts;
       same = c.step-told.ensures.same;
       fine = c.step-told.ensures.fine;
-      fails = c.step-told.ensures.fails;
+      refused = c.step-told.ensures.refused;
       failed = c.step-told.ensures.failed;
     } in
     let answer : List ℕ = line (told_text c.step-told.result) in
