@@ -24,11 +24,11 @@ pub(crate) fn debug_lines() -> &'static str {
   tree                the tree at the place
   node PATH           one node of it
   last                what the transaction that leads to the place was answered
-  break at ZXID       sets a breakpoint: on a zxid,
-  break path PATH     a path that a transaction or a part of it names, or a closed session deletes,
-  break session ID    a session,
-  break kind WORD     a kind of transaction,
-  break error         or an answer whose code is not 0
+  break at ZXID       sets a breakpoint on a zxid
+  break path PATH     on a path that a transaction or a part names, or a closed session deletes
+  break session ID    on a session
+  break kind WORD     on a kind of transaction
+  break error         on an answer whose code is not 0
   clear N             takes breakpoint N away
   reset               back to the start; breakpoints stay
 
@@ -50,7 +50,7 @@ pub(crate) fn run_lines() -> &'static str {
   follow P Q          server P is told to follow Q
   arrive K            message K comes to its addressee
   crash P             server P stops
-  restart P           and starts again
+  restart P           server P starts again
   submit P TAG SESSION CXID NOW AUTHS REQUEST
                       a client submits a request at P
   expire P TAG SESSION NOW
@@ -58,7 +58,7 @@ pub(crate) fn run_lines() -> &'static str {
   read P SESSION SEEN AUTHS READ
                       a client reads at P
   delivered P         the entries that P has delivered
-  answers P           and what each of them was answered
+  answers P           what each of them was answered
   events P            what the watches at P have told
   tree P              the tree of P
 
@@ -69,7 +69,7 @@ A REQUEST:
   setacl PATH ACL VERSION
   open TIMEOUT
   close
-  multi               and for each part ` ; ` and a create, delete or set, or
+  multi               and ` ; ` before each part: a create, delete or set, or a
   check PATH VERSION
 
 A READ:
