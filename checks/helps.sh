@@ -6,11 +6,17 @@ work=$(mktemp -d)
 trap 'rm -rf "$work"' EXIT
 zk=crates/zk_cli/out/zk_cli
 faults=docs/FAULTS.md
-debug_lines=crates/zk_script/specs/Commands.antt
-run_lines="crates/zk_run_commands/specs/Commands.antt crates/zk_request_lines/specs/RequestLines.antt"
-fault_lines=crates/zk_orders/specs/FaultLines.antt
-debug_numbers=crates/zk_script/specs/Answers.antt
-run_numbers=crates/zk_run_answers/specs/Answers.antt
+
+# defining PATTERN: the files whose definitions have a line that begins so
+defining() {
+    grep -lE "^($1)" crates/*/specs/*.antt
+}
+
+debug_lines=$(defining 'command_text commands\.Step')
+run_lines=$(defining 'SpellsWorldEvent \(Lead|SpellsRequest \(requests\.Create')
+fault_lines=$(defining 'line_of_log_fault log_faults\.Header')
+debug_numbers=$(defining 'fault_text faults\.AtEnd')
+run_numbers=$(defining 'fault_text \(faults\.Behind')
 
 # texts_in FILE..: the texts that definitions spell, each on a line; the scheme of an identity is no word of a line
 texts_in() {
@@ -40,10 +46,10 @@ for order in show list asm debug run; do
 done
 
 # want of memory is told by a word, whatever was read, and never as G8 or L8
-for number in $(texts_in "$fault_lines" "$debug_numbers" "$run_numbers" | grep -o '\b[BEGL][0-9]\b' | sort -u | grep -v '[GL]8'); do
+for number in $(texts_in $fault_lines $debug_numbers $run_numbers | grep -o '\b[BEGL][0-9]\b' | sort -u | grep -v '[GL]8'); do
     grep -qE "^\\| (\`zk: )?$number\\b" "$faults"
 done
-for word in $(texts_in "$fault_lines" | grep -o '^zk: [a-z][a-z0-9]*' | sed 's/^zk: //' | sort -u) read write memory utf8; do
+for word in $(texts_in $fault_lines | grep -o '^zk: [a-z][a-z0-9]*' | sed 's/^zk: //' | sort -u) read write memory utf8; do
     grep -qE "^\\| \`zk: $word\\b" "$faults"
 done
 echo "helps: the words of scripts, and each fault"
