@@ -6,8 +6,11 @@
 ghost use Rattle.std.specs.Prelude.{◌≢◌, ◌↔◌, IsTrue};
 ghost use Rattle.clap.specs.declared.error.kind.ErrorKind.TheVariants as kinds;
 
+mod helps;
+
 pub use clap::error::ErrorKind;
 use clap::{Arg, Command, Error};
+use helps::{asm_notes, debug_lines, faults, run_lines};
 use std::alloc::{AllocError, Global};
 use std::fmt;
 
@@ -83,11 +86,13 @@ fn refusal_by(alloc: Global, error: &Error) -> Result<Refusal, AllocError> {
 fn command<'a>(alloc: Global) -> Result<Command<'a>, AllocError> {
     let list = Command::new(alloc, "list")
         .about("Lists the transactions of a log, one line for each")
+        .after_help(faults())
         .arg(log_arg(alloc))?;
     Command::new(alloc, "zk")
         .bin_name("zk")?
         .version("0.1.0")
         .about("Looks at transaction logs of ZooKeeper 3.4, and runs its servers")
+        .after_help(faults())
         .subcommand_required(true)
         .subcommand(show_command(alloc)?)?
         .subcommand(list)?
@@ -103,6 +108,7 @@ fn show_command<'a>(alloc: Global) -> Result<Command<'a>, AllocError> {
     );
     Command::new(alloc, "show")
         .about("Shows the tree that a transaction log leads to")
+        .after_help(faults())
         .arg(log_arg(alloc))?
         .arg(zxid)
 }
@@ -117,6 +123,7 @@ fn asm_command<'a>(alloc: Global) -> Result<Command<'a>, AllocError> {
     );
     Command::new(alloc, "asm")
         .about("Makes the log, with dbid 0, that a listing spells")
+        .after_help(asm_notes())
         .arg(text)?
         .arg(file)
 }
@@ -128,6 +135,7 @@ fn debug_command<'a>(alloc: Global) -> Result<Command<'a>, AllocError> {
         .help("The script: a path, or @ for standard input");
     Command::new(alloc, "debug")
         .about("Answers the lines of a debug script over a log")
+        .after_help(debug_lines())
         .arg(log_arg(alloc))?
         .arg(script)
 }
@@ -139,6 +147,7 @@ fn run_command<'a>(alloc: Global) -> Result<Command<'a>, AllocError> {
         .help("The script: a path, or @ for standard input");
     Command::new(alloc, "run")
         .about("Answers the lines of a run script")
+        .after_help(run_lines())
         .arg(script)
 }
 
