@@ -354,12 +354,7 @@ fn refused_listings_leave_the_output_empty(rt: HostRuntime) -> Result<(), Fail> 
 }
 
 /// An order, the log in hexadecimal digits, the text that is read beside it or in place of it, and the line of the fault.
-type FaultRow = (
-    Order,
-    &'static [&'static str],
-    &'static [u8],
-    &'static str,
-);
+type FaultRow = (Order, &'static [&'static str], &'static [u8], &'static str);
 
 /// A fault of each kind that needs no failing device.
 static FAULTS: [FaultRow; 22] = [

@@ -197,11 +197,17 @@ fn part_of_a_count_is_short(rt: HostRuntime) {
     assert!(rt; is_old_create(rt.alloc(), &SECOND[..72]));
     assert!(rt; is_written_back(rt.alloc(), &SECOND[..72]));
     for length in [71, 73, 74, 75] {
-        assert_eq!(rt; fault_of(rt.alloc(), &SECOND[..length]), Some(JuteFault::Short));
+        assert_eq!(rt;
+            fault_of(rt.alloc(), &SECOND[..length]),
+            Some(JuteFault::Short)
+        );
     }
     assert!(rt; is_create(rt.alloc(), &SECOND));
     let longer = longer_create(rt.alloc()).expect(&rt, "memory");
-    assert_eq!(rt; fault_of(rt.alloc(), longer.as_slice()), Some(JuteFault::Trailing));
+    assert_eq!(rt;
+        fault_of(rt.alloc(), longer.as_slice()),
+        Some(JuteFault::Trailing)
+    );
 }
 
 /// What stands before the body of a multi's only part, a create: the last byte is the body's length.

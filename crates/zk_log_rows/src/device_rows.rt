@@ -17,8 +17,14 @@ fn loaded_by_bytes(
 
 #[test]
 fn each_byte_takes_a_turn_and_the_end_one_more(rt: HostRuntime) {
-    assert_eq!(rt; loaded_by_bytes(rt.alloc(), 199, None), Err(LogFault::Endless));
-    assert_eq!(rt; loaded_by_bytes(rt.alloc(), 200, None), Ok((3, Ending::Whole)));
+    assert_eq!(rt;
+        loaded_by_bytes(rt.alloc(), 199, None),
+        Err(LogFault::Endless)
+    );
+    assert_eq!(rt;
+        loaded_by_bytes(rt.alloc(), 200, None),
+        Ok((3, Ending::Whole))
+    );
 }
 
 /// The first of the 200 reads whose failure is not told.
@@ -35,7 +41,10 @@ fn untold_read(alloc: Global) -> Option<u64> {
 fn each_failed_read_is_told(rt: HostRuntime) {
     assert_eq!(rt; untold_read(rt.alloc()), None);
     // A read that is not needed is not made.
-    assert_eq!(rt; loaded_by_bytes(rt.alloc(), 999, Some(200)), Ok((3, Ending::Whole)));
+    assert_eq!(rt;
+        loaded_by_bytes(rt.alloc(), 999, Some(200)),
+        Ok((3, Ending::Whole))
+    );
 }
 
 /// The first log with another checksum of its second entry.
@@ -50,7 +59,10 @@ fn a_fault_is_told_before_a_later_read_fails(rt: HostRuntime) {
     let log = damaged_log();
     // Read 160 would fail; the second entry ends with byte 153.
     let reader = DripIn::new(&log, 1, Some(159));
-    assert_eq!(rt; loaded(rt.alloc(), reader, 999), Err(LogFault::Checksum(65)));
+    assert_eq!(rt;
+        loaded(rt.alloc(), reader, 999),
+        Err(LogFault::Checksum(65))
+    );
 }
 
 /// The first of the 199 writes whose failure is not told, or leaves other bytes than those before it.
@@ -89,7 +101,10 @@ impl Read for Interrupted {
 #[test]
 fn an_interrupted_read_is_a_failure(rt: HostRuntime) {
     let mut source = Source::new(Interrupted { reads: 0 });
-    assert_eq!(rt; load(rt.alloc(), &mut source, 9).err(), Some(LogFault::Read));
+    assert_eq!(rt;
+        load(rt.alloc(), &mut source, 9).err(),
+        Some(LogFault::Read)
+    );
     assert_eq!(rt; (source.reads(), source.failures()), (1, 1));
     assert_eq!(rt; source.into_inner().reads, 1);
 }
