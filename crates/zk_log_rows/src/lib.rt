@@ -4,4 +4,6 @@
 #![tactic(auto)]
 
 #[cfg(test)]
+mod asked_rows;
+#[cfg(test)]
 mod log_rows;
