@@ -133,16 +133,15 @@ break at 0000000100000005
 break session 0100000000000001
 break kind delete
 break error
-run
-last
 clear 3
 run
+last
 run
-clear 1
+run
 runback
-break path "/lock"
 node "/lock"
 run
+break path "/lock"
 END
 "$zk" debug "$work/lock.log" "$work/breaks.script" >"$work/breaks.answers"
 refuse_each "$work/breaks.answers" debug "$work/lock.log" "$work/breaks.script"

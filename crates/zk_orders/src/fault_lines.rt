@@ -18,8 +18,10 @@ pub(crate) fn placeless_log_line(fault: LogFault) -> Option<&'static str>
         LogFault::Read => Some("zk: G6\n"),
         LogFault::Endless => Some("zk: G7\n"),
         LogFault::NoMemory => Some("zk: G8\n"),
-        LogFault::Checksum(_) | LogFault::Record(..) | LogFault::Order(_) | LogFault::TooLong(_) =>
-            None,
+        LogFault::Checksum(_) => None,
+        LogFault::Record(..) => None,
+        LogFault::Order(_) => None,
+        LogFault::TooLong(_) => None,
     }
 }
 
@@ -32,7 +34,9 @@ pub(crate) fn placeless_asm_line(fault: AsmFault) -> Option<&'static str>
         AsmFault::Read => Some("zk: read\n"),
         AsmFault::Utf8 => Some("zk: utf8\n"),
         AsmFault::NoMemory => Some("zk: memory\n"),
-        AsmFault::Listing(_) | AsmFault::Order(_) | AsmFault::Length(_) => None,
+        AsmFault::Listing(_) => None,
+        AsmFault::Order(_) => None,
+        AsmFault::Length(_) => None,
     }
 }
 
