@@ -3,7 +3,8 @@
 # examples/first_log_head.log, lists the first log, and makes it of its listing; and the same for a log with a path of 200
 # bytes and contents that are longer than a page of output. Each run must end with the whole output, or with `zk: memory`,
 # status 1, and a part of the output from its front. A debug script and a run script may also go on behind a line that tells
-# the refusal, `B4` or `E9`: a debugger that failed tells `B5` until it is reset, an ensemble that failed tells `E9` for good.
+# the refusal, `B4` or `E9`: a debugger that failed tells `B5` until it is reset, an ensemble that failed tells `E9` for good, and
+# where a breakpoint or a read with its watch is refused, the rest is as if its line were not there.
 set -euo pipefail
 work=$(mktemp -d)
 trap 'rm -rf "$work"' EXIT
@@ -24,12 +25,30 @@ goes_on() {
         }' "$1" "$work/out"
 }
 
+# is_left_out REFUSED WORD.. SCRIPT: whether the output is what `zk WORD..` answers to the script without the line that is
+# answered REFUSED, but for that answer. Up to there each line of the script has one of the output.
+is_left_out() {
+    local refused=$1 words=("${@:2:$#-2}") script=${!#} line
+    line=$(grep -n -m 1 -x "$refused" "$work/out" | cut -d : -f 1)
+    [ -n "$line" ] || return 1
+    sed "${line}d" "$script" >"$work/shorter"
+    "$zk" "${words[@]}" "$work/shorter" >"$work/rest"
+    {
+        head -n "$((line - 1))" "$work/rest"
+        echo "$refused"
+        tail -n "+$line" "$work/rest"
+    } | cmp -s - "$work/out" || return 1
+    left_out=$((left_out + 1))
+}
+
 # refuse_each WHOLE WORD..: runs `zk WORD..`, whose output without a refusal is the file WHOLE; leaves in `parts` how many
-# refused runs had written something, and in `lines` how many had told the refusal by a line
+# refused runs had written something, in `lines` how many had told the refusal by a line, and in `left_out` how many of these
+# went on as if that line were not there
 refuse_each() {
     local whole=$1 count=0 status
     parts=0
     lines=0
+    left_out=0
     shift
     while :; do
         count=$((count + 1))
@@ -41,8 +60,8 @@ refuse_each() {
             if ! cmp -s "$work/out" "$whole"; then
                 lines=$((lines + 1))
                 case $1 in
-                debug) goes_on "$whole" B4 B5 ;;
-                run) goes_on "$whole" E9 E9 ;;
+                debug) goes_on "$whole" B4 B5 || is_left_out B4 "$@" ;;
+                run) goes_on "$whole" E9 E9 || is_left_out E9 "$@" ;;
                 *) cmp "$work/out" "$whole" ;;
                 esac
             fi
@@ -106,3 +125,28 @@ refuse_each "$work/lock.answers" debug "$work/lock.log" "$work/lock.script"
 [ "$lines" -gt 0 ]
 refuse_each examples/runs/two_creates_of_one_path.answers run examples/runs/two_creates_of_one_path.script
 [ "$lines" -gt 0 ]
+
+# breakpoints of each kind, which stop the moves behind them
+cat >"$work/breaks.script" <<END
+break path "/lock/holder"
+break at 0000000100000005
+break session 0100000000000001
+break kind delete
+break error
+clear 3
+run
+last
+run
+run
+runback
+node "/lock"
+run
+break path "/lock"
+END
+"$zk" debug "$work/lock.log" "$work/breaks.script" >"$work/breaks.answers"
+refuse_each "$work/breaks.answers" debug "$work/lock.log" "$work/breaks.script"
+[ "$left_out" -gt 0 ]
+
+# multis, reads that are answered, and watches that are set and fired
+refuse_each examples/runs/multi_fires_watches.answers run examples/runs/multi_fires_watches.script
+[ "$left_out" -gt 0 ]

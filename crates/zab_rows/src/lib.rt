@@ -8,4 +8,8 @@ mod broadcast_rows;
 #[cfg(test)]
 mod epoch_rows;
 #[cfg(test)]
+mod fault_rows;
+#[cfg(test)]
 mod refusal_rows;
+#[cfg(test)]
+mod term_rows;

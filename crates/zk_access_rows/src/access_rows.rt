@@ -157,6 +157,23 @@ fn entries_allow_by_bit_and_identity(rt: HostRuntime) {
     }
 }
 
+/// Each bit of permission by its name, and what all of them are.
+static PERMS: [(u32, u32); 6] = [
+    (READ, 1),
+    (WRITE, 2),
+    (CREATE, 4),
+    (DELETE, 8),
+    (ADMIN, 16),
+    (ALL, 31),
+];
+
+#[test]
+fn permissions_have_their_bits(rt: HostRuntime) {
+    for (perm, bit) in &PERMS {
+        assert_eq!(rt; perm, bit);
+    }
+}
+
 /// Whether want of memory is shown by this code.
 fn is_shown_as(alloc: Global, fault: AclFault, code: &str) -> Result<bool, NoMemory> {
     Ok(format!(in alloc; "{fault}")?.as_str() == code)

@@ -8,6 +8,8 @@ mod debug_tests;
 mod run_tests;
 #[cfg(test)]
 mod tests;
+#[cfg(test)]
+mod text_tests;
 
 use act::act;
 use std::io::{Read, Write};

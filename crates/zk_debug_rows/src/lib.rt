@@ -5,3 +5,5 @@
 
 #[cfg(test)]
 mod debug_rows;
+#[cfg(test)]
+mod fault_rows;

@@ -11,6 +11,8 @@ mod event_rows;
 #[cfg(test)]
 mod events;
 #[cfg(test)]
+mod fault_rows;
+#[cfg(test)]
 mod read_rows;
 #[cfg(test)]
 mod reports;

@@ -4,6 +4,8 @@
 #![tactic(auto)]
 
 #[cfg(test)]
+mod fault_rows;
+#[cfg(test)]
 mod jute_rows;
 #[cfg(test)]
 mod listing_rows;

@@ -1,6 +1,7 @@
 //! The readers of fields. Each takes a field from the front of its input: a field that isn't quoted ends at a space, at
-//! a newline or at the end of the input. After a refusal the input stands where it was.
-ghost use Rattle.std.specs.Prelude.{◌≡◌, FitsSigned, OnErr, OnOk};
+//! a newline or at the end of the input. After a refusal the input stands where it was. A reader that is handed no
+//! allocator takes no memory, and never tells want of it.
+ghost use Rattle.std.specs.Prelude.{◌≡◌, ◌≢◌, FitsSigned, IfErr, OnErr, OnOk};
 ghost use Rattle.std.specs.Fmt.{signed_decimal};
 ghost use Rattle.std.specs.Int.{w32, w64};
 ghost use Rattle.std.specs.Str.{IsUtf8};
@@ -39,6 +40,7 @@ pub fn read_id(input: &mut &str) -> Result<i64, ListCause>
     ensures found { ReadsFound (λ x. x) id_digits (FitsSigned w64) result input.old.now input.new.now }
     ensures only { ReadsOnly (λ x. x) id_digits (FitsSigned w64) result input.old.now input.new.now }
     ensures unchanged { OnErr result (input.new.now ≡ input.old.now) }
+    ensures memory { IfErr result (λ cause. cause ≢ ListCause.NoMemory) }
 {
     let mut rest = *input;
     let read = id(&mut rest);
@@ -50,6 +52,7 @@ pub fn read_int(input: &mut &str) -> Result<i32, ListCause>
     ensures found { ReadsFound (λ x. x) signed_decimal (FitsSigned w32) result input.old.now input.new.now }
     ensures only { ReadsOnly (λ x. x) signed_decimal (FitsSigned w32) result input.old.now input.new.now }
     ensures unchanged { OnErr result (input.new.now ≡ input.old.now) }
+    ensures memory { IfErr result (λ cause. cause ≢ ListCause.NoMemory) }
 {
     let mut rest = *input;
     let read = int(&mut rest);
@@ -61,6 +64,7 @@ pub fn read_long(input: &mut &str) -> Result<i64, ListCause>
     ensures found { ReadsFound (λ x. x) signed_decimal (FitsSigned w64) result input.old.now input.new.now }
     ensures only { ReadsOnly (λ x. x) signed_decimal (FitsSigned w64) result input.old.now input.new.now }
     ensures unchanged { OnErr result (input.new.now ≡ input.old.now) }
+    ensures memory { IfErr result (λ cause. cause ≢ ListCause.NoMemory) }
 {
     let mut rest = *input;
     let read = long(&mut rest);

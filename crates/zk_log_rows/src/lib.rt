@@ -4,6 +4,8 @@
 #![tactic(auto)]
 
 #[cfg(test)]
+mod asked_rows;
+#[cfg(test)]
 mod device_rows;
 #[cfg(test)]
 mod log_rows;

@@ -4,6 +4,8 @@
 #![tactic(auto)]
 
 #[cfg(test)]
+mod fault_rows;
+#[cfg(test)]
 mod machine_rows;
 #[cfg(test)]
 mod read_rows;

@@ -1,12 +1,44 @@
-ghost use Rattle.std.specs.Prelude.{◌≡◌, IfOk};
+ghost use Rattle.std.specs.Prelude.{◌≡◌, IfNone, IfOk, IfSome};
 ghost use Rattle.std.specs.String.{string_bytes};
-ghost use Rattle.zk_orders.specs.FaultLines.{line_of_log_fault, line_of_list_fault, line_of_asm_fault, line_of_script_fault, number_of_cause};
+ghost use Rattle.zk_orders.specs.FaultLines.{TellsPlace, line_of_log_fault, line_of_list_fault, line_of_asm_fault, line_of_script_fault, number_of_cause};
 
 use crate::assembling::AsmFault;
 use std::alloc::Global;
 use zk_listing::{ListCause, ListFault};
 use zk_log::LogFault;
 use zk_path::NoMemory;
+
+/// The line that tells why a log was refused, where it tells no place. It takes no memory.
+pub(crate) fn placeless_log_line(fault: LogFault) -> Option<&'static str>
+    ensures line { IfSome result (λ line. line.now ≡ line_of_log_fault fault) }
+    ensures place { IfNone result (TellsPlace (line_of_log_fault fault)) }
+{
+    match fault {
+        LogFault::Header => Some("zk: G1\n"),
+        LogFault::Read => Some("zk: G6\n"),
+        LogFault::Endless => Some("zk: G7\n"),
+        LogFault::NoMemory => Some("zk: G8\n"),
+        LogFault::Checksum(_) => None,
+        LogFault::Record(..) => None,
+        LogFault::Order(_) => None,
+        LogFault::TooLong(_) => None,
+    }
+}
+
+/// The line that tells why a text was refused, where it tells no place. It takes no memory.
+pub(crate) fn placeless_asm_line(fault: AsmFault) -> Option<&'static str>
+    ensures line { IfSome result (λ line. line.now ≡ line_of_asm_fault fault) }
+    ensures place { IfNone result (TellsPlace (line_of_asm_fault fault)) }
+{
+    match fault {
+        AsmFault::Read => Some("zk: read\n"),
+        AsmFault::Utf8 => Some("zk: utf8\n"),
+        AsmFault::NoMemory => Some("zk: memory\n"),
+        AsmFault::Listing(_) => None,
+        AsmFault::Order(_) => None,
+        AsmFault::Length(_) => None,
+    }
+}
 
 /// The line that tells why a log was refused: the fault's number, and the offset of its entry.
 pub fn log_line(alloc: Global, fault: LogFault) -> Result<String, NoMemory>

@@ -4,7 +4,7 @@ ghost use Rattle.zk_orders.specs.Telling.{Told, TellsFault};
 ghost use Rattle.zk_log.specs.Devices.{write_failures_of};
 
 use crate::assembling::AsmFault;
-use crate::fault_lines::{asm_line, log_line};
+use crate::fault_lines::{asm_line, log_line, placeless_asm_line, placeless_log_line};
 use std::alloc::Global;
 use std::io::Write;
 use zk_log::{LogFault, Sink};
@@ -22,6 +22,10 @@ pub(crate) fn tell_log_fault<E: Write>(
     requires { write_failures_of faults.old < 2 ^ 64 - 1 }
     ensures { TellsFault E.contents (line_of_log_fault fault) faults.old faults.new result }
 {
+    if let Some(line) = placeless_log_line(fault) {
+        tell(faults, line);
+        return Ok(1);
+    }
     let line = log_line(alloc, fault)?;
     tell(faults, line.as_str());
     Ok(1)
@@ -36,6 +40,10 @@ pub(crate) fn tell_asm_fault<E: Write>(
     requires { write_failures_of faults.old < 2 ^ 64 - 1 }
     ensures { TellsFault E.contents (line_of_asm_fault fault) faults.old faults.new result }
 {
+    if let Some(line) = placeless_asm_line(fault) {
+        tell(faults, line);
+        return Ok(1);
+    }
     let line = asm_line(alloc, fault)?;
     tell(faults, line.as_str());
     Ok(1)

@@ -2,7 +2,7 @@ ghost use Rattle.std.specs.Prelude.{◌≡◌, ◌+◌, ◌-◌, ◌<◌, ◌≤
 ghost use Rattle.std.specs.String.{string_bytes};
 ghost use Rattle.zk_orders.specs.Reading.{ReadsAll, TellsRead};
 ghost use Rattle.zk_orders.specs.declared.text.TextFault.TheVariants as faults;
-ghost use Rattle.zk_log.specs.Devices.{reader_of, reads_of, read_failures_of};
+ghost use Rattle.zk_log.specs.Devices.{AsksAtMost, reader_of, reads_of, read_failures_of};
 
 use std::alloc::{AllocError, Global};
 use std::io::Read;
@@ -40,6 +40,7 @@ pub fn read_text<F: Read>(
     requires failures { read_failures_of source.old < 2 ^ 64 - 1 }
     ensures text { ReadsAll string_bytes (F.remaining (reader_of source.old)) result }
     ensures tells { TellsRead source.old turns result source.new }
+    ensures asks { AsksAtMost 65536 source.old source.new }
     ensures reads { reads_of source.new ≤ reads_of source.old + turns }
 {
     let mut piece = new_piece(alloc)?;
@@ -49,7 +50,8 @@ pub fn read_text<F: Read>(
 
 /// Room for what one read takes.
 fn new_piece(alloc: Global) -> Result<Vec<u8>, AllocError>
-    ensures { IfOk result (λ piece. 0 < length piece.items) }
+    ensures some { IfOk result (λ piece. 0 < length piece.items) }
+    ensures most { IfOk result (λ piece. length piece.items ≤ 65536) }
 {
     vec![in alloc; 0; PIECE]
 }
@@ -62,10 +64,12 @@ fn read_bytes<F: Read>(
     turns: u32,
 ) -> Result<Vec<u8>, TextFault>
     requires some { 0 < length piece.old }
+    requires most { length piece.old ≤ 65536 }
     requires reads { reads_of source.old + turns < 2 ^ 64 }
     requires failures { read_failures_of source.old < 2 ^ 64 - 1 }
     ensures bytes { ReadsAll (λ bytes. bytes.items) (F.remaining (reader_of source.old)) result }
     ensures tells { TellsRead source.old turns result source.new }
+    ensures asks { AsksAtMost 65536 source.old source.new }
     ensures reads { reads_of source.new ≤ reads_of source.old + turns }
 {
     let mut bytes = Vec::new(alloc);

@@ -9,3 +9,5 @@ mod chronicle_rows;
 mod ensemble_rows;
 #[cfg(test)]
 mod events;
+#[cfg(test)]
+mod fault_rows;

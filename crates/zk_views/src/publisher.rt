@@ -1,5 +1,5 @@
 ghost use Rattle.std.specs.Prelude.{◌≡◌, ◌+◌, ◌-◌, ◌^◌, ◌<◌, [], ◌∷◌, ◌++◌, drop, length, replicate, IfOk, OnErr, OnOk};
-ghost use Rattle.zk_views.specs.Views.{IsPrefix, LiesBetween, unpublished};
+ghost use Rattle.zk_views.specs.Views.{IsPrefix, LiesBetween, unentered, unpublished};
 
 use crate::reader::Reader;
 use crate::rule::{Publish, ViewWriter};
@@ -18,28 +18,28 @@ pub struct Publisher {
     offered: usize,
 }
 
-/// A publisher is seen as the list that is published, and the longer one that it was offered.
+/// A publisher is seen as the list that is published, and the longer one that it was offered; and as the table of its view.
 impl Model for Publisher {
     ghost use Rattle.std.specs.Prelude.{◌≡◌, ◌++◌, drop, length};
     ghost use Rattle.zk_views.specs.Views.{Publishing};
 
     ghost Value = { Publishing };
 
-    ghost view = { λ p. record { published = p.writer.desk.shown.value; offered = p.writer.desk.shown.value ++ drop p.writer.behind p.writer.log.items } };
+    ghost view = { λ p. record { table = p.writer.desk.place.table_id; published = p.writer.desk.shown.value; offered = p.writer.desk.shown.value ++ drop p.writer.behind p.writer.log.items } };
 
     ghost invariant = { λ p. p.offered ≡ length (p.writer.desk.shown.value ++ drop p.writer.behind p.writer.log.items) };
 }
 
 impl Publisher {
-    /// A view with nothing published, and so many readers of it. [`NoMemory`] also where there can't be that many.
+    /// A view with nothing published, and so many readers of it, which stand over its table. [`NoMemory`] also where there can't be that many.
     pub fn start<R: Wait>(
         rt: &R,
         alloc: Global,
         readers: usize,
     ) -> Result<(Publisher, Vec<Reader>), NoMemory>
         requires { (0 < readers) × (readers < 2 ^ 32) }
-        ensures publisher { IfOk result (λ started. started.0 ≡ unpublished) }
-        ensures readers { IfOk result (λ started. started.1.items ≡ replicate readers []) }
+        ensures publisher { IfOk result (λ started. started.0 ≡ unpublished started.0.table) }
+        ensures readers { IfOk result (λ started. started.1.items ≡ replicate readers (unentered started.0.table)) }
     {
         let (first, second) = (View::new(alloc)?, View::new(alloc)?);
         let writer = ViewWriter::new(alloc, first, second, readers)?;
@@ -147,7 +147,7 @@ fn show_all<R: Wait>(writer: ViewWriter, rt: &R) -> (ViewWriter, Result<(), Allo
 
 /// So many readers of a view.
 fn readers_of(alloc: Global, writer: &ViewWriter, count: usize) -> Result<Vec<Reader>, NoMemory>
-    ensures { IfOk result (λ readers. readers.items ≡ replicate count []) }
+    ensures { IfOk result (λ readers. readers.items ≡ replicate count (unentered writer.now.desk.place.table_id)) }
 {
     let mut readers = Vec::new(alloc);
     readers.reserve(count)?;

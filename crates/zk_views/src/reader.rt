@@ -1,4 +1,4 @@
-ghost use Rattle.std.specs.Prelude.{◌≡◌, [], IfErr, IfOk, OnErr};
+ghost use Rattle.std.specs.Prelude.{◌≡◌, Some, IfErr, IfOk, OnErr};
 ghost use Rattle.left_right.specs.Sides as sides;
 ghost use Rattle.zk_views.specs.Answers.{IsAnswered, IsRefused};
 ghost use Rattle.zk_views.specs.Views.{IsPrefix};
@@ -18,15 +18,15 @@ pub struct Reader {
     end: Option<ViewReader>,
 }
 
-/// A reader is seen as the list that it entered last, and as none at first.
+/// A reader is seen as the list that it entered last, and as none at first; and as the table of its view.
 impl Model for Reader {
-    ghost use Rattle.std.specs.Prelude.{List, [], IsSome, option_map, unwrap_or};
+    ghost use Rattle.std.specs.Prelude.{[], IsSome, option_map, unwrap_or};
     ghost use Rattle.left_right.specs.Sides as sides;
-    ghost use Rattle.zk_txn.specs.declared.txn.Txn.{Txn};
+    ghost use Rattle.zk_views.specs.Views.{Entering};
 
-    ghost Value = { List Txn };
+    ghost Value = { Entering };
 
-    ghost view = { λ reader. unwrap_or (option_map (λ end. sides.view end.place) reader.end) [] };
+    ghost view = { λ reader. record { table = option_map (λ end. end.place.table_id) reader.end; txns = unwrap_or (option_map (λ end. sides.view end.place) reader.end) [] } };
 
     ghost invariant = { λ reader. IsSome reader.end };
 }
@@ -34,7 +34,7 @@ impl Model for Reader {
 impl Reader {
     /// A reader that has entered nothing.
     pub(crate) fn new(end: ViewReader) -> Reader
-        ensures { result ≡ sides.view end.place }
+        ensures { result ≡ record { table = Some end.place.table_id; txns = sides.view end.place } }
     {
         Reader { end: Some(end) }
     }
@@ -50,9 +50,9 @@ impl Reader {
         call: &ReadCall,
         auths: &[Id],
     ) -> Result<Seen, ViewFault>
-        ensures later { IsPrefix self.old self.new }
-        ensures answered { IfOk result (IsAnswered self.new call.now auths.now pass.old pass.new) }
-        ensures refused { IfErr result (IsRefused (self.new ≡ self.old) self.new pass.old) }
+        ensures later { IsPrefix self.old.txns self.new.txns }
+        ensures answered { IfOk result (IsAnswered self.new.txns call.now auths.now pass.old pass.new) }
+        ensures refused { IfErr result (IsRefused (self.new.txns ≡ self.old.txns) self.new.txns pass.old) }
         ensures kept { OnErr result (pass.new ≡ pass.old) }
     {
         let end = self.end.take().unwrap();

@@ -2,6 +2,10 @@
 #![tactic(auto)]
 
 #[cfg(test)]
+mod fault_rows;
+#[cfg(test)]
+mod kind_rows;
+#[cfg(test)]
 mod thread_rows;
 #[cfg(test)]
 mod view_rows;

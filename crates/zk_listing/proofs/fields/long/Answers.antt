@@ -4,6 +4,6 @@ use Rattle.zk_listing.proofs.DecimalLaws.{int_from-empty, narrow64}
 use Rattle.zk_listing.proofs.FieldLaws.{nothing_in_front}
 use Rattle.zk_listing.proofs.fields.long.Goals as goal
 
-pub returns-in-None : goal.returns-in-None
+pub returns-in-None-clause-takes : goal.returns-in-None-clause-takes
 unfolding int_at
-returns-in-None c = nothing_in_front (int_from w64) c.args.input.now.now (int_from-empty w64 narrow64) c.in-None.ensures
+returns-in-None-clause-takes c = nothing_in_front (int_from w64) c.args.input.now.now (int_from-empty w64 narrow64) c.in-None.ensures

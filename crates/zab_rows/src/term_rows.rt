@@ -1,0 +1,120 @@
+//! A leader begins its primary once a term, however long its history is.
+
+ghost use Rattle.std.specs.Prelude.{refl};
+ghost use Rattle.zab_broadcast.specs.Echoes.{echo_of};
+
+use std::alloc::Global;
+use zab_broadcast::{EchoCall, Primary, Server};
+use zab_epoch::{Entry, Majority, RuleFault, Stable, Vote};
+use zk_path::NoMemory;
+use zk_table::{Op, Txn};
+
+const ALONE: Majority = Majority { servers: 1 };
+
+/// The tag of the term's first call. Those of earlier terms are less.
+const FIRST: u64 = 100;
+
+/// The zxid of the last entry of the term before.
+const LAST: i64 = 0x1_0000_0003;
+
+/// An echo that is refused memory where it begins behind a call of this term.
+#[derive(Clone, Copy, Debug, Drop)]
+struct BegunOnce;
+
+impl Primary for BegunOnce {
+    type Call = EchoCall;
+
+    ghost use Rattle.zab_epoch.specs.declared.history.Entry.{Entry};
+
+    ghost stands_for = { λ _ _ _. Unit {0} };
+
+    ghost tag_of = { λ call. call.tag };
+
+    ghost closing_of = { λ tag session now. record { tag = tag } };
+
+    ghost made_of = { λ history call zxid. echo_of call.tag zxid };
+
+    fn tag(call: &EchoCall) -> u64 {
+        call.tag
+    }
+
+    fn closing(_alloc: Global, tag: u64, _session: i64, _now: i64) -> EchoCall {
+        EchoCall { tag }
+    }
+
+    fn start(_alloc: Global, history: &[Entry]) -> Result<BegunOnce, NoMemory> {
+        if history.iter().any(|entry| entry.tag >= FIRST) {
+            return Err(NoMemory);
+        }
+        Ok(BegunOnce)
+    }
+
+    fn make(&self, call: &EchoCall, zxid: i64) -> Result<Entry, NoMemory> {
+        Ok(entry(call.tag, zxid))
+    }
+
+    fn taken(&mut self, _entry: &Entry) -> Result<(), NoMemory> {
+        Ok(())
+    }
+
+    fn delivered(&mut self, _count: usize) {}
+
+    ghost made_zxid = { λ history call zxid. refl };
+
+    ghost made_tag = { λ history call zxid. refl };
+
+    ghost closing_tag = { λ tag session now. refl };
+}
+
+ghost use Rattle.std.specs.Prelude.{◌≡◌};
+
+/// The entry of a call that is a tag alone.
+fn entry(tag: u64, zxid: i64) -> Entry
+    ensures { result ≡ echo_of tag zxid }
+{
+    Entry {
+        tag,
+        txn: Txn {
+            session: 0,
+            cxid: 0,
+            zxid,
+            time: 0,
+            op: Op::Error { code: 0 },
+        },
+    }
+}
+
+/// What a server keeps that has led epoch 1, with three entries.
+fn led_before(alloc: Global) -> Result<Stable, NoMemory> {
+    let mut stable = Stable::new(alloc);
+    stable.promised = 1;
+    stable.current = 1;
+    for (tag, zxid) in [(1, LAST - 2), (2, LAST - 1), (3, LAST)] {
+        stable.history.push(entry(tag, zxid))?;
+    }
+    Ok(stable)
+}
+
+/// That server leads itself alone in epoch 2, in Broadcast.
+fn leads_again(alloc: Global) -> Result<Server<BegunOnce>, RuleFault> {
+    let mut server = Server::restored(alloc, 1, 1, led_before(alloc)?);
+    server.lead(alloc)?;
+    server.c_epoch(alloc, &ALONE, 1, 1)?;
+    let said = Vote {
+        current: 1,
+        last: LAST,
+    };
+    server.ack_epoch(alloc, &ALONE, 1, 2, true, said)?;
+    server.ack_leader(alloc, &ALONE, 1, 2, 3)?;
+    Ok(server)
+}
+
+#[test]
+fn a_primary_is_begun_once_a_term(rt: HostRuntime) {
+    let mut server = leads_again(rt.alloc()).expect(&rt, "memory");
+    for tag in FIRST..FIRST + 3 {
+        let told = server.submit(rt.alloc(), &ALONE, EchoCall { tag });
+        assert!(rt; told.is_ok(), "{tag}");
+    }
+    assert_eq!(rt; server.delivered().len(), 6);
+}
