@@ -10,11 +10,12 @@ use Rattle.zk_log.specs.declared.loaded.Loaded.{Loaded}
 use Rattle.zk_log.specs.declared.sink.Sink.{Sink}
 use Rattle.zk_log.specs.declared.source.Source.{Source}
 use Rattle.zk_path.specs.declared.memory.NoMemory.{NoMemory}
-use Rattle.zk_script.specs.Scripts.{RunsScript}
-use Rattle.zk_script.specs.declared.fault.ScriptFault.{ScriptFault}
-use Rattle.zk_script.specs.declared.fault.ScriptFault.TheVariants as script_faults
+use Rattle.zk_debug_script.specs.Scripts.{RunsScript}
+use Rattle.zk_reports.specs.declared.fault.ScriptFault.{ScriptFault}
+use Rattle.zk_reports.specs.declared.fault.ScriptFault.TheVariants as script_faults
 use Rattle.zk_txn.specs.declared.txn.Txn.{Txn}
-use Rattle.zk_orders.specs.FaultLines.{line_of_log_fault, line_of_script_fault}
+use Rattle.zk_reports.specs.Lines.{line_of_script_fault}
+use Rattle.zk_orders.specs.FaultLines.{line_of_log_fault}
 use Rattle.zk_orders.specs.Reading.{ReadsAll, TellsRead}
 use Rattle.zk_orders.specs.Telling.{Loads, Told, Outputs, OutputsNothing, GivesUp}
 use Rattle.zk_orders.specs.Writing.{LeavesSink, Wrote, BrokeOff}

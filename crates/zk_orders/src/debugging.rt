@@ -2,10 +2,9 @@ ghost use Rattle.std.specs.Prelude.{◌≡◌, ◌+◌, ◌-◌, ◌<◌, ◌^�
 ghost use Rattle.std.specs.String.{string_bytes};
 ghost use Rattle.zk_log.specs.Devices.{reads_of, read_failures_of, write_failures_of};
 ghost use Rattle.zk_orders.specs.Debugs.{Debugs, OutputsAndTells, ReadsScript, Runs, RunsFromStart};
-ghost use Rattle.zk_orders.specs.FaultLines.{line_of_script_fault};
+ghost use Rattle.zk_reports.specs.Lines.{line_of_script_fault};
 ghost use Rattle.zk_orders.specs.Telling.{Outputs};
 
-use crate::fault_lines::script_line;
 use crate::telling::{TURNS, tell, tell_log_fault};
 use crate::text::{TextFault, read_text};
 use std::alloc::Global;
@@ -14,7 +13,8 @@ use std::mem::forget;
 use zk_debug::Debugger;
 use zk_log::{Loaded, LogFault, Sink, Source, load};
 use zk_path::NoMemory;
-use zk_script::{ScriptFault, run_script};
+use zk_debug_script::{ScriptFault, run_script};
+use zk_reports::script_line;
 
 /// Loads a log, reads a script whole, and writes what a debugger answers to the script's lines, up to the first that
 /// says no command. Answers the exit status.

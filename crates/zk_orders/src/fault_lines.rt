@@ -1,6 +1,6 @@
 ghost use Rattle.std.specs.Prelude.{◌≡◌, IfOk};
 ghost use Rattle.std.specs.String.{string_bytes};
-ghost use Rattle.zk_orders.specs.FaultLines.{line_of_log_fault, line_of_list_fault, line_of_asm_fault, line_of_script_fault, number_of_cause};
+ghost use Rattle.zk_orders.specs.FaultLines.{line_of_log_fault, line_of_list_fault, line_of_asm_fault, number_of_cause};
 
 use crate::assembling::AsmFault;
 use std::alloc::Global;
@@ -39,15 +39,6 @@ pub fn asm_line(alloc: Global, fault: AsmFault) -> Result<String, NoMemory>
         AsmFault::Length(at) => write!(line, "zk: length {at}\n")?,
         AsmFault::NoMemory => line.push_str("zk: memory\n")?,
     }
-    Ok(line)
-}
-
-/// The line that tells which line of a script says no command.
-pub fn script_line(alloc: Global, number: u64) -> Result<String, NoMemory>
-    ensures { IfOk result (λ line. string_bytes line ≡ line_of_script_fault number) }
-{
-    let mut line = String::new(alloc);
-    write!(line, "zk: script {number}\n")?;
     Ok(line)
 }
 

@@ -18,7 +18,7 @@ mod text;
 pub use assembling::{AsmFault, asm};
 pub use command::{CommandFault, Job, Order, read_command_line};
 pub use debugging::debug;
-pub use fault_lines::{asm_line, log_line, script_line};
+pub use fault_lines::{asm_line, log_line};
 pub use reporting::{Report, tell_log};
 pub use running::run;
 pub use text::{TextFault, read_text};

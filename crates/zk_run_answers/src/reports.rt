@@ -10,7 +10,7 @@ use zk_listing::{push_digits, push_line, push_quoted, push_result_line};
 use zk_machine::{ChangeKind, Machine};
 use zk_path::NoMemory;
 use zk_runs::Answered;
-use zk_script::push_tree;
+use zk_reports::push_tree;
 use zk_watch::Fired;
 
 /// Appends how many lines follow.

@@ -13,7 +13,7 @@ use Rattle.zk_run_commands.specs.declared.command.Report.TheVariants as reports
 use Rattle.zk_runs.specs.declared.event.Event.{Event}
 use Rattle.zk_runs.specs.declared.fault.EnsembleFault.TheVariants as faults
 use Rattle.zk_runs.specs.Ensembles.{Told, fresh, happens, shown_at}
-use Rattle.zk_script.specs.Reports.{line}
+use Rattle.zk_reports.specs.Reports.{line}
 use Rattle.zk_txn.specs.Codes.{bad_arguments}
 
 -- a new ensemble of so many servers

@@ -3,9 +3,9 @@ use Rattle.std.specs.Prelude.{◌≡◌, ◌+◌, ◌⊎◌, ℕ, List, [], ◌�
 use Rattle.zk_ensemble.specs.Views.{EnsembleView}
 use Rattle.zk_run_commands.specs.Commands.{Says, SaysNothing, SaysServers}
 use Rattle.zk_run_commands.specs.declared.command.Command.{Command}
-use Rattle.zk_script.specs.Scripts.{lines_of}
-use Rattle.zk_script.specs.declared.fault.ScriptFault.{ScriptFault}
-use Rattle.zk_script.specs.declared.fault.ScriptFault.TheVariants as faults
+use Rattle.zk_reports.specs.Lines.{lines_of}
+use Rattle.zk_reports.specs.declared.fault.ScriptFault.{ScriptFault}
+use Rattle.zk_reports.specs.declared.fault.ScriptFault.TheVariants as faults
 use Rattle.zk_run_script.specs.Playing.{started, Answers}
 
 -- each line says its command

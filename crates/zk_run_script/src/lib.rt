@@ -6,4 +6,4 @@ mod script;
 
 pub use playing::run_command;
 pub use script::run_script;
-pub use zk_script::ScriptFault;
+pub use zk_reports::ScriptFault;

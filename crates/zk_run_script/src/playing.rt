@@ -3,7 +3,7 @@ ghost use Rattle.std.specs.Prelude.{◌≡◌, ◌++◌, OnOk, OnErr};
 ghost use Rattle.std.specs.String.{string_bytes};
 ghost use Rattle.zk_request_lines.specs.ReplyLines.{refusal_text};
 ghost use Rattle.zk_run_script.specs.Playing.{Obeys, reported};
-ghost use Rattle.zk_script.specs.Reports.{line};
+ghost use Rattle.zk_reports.specs.Reports.{line};
 ghost use Rattle.zk_txn.specs.Codes.{bad_arguments};
 
 use zk_ensemble::Ensemble;

@@ -8,7 +8,7 @@ use std::alloc::Global;
 use zk_ensemble::Ensemble;
 use zk_listing::ListCause;
 use zk_run_commands::{read_command, read_servers};
-use zk_script::{ScriptFault, next_line};
+use zk_reports::{ScriptFault, next_line};
 
 /// Does what the lines of a script say, one after the other, with an ensemble of as many servers as the first line says, and
 /// appends what is answered to them, up to the first that says no command. A newline ends each line; the last one may have
