@@ -1,3 +1,4 @@
+pub mod Answering
 pub mod Assembling
 pub mod Commands
 pub mod Debugs

@@ -7,7 +7,7 @@ use Rattle.zk_log.specs.declared.source.Source.{Source}
 use Rattle.zk_path.specs.declared.memory.NoMemory.{NoMemory}
 use Rattle.zk_run_script.specs.Scripts.{RunsScript}
 use Rattle.zk_reports.specs.declared.fault.ScriptFault.{ScriptFault}
-use Rattle.zk_orders.specs.Debugs.{OutputsAnswers}
+use Rattle.zk_orders.specs.Answering.{OutputsAnswers}
 use Rattle.zk_orders.specs.Reading.{ReadsAll, TellsRead}
 use Rattle.zk_orders.specs.Telling.{OutputsNothing, GivesUp}
 use Rattle.zk_orders.specs.declared.text.TextFault.{TextFault}

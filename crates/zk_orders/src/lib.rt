@@ -3,6 +3,7 @@
 //! They stand below `zk_cli`, since the proof of a program goes through all that it reaches each time.
 #![tactic(auto)]
 
+mod answering;
 mod assembling;
 mod command;
 mod debugging;

@@ -2,7 +2,7 @@ ghost use Rattle.std.specs.Prelude.{◌≡◌, ◌+◌, ◌-◌, ◌<◌, ◌^�
 ghost use Rattle.zk_log.specs.Devices.{reads_of, read_failures_of, write_failures_of};
 ghost use Rattle.zk_orders.specs.Running.{RunsText, RunsWhole};
 
-use crate::debugging::{put_answers, put_answers_before};
+use crate::answering::{put_answers, put_answers_before};
 use crate::telling::{TURNS, tell};
 use crate::text::{TextFault, read_text};
 use std::alloc::Global;

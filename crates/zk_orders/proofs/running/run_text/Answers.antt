@@ -1,6 +1,6 @@
 use Rattle.std.proofs.Common.{◌≡◌, ℕ, List, [], Result, Ok, Err, refl, subst, rules}
 use Rattle.std.specs.String.{string_bytes}
-use Rattle.zk_orders.specs.Debugs.{OutputsAndTells}
+use Rattle.zk_orders.specs.Answering.{OutputsAndTells}
 use Rattle.zk_reports.specs.Lines.{line_of_script_fault}
 use Rattle.zk_orders.specs.Telling.{Outputs}
 use Rattle.zk_run_script.specs.Scripts.{RunsScript}

@@ -1,6 +1,6 @@
 use Rattle.std.proofs.Common.{◌∙◌, ℕ, List, inl, inr, subst, rules}
 use Rattle.zk_orders.specs.Telling.{Told}
-use Rattle.zk_orders.proofs.debugging.put_answers_before.Goals as goal
+use Rattle.zk_orders.proofs.answering.put_answers_before.Goals as goal
 
 pub returns-in-Ok : goal.returns-in-Ok
 returns-in-Ok g c =
