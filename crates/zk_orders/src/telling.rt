@@ -11,7 +11,7 @@ use zk_log::{LogFault, Sink};
 use zk_path::NoMemory;
 
 /// The most reads of an input.
-pub(crate) const TURNS: u32 = 1_048_576;
+pub const TURNS: u32 = 1_048_576;
 
 /// Tells why a log was refused. Answers the exit status.
 pub(crate) fn tell_log_fault<E: Write>(
@@ -42,7 +42,7 @@ pub(crate) fn tell_asm_fault<E: Write>(
 }
 
 /// Writes a line for the user. Where that fails there is nobody left to tell.
-pub(crate) fn tell<E: Write>(faults: &mut Sink<E>, line: &str)
+pub fn tell<E: Write>(faults: &mut Sink<E>, line: &str)
     requires failures { write_failures_of faults.old < 2 ^ 64 - 1 }
     ensures { Told E.contents faults.old faults.new line.now }
 {

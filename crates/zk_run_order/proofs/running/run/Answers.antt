@@ -2,10 +2,10 @@ use Rattle.std.proofs.Common.{ℕ, List, Ok, Err, Global, subst, rules}
 use Rattle.std.specs.Str.{IsUtf8}
 use Rattle.std.specs.String.{string_bytes}
 use Rattle.zk_log.specs.Devices.{reader_of}
-use Rattle.zk_orders.specs.Running.{RunsWhole}
+use Rattle.zk_run_order.specs.Running.{RunsWhole}
 use Rattle.zk_orders.specs.declared.text.TextFault.TheVariants as faults
 use Rattle.zk_orders.proofs.TextLaws.{text_read, text_refused, refusal_told_so}
-use Rattle.zk_orders.proofs.running.run.Goals as goal
+use Rattle.zk_run_order.proofs.running.run.Goals as goal
 
 pub returns-in-Ok : goal.returns-in-Ok
 returns-in-Ok g c =

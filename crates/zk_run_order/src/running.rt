@@ -1,13 +1,11 @@
 ghost use Rattle.std.specs.Prelude.{◌≡◌, ◌+◌, ◌-◌, ◌<◌, ◌^◌};
 ghost use Rattle.zk_log.specs.Devices.{reads_of, read_failures_of, write_failures_of};
-ghost use Rattle.zk_orders.specs.Running.{RunsText, RunsWhole};
+ghost use Rattle.zk_run_order.specs.Running.{RunsText, RunsWhole};
 
-use crate::answering::{put_answers, put_answers_before};
-use crate::telling::{TURNS, tell};
-use crate::text::{TextFault, read_text};
 use std::alloc::Global;
 use std::io::{Read, Write};
 use zk_log::{Sink, Source};
+use zk_orders::{TURNS, TextFault, put_answers, put_answers_before, read_text, tell};
 use zk_path::NoMemory;
 use zk_run_script::{ScriptFault, run_script};
 

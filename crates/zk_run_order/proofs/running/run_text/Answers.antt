@@ -6,7 +6,7 @@ use Rattle.zk_orders.specs.Telling.{Outputs}
 use Rattle.zk_run_script.specs.Scripts.{RunsScript}
 use Rattle.zk_reports.specs.declared.fault.ScriptFault.{ScriptFault}
 use Rattle.zk_reports.specs.declared.fault.ScriptFault.TheVariants as faults
-use Rattle.zk_orders.proofs.running.run_text.Goals as goal
+use Rattle.zk_run_order.proofs.running.run_text.Goals as goal
 
 pub returns-in-Ok : goal.returns-in-Ok
 returns-in-Ok g c = record {
