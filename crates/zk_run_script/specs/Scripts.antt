@@ -1,8 +1,8 @@
 -- What a run script is answered. This project's own.
 use Rattle.std.specs.Prelude.{◌≡◌, ◌+◌, ◌⊎◌, ℕ, List, [], ◌∷◌, ◌++◌, length, Result, Ok, Err, codes}
 use Rattle.zk_ensemble.specs.Views.{EnsembleView}
-use Rattle.zk_run_commands.specs.Commands.{Says, SaysNothing, SaysServers}
-use Rattle.zk_run_commands.specs.declared.command.Command.{Command}
+use Rattle.zk_run_script.specs.Commands.{Says, SaysNothing, SaysServers}
+use Rattle.zk_run_script.specs.declared.command.Command.{Command}
 use Rattle.zk_reports.specs.Lines.{lines_of}
 use Rattle.zk_reports.specs.declared.fault.ScriptFault.{ScriptFault}
 use Rattle.zk_reports.specs.declared.fault.ScriptFault.TheVariants as faults

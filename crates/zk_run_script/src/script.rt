@@ -4,10 +4,10 @@ ghost use Rattle.std.specs.String.{string_bytes};
 ghost use Rattle.zk_run_script.specs.Scripts.{RunsScript, BeginsOrNot, Plays};
 
 use crate::playing::run_command;
+use crate::reading::{read_command, read_servers};
 use std::alloc::Global;
 use zk_ensemble::Ensemble;
 use zk_listing::ListCause;
-use zk_run_commands::{read_command, read_servers};
 use zk_reports::{ScriptFault, next_line};
 
 /// Does what the lines of a script say, one after the other, with an ensemble of as many servers as the first line says, and

@@ -1,5 +1,5 @@
-use Rattle.zk_run_commands.proofs.CommandTexts.{reads_servers}
-use Rattle.zk_run_commands.proofs.reading.read_servers.Goals as goal
+use Rattle.zk_run_script.proofs.CommandTexts.{reads_servers}
+use Rattle.zk_run_script.proofs.reading.read_servers.Goals as goal
 
 pub returns : goal.returns
 returns c =

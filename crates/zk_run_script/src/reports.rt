@@ -2,15 +2,15 @@
 ghost use Rattle.std.specs.Prelude.{◌≡◌, ◌++◌, false, IfOk, OnErr, OnOk};
 ghost use Rattle.std.specs.List.{flat_map};
 ghost use Rattle.std.specs.String.{string_bytes};
-ghost use Rattle.zk_run_answers.specs.Answers.{lines_line, delivered_report, answer_line, answers_report, kind_text, event_line, events_report, tree_lines, counted_tree};
+ghost use Rattle.zk_run_script.specs.Answers.{lines_line, delivered_report, answer_line, answers_report, kind_text, event_line, events_report, tree_lines, counted_tree};
 ghost use Rattle.zk_spelling.specs.Listings.{line_of};
 
 use zab_epoch::Entry;
 use zk_listing::{push_digits, push_line, push_quoted, push_result_line};
 use zk_machine::{ChangeKind, Machine};
 use zk_path::NoMemory;
-use zk_runs::Answered;
 use zk_reports::push_tree;
+use zk_runs::Answered;
 use zk_watch::Fired;
 
 /// Appends how many lines follow.

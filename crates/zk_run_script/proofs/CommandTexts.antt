@@ -25,13 +25,13 @@ use Rattle.zk_request_lines.proofs.NumberLaws.{number_exact}
 use Rattle.zk_request_lines.proofs.Readings.{Reads, Next, NextThen, reads_exact, reads_last, TakesBehind, by_word_takes, ReadsWhole, whole_of}
 use Rattle.zk_request_lines.proofs.RequestTexts.{whole_request}
 use Rattle.zk_runs.specs.declared.event.Event.TheVariants as events
-use Rattle.zk_run_commands.specs.declared.command.Command.{Command}
-use Rattle.zk_run_commands.specs.declared.command.Command.TheVariants as commands
-use Rattle.zk_run_commands.specs.declared.command.Report.{Report}
-use Rattle.zk_run_commands.specs.declared.command.Report.TheVariants as reports
-use Rattle.zk_run_commands.specs.Commands.{IsNumber, SpellsNumber, SpellsSubmit, SpellsExpire, SpellsRead, report_word, SpellsCommand, IsAmong, Says, SaysNothing, ReadsCommand, SaysServers, ReadsServers}
-use Rattle.zk_run_commands.specs.Reading.{two_at, SubmitFields, submit_at, submitted, ExpireFields, expire_at, expired, ReadFields, read_at, read_by, reported_at, command_words, command_at, is_among, is_left_alone, among_result, is_count, is_counted, counted_result, servers_at}
-use Rattle.zk_run_commands.proofs.Wholes.{whole_last, whole_next, next_is, last_is, begins, behind_whole, mapped_whole, IsTested, tested_is, tested_only, tested_none, untold, and_both}
+use Rattle.zk_run_script.specs.declared.command.Command.{Command}
+use Rattle.zk_run_script.specs.declared.command.Command.TheVariants as commands
+use Rattle.zk_run_script.specs.declared.command.Report.{Report}
+use Rattle.zk_run_script.specs.declared.command.Report.TheVariants as reports
+use Rattle.zk_run_script.specs.Commands.{IsNumber, SpellsNumber, SpellsSubmit, SpellsExpire, SpellsRead, report_word, SpellsCommand, IsAmong, Says, SaysNothing, ReadsCommand, SaysServers, ReadsServers}
+use Rattle.zk_run_script.specs.Reading.{two_at, SubmitFields, submit_at, submitted, ExpireFields, expire_at, expired, ReadFields, read_at, read_by, reported_at, command_words, command_at, is_among, is_left_alone, among_result, is_count, is_counted, counted_result, servers_at}
+use Rattle.zk_run_script.proofs.Wholes.{whole_last, whole_next, next_is, last_is, begins, behind_whole, mapped_whole, IsTested, tested_is, tested_only, tested_none, untold, and_both}
 
 -- ---- fields
 

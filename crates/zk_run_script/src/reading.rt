@@ -1,9 +1,9 @@
 //! The reader of one line.
 ghost use Rattle.std.specs.Prelude.{◌≡◌};
 ghost use Rattle.zk_listing.specs.Reading.{Takes, mapped};
-ghost use Rattle.zk_run_commands.specs.Commands.{ReadsCommand, ReadsServers};
-ghost use Rattle.zk_run_commands.specs.Reading.{two_at, submit_at, expire_at, read_at, submitted, expired, read_by, reported_at, command_at, is_among, among_result, servers_at, counted_result};
-ghost use Rattle.zk_run_commands.specs.declared.command.Command.TheVariants as commands;
+ghost use Rattle.zk_run_script.specs.Commands.{ReadsCommand, ReadsServers};
+ghost use Rattle.zk_run_script.specs.Reading.{two_at, submit_at, expire_at, read_at, submitted, expired, read_by, reported_at, command_at, is_among, among_result, servers_at, counted_result};
+ghost use Rattle.zk_run_script.specs.declared.command.Command.TheVariants as commands;
 ghost use Rattle.zk_runs.specs.declared.event.Event.TheVariants as events;
 ghost use Rattle.zab_runs.specs.declared.event.Event.TheVariants.{Follow as WorldFollow};
 

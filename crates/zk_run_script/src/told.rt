@@ -1,7 +1,7 @@
 //! What an event is answered.
 ghost use Rattle.std.specs.Prelude.{◌≡◌, ◌++◌, OnErr, OnOk};
 ghost use Rattle.std.specs.String.{string_bytes};
-ghost use Rattle.zk_run_answers.specs.Answers.{numbers_text, moved_text, fault_text, told_text};
+ghost use Rattle.zk_run_script.specs.Answers.{numbers_text, moved_text, fault_text, told_text};
 ghost use Rattle.zk_runs.specs.declared.fault.EnsembleFault.TheVariants as faults;
 ghost use Rattle.zk_reports.specs.Reports.{line};
 
