@@ -2,7 +2,7 @@ ghost use Rattle.std.specs.Prelude.{◌≡◌, IfOk};
 ghost use Rattle.std.specs.String.{string_bytes};
 ghost use Rattle.zk_orders.specs.FaultLines.{line_of_log_fault, line_of_list_fault, line_of_asm_fault, number_of_cause};
 
-use crate::assembling::AsmFault;
+use crate::asm_fault::AsmFault;
 use std::alloc::Global;
 use zk_listing::{ListCause, ListFault};
 use zk_log::LogFault;

@@ -4,6 +4,7 @@
 #![tactic(auto)]
 
 mod answering;
+mod asm_fault;
 mod assembling;
 mod command;
 mod debugging;
@@ -16,7 +17,8 @@ mod telling;
 mod text;
 
 pub use answering::{put_answers, put_answers_before};
-pub use assembling::{AsmFault, asm};
+pub use asm_fault::AsmFault;
+pub use assembling::asm;
 pub use command::{CommandFault, Job, Order, read_command_line};
 pub use debugging::debug;
 pub use fault_lines::{asm_line, log_line};

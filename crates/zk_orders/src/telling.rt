@@ -3,7 +3,7 @@ ghost use Rattle.zk_orders.specs.FaultLines.{line_of_log_fault, line_of_asm_faul
 ghost use Rattle.zk_orders.specs.Telling.{Told, TellsFault};
 ghost use Rattle.zk_log.specs.Devices.{write_failures_of};
 
-use crate::assembling::AsmFault;
+use crate::asm_fault::AsmFault;
 use crate::fault_lines::{asm_line, log_line};
 use std::alloc::Global;
 use std::io::Write;
