@@ -69,3 +69,9 @@ module _ {X Y : Type 0} (view : X → Y) (spell : Y → List ℕ) (Fits : Y → 
 pub takes_itself : {X : Type 0} (r : Result X ListCause) (rest : List ℕ) (read : Option (X × List ℕ)) → TakesBy (λ (x : X). x) r rest read → Takes r rest read
 takes_itself (Ok x) rest read h = h
 takes_itself (Err cause) rest read h = h
+
+-- a field's end takes no memory
+pub ended_without_memory : {X : Type 0} (e : Bool) (r : Result X ListCause) → r ≢ Err causes.NoMemory → ended_result e r ≢ Err causes.NoMemory
+ended_without_memory true r h = h
+ended_without_memory {X} false (Ok x) h = λ same. let bad : ◌≡◌ {A = Result X ListCause} (Err causes.Fields) (Err causes.NoMemory) = same in cc
+ended_without_memory false (Err cause) h = h

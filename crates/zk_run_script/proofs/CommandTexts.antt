@@ -1,5 +1,5 @@
 -- A line of a run script is read just where it is spelled so.
-use Rattle.std.proofs.Common.{◌≡◌, ◌&&◌, ◌==◌, eqb, ℕ, ℤ, ◌^◌, ◌<◌, ◌≤◌, Bool, true, false, cond, List, [], ◌∷◌, ◌++◌, length, nat_le, Option, Some, None, Result, Ok, Err, refl, sym, ap, subst, ◌∙◌, append_assoc, arith}
+use Rattle.std.proofs.Common.{◌≡◌, ◌≢◌, ◌&&◌, ◌==◌, eqb, ℕ, ℤ, ◌^◌, ◌<◌, ◌≤◌, Bool, true, false, cond, List, [], ◌∷◌, ◌++◌, length, nat_le, Option, Some, None, Result, Ok, Err, refl, sym, ap, subst, ◌∙◌, append_assoc, arith}
 use Rattle.std.proofs.lemmas.List.{append-nil}
 use Rattle.std.proofs.lemmas.Bool.Decides.{nat_tests}
 use Rattle.std.specs.Prelude.{FitsSigned, codes}
@@ -398,13 +398,13 @@ found_servers line left n false failed read = λ other s. tested_none (SpellsNum
 no_servers : (line : List ℕ) → servers_at line ≡ None → (servers : ℕ) → SaysServers line servers → ⊥
 no_servers line none servers s = untold (SpellsNumber (codes "servers")) servers_at whole_servers is_count line servers none (counted_so line servers s)
 
-pub reads_servers : (line left : List ℕ) (r : Result ℕ ListCause) → Takes r left (servers_at line) → ReadsServers line (counted_result left r)
-reads_servers line left (Ok n) read = found_servers line left n (is_counted left n) refl read
-reads_servers line left (Err causes.NoMemory) read = tt
-reads_servers line left (Err causes.Fields) read = no_servers line read
-reads_servers line left (Err causes.Number) read = no_servers line read
-reads_servers line left (Err causes.Quote) read = no_servers line read
-reads_servers line left (Err causes.Hex) read = no_servers line read
-reads_servers line left (Err causes.Word) read = no_servers line read
-reads_servers line left (Err causes.Path) read = no_servers line read
-reads_servers line left (Err causes.NoNewline) read = no_servers line read
+pub reads_servers : (line left : List ℕ) (r : Result ℕ ListCause) → r ≢ Err causes.NoMemory → Takes r left (servers_at line) → ReadsServers line (counted_result left r)
+reads_servers line left (Ok n) memory read = found_servers line left n (is_counted left n) refl read
+reads_servers line left (Err causes.NoMemory) memory read = absurd (memory refl)
+reads_servers line left (Err causes.Fields) memory read = no_servers line read
+reads_servers line left (Err causes.Number) memory read = no_servers line read
+reads_servers line left (Err causes.Quote) memory read = no_servers line read
+reads_servers line left (Err causes.Hex) memory read = no_servers line read
+reads_servers line left (Err causes.Word) memory read = no_servers line read
+reads_servers line left (Err causes.Path) memory read = no_servers line read
+reads_servers line left (Err causes.NoNewline) memory read = no_servers line read

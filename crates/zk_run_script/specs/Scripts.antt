@@ -68,4 +68,4 @@ pub record BeginsWell (script before : List ℕ) (result : Result (Unit {0}) Scr
 -- what a script is answered: a refusal of its first line changes nothing
 abbrev pub RunsScript : List ℕ → List ℕ → Result (Unit {0}) ScriptFault → List ℕ → Type 0
 RunsScript script before result after =
-    BeginsWell script before result after ⊎ ((BeginsWithNone (lines_of script) × (result ≡ Err (faults.Malformed 1)) × (after ≡ before)) ⊎ ((result ≡ Err faults.NoMemory) × (after ≡ before)))
+    BeginsWell script before result after ⊎ (BeginsWithNone (lines_of script) × (result ≡ Err (faults.Malformed 1)) × (after ≡ before))

@@ -5,7 +5,6 @@
 #![tactic(auto)]
 
 mod command;
-mod fields;
 mod playing;
 mod reading;
 mod reports;

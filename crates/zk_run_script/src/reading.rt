@@ -1,6 +1,8 @@
 //! The reader of one line.
-ghost use Rattle.std.specs.Prelude.{◌≡◌};
-ghost use Rattle.zk_listing.specs.Reading.{Takes, mapped};
+ghost use Rattle.std.specs.Prelude.{◌≡◌, ◌≢◌, Err};
+ghost use Rattle.zk_listing.specs.Reading.{Takes, spaced, mapped};
+ghost use Rattle.zk_listing.specs.declared.fault.ListCause.TheVariants as causes;
+ghost use Rattle.zk_request_lines.specs.Reading.{number_at};
 ghost use Rattle.zk_run_script.specs.Commands.{ReadsCommand, ReadsServers};
 ghost use Rattle.zk_run_script.specs.Reading.{two_at, submit_at, expire_at, read_at, submitted, expired, read_by, reported_at, command_at, is_among, among_result, servers_at, counted_result};
 ghost use Rattle.zk_run_script.specs.declared.command.Command.TheVariants as commands;
@@ -8,12 +10,14 @@ ghost use Rattle.zk_runs.specs.declared.event.Event.TheVariants as events;
 ghost use Rattle.zab_runs.specs.declared.event.Event.TheVariants.{Follow as WorldFollow};
 
 use crate::command::{Command, Report};
-use crate::fields::{id, ids, int, long, lookup, number, place, request};
 use std::alloc::Global;
 use zab_runs::Event as WorldEvent;
 use zk_listing::ListCause;
 use zk_prepare::Call;
-use zk_request_lines::{Lookup, take_word};
+use zk_request_lines::{
+    Lookup, spaced_id, spaced_ids, spaced_int, spaced_long, spaced_lookup, spaced_number,
+    spaced_request, take_word,
+};
 use zk_runs::{Event, Question};
 
 /// The command that a line says among so many servers, without its newline. A report on another server is none.
@@ -95,12 +99,12 @@ fn submit(alloc: Global, input: &mut &str) -> Result<Command, ListCause>
     ensures { Takes result input.new.now (mapped submitted submit_at input.old.now) }
 {
     let server = place(input)?;
-    let tag = number(input)?;
-    let session = id(input)?;
-    let cxid = int(input)?;
-    let now = long(input)?;
-    let auths = ids(alloc, input)?;
-    let request = request(alloc, input)?;
+    let tag = spaced_number(input)?;
+    let session = spaced_id(input)?;
+    let cxid = spaced_int(input)?;
+    let now = spaced_long(input)?;
+    let auths = spaced_ids(alloc, input)?;
+    let request = spaced_request(alloc, input)?;
     let call = Call {
         tag,
         session,
@@ -117,9 +121,9 @@ fn expire(input: &mut &str) -> Result<Command, ListCause>
     ensures { Takes result input.new.now (mapped expired expire_at input.old.now) }
 {
     let server = place(input)?;
-    let tag = number(input)?;
-    let session = id(input)?;
-    let now = long(input)?;
+    let tag = spaced_number(input)?;
+    let session = spaced_id(input)?;
+    let now = spaced_long(input)?;
     Ok(happens(WorldEvent::Expire {
         server,
         tag,
@@ -133,10 +137,10 @@ fn read(alloc: Global, input: &mut &str) -> Result<Command, ListCause>
     ensures { Takes result input.new.now (mapped read_by read_at input.old.now) }
 {
     let server = place(input)?;
-    let session = id(input)?;
-    let seen = id(input)?;
-    let auths = ids(alloc, input)?;
-    match lookup(alloc, input)? {
+    let session = spaced_id(input)?;
+    let seen = spaced_id(input)?;
+    let auths = spaced_ids(alloc, input)?;
+    match spaced_lookup(alloc, input)? {
         Lookup::Asks { call, watch } => Ok(Command::Happens(Event::Read(Question {
             server,
             session,
@@ -156,9 +160,19 @@ fn report(report: Report, input: &mut &str) -> Result<Command, ListCause>
     Ok(Command::Reports { report, server })
 }
 
-/// The number of servers, from 2 to 15, that a script's first line says: `servers N`.
+/// The number of a server or a message, behind a space.
+fn place(input: &mut &str) -> Result<usize, ListCause>
+    ensures taken { Takes result input.new.now (spaced number_at input.old.now) }
+    ensures memory { result ≢ Err causes.NoMemory }
+{
+    let number = spaced_number(input)?;
+    Ok(number as usize)
+}
+
+/// The number of servers, from 2 to 15, that a script's first line says: `servers N`. It takes no memory.
 pub fn read_servers(line: &str) -> Result<usize, ListCause>
-    ensures { ReadsServers line.now result }
+    ensures reads { ReadsServers line.now result }
+    ensures memory { result ≢ Err causes.NoMemory }
 {
     let mut rest = line;
     let read = servers(&mut rest);
@@ -167,7 +181,8 @@ pub fn read_servers(line: &str) -> Result<usize, ListCause>
 
 /// What was read, if nothing is left behind it and it is from 2 to 15.
 fn counted(read: Result<usize, ListCause>, left: &str) -> Result<usize, ListCause>
-    ensures { result ≡ counted_result left.now read }
+    ensures counted { result ≡ counted_result left.now read }
+    ensures memory { read ≢ Err causes.NoMemory → result ≢ Err causes.NoMemory }
 {
     let servers = read?;
     if left.is_empty() && 2 <= servers && servers <= 15 {
@@ -178,7 +193,8 @@ fn counted(read: Result<usize, ListCause>, left: &str) -> Result<usize, ListCaus
 
 #[tactic(auto, unfolding(crate::specs::Reading::servers_at))]
 fn servers(input: &mut &str) -> Result<usize, ListCause>
-    ensures { Takes result input.new.now (servers_at input.old.now) }
+    ensures taken { Takes result input.new.now (servers_at input.old.now) }
+    ensures memory { result ≢ Err causes.NoMemory }
 {
     match take_word(input) {
         "servers" => place(input),

@@ -23,7 +23,6 @@ pub fn run_script(alloc: Global, script: &str, answers: &mut String) -> Result<(
     let first = next_line(&mut text);
     match read_servers(first) {
         Ok(servers) => begin(alloc, servers, text, answers),
-        Err(ListCause::NoMemory) => Err(ScriptFault::NoMemory),
         Err(_) => Err(ScriptFault::Malformed(1)),
     }
 }

@@ -9,4 +9,4 @@ unfolding lines_of
 returns-then-is_empty c =
     let end : c.args.script.now ≡ [] = is_ended c.args.script.now (sym c.is_empty.ensures ∙ c.if-is_empty.true) in
     let none : BeginsWithNone (lines_of []) = tt in
-    inr (inl (subst (λ (t : List ℕ). BeginsWithNone (lines_of t)) (sym end) none, refl, refl))
+    inr (subst (λ (t : List ℕ). BeginsWithNone (lines_of t)) (sym end) none, refl, refl)

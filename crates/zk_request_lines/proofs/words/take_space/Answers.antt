@@ -2,7 +2,7 @@ use Rattle.std.proofs.Common.{◌≢◌, ◌∷◌, ℕ, List, lit<}
 use Rattle.std.proofs.lemmas.Option.{MatchOption-at_none}
 use Rattle.std.proofs.lemmas.Str.Pattern.{strip_prefix_char}
 use Rattle.zk_listing.proofs.FieldLaws.{past_none}
-use Rattle.zk_request_lines.proofs.spaced.take_space.Goals as goal
+use Rattle.zk_request_lines.proofs.words.take_space.Goals as goal
 
 pub returns-in-None-clause-taken : goal.returns-in-None-clause-taken
 returns-in-None-clause-taken c =

@@ -3,7 +3,7 @@ use Rattle.std.specs.List.{position_or_len}
 use Rattle.std.specs.Str.{IsUtf8, IsCharBoundary}
 use Rattle.zk_listing.specs.Reading.{is_end}
 use Rattle.zk_listing.proofs.FieldLaws.{front_of-take, back_of-drop, field_boundary}
-use Rattle.zk_request_lines.proofs.spaced.take_word.Goals as goal
+use Rattle.zk_request_lines.proofs.words.take_word.Goals as goal
 
 pub split_at-requires : goal.split_at-requires
 split_at-requires c =

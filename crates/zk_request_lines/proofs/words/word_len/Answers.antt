@@ -1,7 +1,7 @@
 use Rattle.std.proofs.Common.{ap, length, ◌∙◌}
 use Rattle.std.specs.Option.{unwrap_or}
 use Rattle.zk_listing.proofs.FieldLaws.{position-unwrap_or}
-use Rattle.zk_request_lines.proofs.spaced.word_len.Goals as goal
+use Rattle.zk_request_lines.proofs.words.word_len.Goals as goal
 
 pub returns : goal.returns
 returns c =

@@ -3,7 +3,7 @@ use Rattle.std.proofs.lemmas.Option.{MatchOption-at_none}
 use Rattle.std.proofs.lemmas.Str.Pattern.{strip_prefix_char}
 use Rattle.zk_listing.proofs.FieldLaws.{past_none}
 use Rattle.zk_request_lines.proofs.Flags.{no_flag}
-use Rattle.zk_request_lines.proofs.spaced.flag.Goals as goal
+use Rattle.zk_request_lines.proofs.words.flag.Goals as goal
 
 pub returns-in_default : goal.returns-in_default
 returns-in_default c =
