@@ -3,9 +3,7 @@ ghost use Rattle.std.specs.Prelude.{◌≡◌, false};
 
 use std::alloc::Global;
 use zk_debug::Debugger;
-use zk_debug_script::{
-    Command, CommandFault, ScriptFault, read_command, run_command, run_script,
-};
+use zk_debug_script::{Command, CommandFault, ScriptFault, read_command, run_command, run_script};
 use zk_log::{Ending, Loaded, Txns};
 use zk_machine::{Machine, MachineFault};
 use zk_path::NoMemory;

@@ -1,7 +1,0 @@
-//! The worked rows of views: the tests of `zk_views`, and no code of its own.
-#![tactic(auto)]
-
-#[cfg(test)]
-mod thread_rows;
-#[cfg(test)]
-mod view_rows;
