@@ -1,14 +1,12 @@
--- Where fields end, and what reading one needs.
-use Rattle.std.proofs.Common.{◌≡◌, ◌≢◌, eqb, ℕ, suc, ◌+◌, ◌≤◌, ◌<◌, Bool, true, false, List, [], ◌∷◌, length, take, drop, get_or, Option, Some, None, Result, Ok, Err, refl, sym, ap, ◌∙◌, arith, inl, inr}
+-- Where fields end.
+use Rattle.std.proofs.Common.{◌≡◌, ◌≢◌, eqb, ℕ, suc, ◌+◌, ◌≤◌, ◌<◌, Bool, true, false, List, [], ◌∷◌, length, take, drop, get_or, Option, None, refl, ap, arith, inl, inr}
 use Rattle.std.proofs.lemmas.Bool.{cases_eq, cases_lt, lt-ltb, le-ltb}
 use Rattle.std.proofs.lemmas.Bool.Decides.{nat_tests}
 use Rattle.std.proofs.lemmas.List.Sums.{prefix_len-le-length}
 use Rattle.std.proofs.lemmas.Str.{IsCharBoundary-before_ascii, IsCharBoundary-end}
 use Rattle.std.specs.List.{position, position_or_len}
-use Rattle.std.specs.Option.{unwrap_or, ok_or}
+use Rattle.std.specs.Option.{unwrap_or}
 use Rattle.std.specs.Str.{IsUtf8, IsCharBoundary}
-use Rattle.zk_listing.specs.declared.fault.ListCause.{ListCause}
-use Rattle.zk_listing.specs.declared.fault.ListCause.TheVariants as causes
 use Rattle.zk_listing.specs.Reading.{is_end, front_of, back_of, of_field, past}
 
 one_more : (n : ℕ) → 1 + n ≡ suc n
@@ -73,8 +71,3 @@ past_none c (b ∷ bs) h =
       | inl same ↦ absurd (h bs (ap (λ (x : ℕ). x ∷ bs) same))
       | inr other ↦ let differs : eqb b c ≡ false = grind (arith, nat_tests) in rw differs refl
     ]
-
--- a number that is read or refused takes no memory
-pub takes_no_memory : {X : Type 0} (found : Option X) (r : Result X ListCause) → r ≡ ok_or found causes.Number → r ≢ Err causes.NoMemory
-takes_no_memory {X} (Some x) r e = λ h. let bad : ◌≡◌ {A = Result X ListCause} (Ok x) (Err causes.NoMemory) = sym e ∙ h in cc
-takes_no_memory {X} None r e = λ h. let bad : ◌≡◌ {A = Result X ListCause} (Err causes.Number) (Err causes.NoMemory) = sym e ∙ h in cc

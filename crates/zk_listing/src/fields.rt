@@ -1,9 +1,8 @@
 //! The readers of single fields. Each takes a field from the front of its input; after a refusal the input stands
 //! somewhere in that field.
-ghost use Rattle.std.specs.Prelude.{◌≡◌, ◌≢◌, Err};
+ghost use Rattle.std.specs.Prelude.{◌≡◌, ◌≢◌, IfErr};
 ghost use Rattle.std.specs.Int.{w32, w64};
 ghost use Rattle.zk_listing.specs.Reading.{TakesField, Takes, Makes, id_from, id_at, int_from, int_at, content_from, content_at, content_of_digits, count_at, is_plain, is_end};
-ghost use Rattle.zk_listing.specs.declared.fault.ListCause.TheVariants as causes;
 ghost use Rattle.std.specs.List.{list_any, position, position_or_len};
 ghost use Rattle.std.specs.Char.{is_ascii_uppercase};
 
@@ -42,8 +41,8 @@ fn first_end(bytes: &[u8]) -> Option<usize>
 /// Sixteen lower-case hexadecimal digits.
 #[tactic(auto, unfolding(crate::specs::Reading::id_at))]
 pub(crate) fn id(input: &mut &str) -> Result<i64, ListCause>
-    ensures taken { Takes result input.new.now (id_at input.old.now) }
-    ensures memory { result ≢ Err causes.NoMemory }
+    ensures takes { Takes result input.new.now (id_at input.old.now) }
+    ensures memory { IfErr result (λ cause. cause ≢ ListCause.NoMemory) }
 {
     match take_field(input) {
         None => Err(ListCause::Fields),
@@ -72,8 +71,8 @@ fn has_upper_case(text: &str) -> bool
 /// A decimal of 32 bits.
 #[tactic(auto, unfolding(crate::specs::Reading::int_at))]
 pub(crate) fn int(input: &mut &str) -> Result<i32, ListCause>
-    ensures taken { Takes result input.new.now (int_at w32 input.old.now) }
-    ensures memory { result ≢ Err causes.NoMemory }
+    ensures takes { Takes result input.new.now (int_at w32 input.old.now) }
+    ensures memory { IfErr result (λ cause. cause ≢ ListCause.NoMemory) }
 {
     match take_field(input) {
         None => Err(ListCause::Fields),
@@ -93,8 +92,8 @@ fn int_of(field: &str) -> Option<i32>
 /// A decimal of 64 bits.
 #[tactic(auto, unfolding(crate::specs::Reading::int_at))]
 pub(crate) fn long(input: &mut &str) -> Result<i64, ListCause>
-    ensures taken { Takes result input.new.now (int_at w64 input.old.now) }
-    ensures memory { result ≢ Err causes.NoMemory }
+    ensures takes { Takes result input.new.now (int_at w64 input.old.now) }
+    ensures memory { IfErr result (λ cause. cause ≢ ListCause.NoMemory) }
 {
     match take_field(input) {
         None => Err(ListCause::Fields),

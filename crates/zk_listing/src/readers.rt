@@ -1,14 +1,13 @@
 //! The readers of fields. Each takes a field from the front of its input: a field that isn't quoted ends at a space, at
-//! a newline or at the end of the input. After a refusal the input stands where it was. A reader without an allocator is never
-//! refused memory.
-ghost use Rattle.std.specs.Prelude.{◌≡◌, ◌≢◌, FitsSigned, Err, OnErr, OnOk};
+//! a newline or at the end of the input. After a refusal the input stands where it was. A reader that is handed no
+//! allocator takes no memory, and never tells want of it.
+ghost use Rattle.std.specs.Prelude.{◌≡◌, ◌≢◌, FitsSigned, IfErr, OnErr, OnOk};
 ghost use Rattle.std.specs.Fmt.{signed_decimal};
 ghost use Rattle.std.specs.Int.{w32, w64};
 ghost use Rattle.std.specs.Str.{IsUtf8};
 ghost use Rattle.std.specs.String.{string_bytes};
 ghost use Rattle.zk_spelling.specs.Listings.{IsListedPath, IsListedContent, AreListedAcls};
 ghost use Rattle.zk_listing.specs.Promises.{ReadsFound, ReadsOnly};
-ghost use Rattle.zk_listing.specs.declared.fault.ListCause.TheVariants as causes;
 ghost use Rattle.zk_spelling.specs.Spelling.{id_digits, quoted, content_text, acl_text};
 
 use crate::fault::ListCause;
@@ -41,7 +40,7 @@ pub fn read_id(input: &mut &str) -> Result<i64, ListCause>
     ensures found { ReadsFound (λ x. x) id_digits (FitsSigned w64) result input.old.now input.new.now }
     ensures only { ReadsOnly (λ x. x) id_digits (FitsSigned w64) result input.old.now input.new.now }
     ensures unchanged { OnErr result (input.new.now ≡ input.old.now) }
-    ensures memory { result ≢ Err causes.NoMemory }
+    ensures memory { IfErr result (λ cause. cause ≢ ListCause.NoMemory) }
 {
     let mut rest = *input;
     let read = id(&mut rest);
@@ -53,7 +52,7 @@ pub fn read_int(input: &mut &str) -> Result<i32, ListCause>
     ensures found { ReadsFound (λ x. x) signed_decimal (FitsSigned w32) result input.old.now input.new.now }
     ensures only { ReadsOnly (λ x. x) signed_decimal (FitsSigned w32) result input.old.now input.new.now }
     ensures unchanged { OnErr result (input.new.now ≡ input.old.now) }
-    ensures memory { result ≢ Err causes.NoMemory }
+    ensures memory { IfErr result (λ cause. cause ≢ ListCause.NoMemory) }
 {
     let mut rest = *input;
     let read = int(&mut rest);
@@ -65,7 +64,7 @@ pub fn read_long(input: &mut &str) -> Result<i64, ListCause>
     ensures found { ReadsFound (λ x. x) signed_decimal (FitsSigned w64) result input.old.now input.new.now }
     ensures only { ReadsOnly (λ x. x) signed_decimal (FitsSigned w64) result input.old.now input.new.now }
     ensures unchanged { OnErr result (input.new.now ≡ input.old.now) }
-    ensures memory { result ≢ Err causes.NoMemory }
+    ensures memory { IfErr result (λ cause. cause ≢ ListCause.NoMemory) }
 {
     let mut rest = *input;
     let read = long(&mut rest);

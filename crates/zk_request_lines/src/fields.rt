@@ -1,8 +1,7 @@
 //! The readers of single fields, behind which a field ends. After a refusal the input stands somewhere in that field.
-ghost use Rattle.std.specs.Prelude.{◌≡◌, ◌≢◌, ◌==◌, length, Some, Err};
+ghost use Rattle.std.specs.Prelude.{◌≡◌, ◌≢◌, ◌==◌, length, Some, IfErr};
 ghost use Rattle.std.specs.String.{string_bytes};
 ghost use Rattle.zk_listing.specs.Reading.{Takes, TakesBy, mapped};
-ghost use Rattle.zk_listing.specs.declared.fault.ListCause.TheVariants as causes;
 ghost use Rattle.zk_request_lines.specs.Reading.{at_end, ended_result, id_field_at, int_field_at, long_field_at, text_field_at, acl_field_at, content_field_at, begins_with_quote};
 
 use std::alloc::Global;
@@ -78,7 +77,7 @@ pub(crate) fn alone<T: Drop>(read: Result<T, ListCause>, left: &str) -> Result<T
 #[tactic(auto, unfolding(crate::specs::Reading::id_field_at))]
 pub(crate) fn id(input: &mut &str) -> Result<i64, ListCause>
     ensures taken { Takes result input.new.now (id_field_at input.old.now) }
-    ensures memory { result ≢ Err causes.NoMemory }
+    ensures memory { IfErr result (λ cause. cause ≢ ListCause.NoMemory) }
 {
     let read = read_id(input);
     ended(read, input)
@@ -87,7 +86,7 @@ pub(crate) fn id(input: &mut &str) -> Result<i64, ListCause>
 /// A decimal of 32 bits.
 pub(crate) fn int(input: &mut &str) -> Result<i32, ListCause>
     ensures taken { Takes result input.new.now (int_field_at input.old.now) }
-    ensures memory { result ≢ Err causes.NoMemory }
+    ensures memory { IfErr result (λ cause. cause ≢ ListCause.NoMemory) }
 {
     let read = read_int(input);
     ended(read, input)
@@ -96,7 +95,7 @@ pub(crate) fn int(input: &mut &str) -> Result<i32, ListCause>
 /// A decimal of 64 bits.
 pub(crate) fn long(input: &mut &str) -> Result<i64, ListCause>
     ensures taken { Takes result input.new.now (long_field_at input.old.now) }
-    ensures memory { result ≢ Err causes.NoMemory }
+    ensures memory { IfErr result (λ cause. cause ≢ ListCause.NoMemory) }
 {
     let read = read_long(input);
     ended(read, input)

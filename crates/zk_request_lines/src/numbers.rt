@@ -1,7 +1,6 @@
 //! Numbers without a sign. After a refusal the input stands behind the word.
-ghost use Rattle.std.specs.Prelude.{◌≡◌, ◌≢◌, Err};
+ghost use Rattle.std.specs.Prelude.{◌≡◌, ◌≢◌, IfErr};
 ghost use Rattle.zk_listing.specs.Reading.{Takes};
-ghost use Rattle.zk_listing.specs.declared.fault.ListCause.TheVariants as causes;
 ghost use Rattle.zk_request_lines.specs.Reading.{number_from, number_at, begins_plainly};
 
 use crate::words::take_word;
@@ -11,7 +10,7 @@ use zk_listing::ListCause;
 #[tactic(auto, unfolding(crate::specs::Reading::number_at))]
 pub(crate) fn number(input: &mut &str) -> Result<u64, ListCause>
     ensures taken { Takes result input.new.now (number_at input.old.now) }
-    ensures memory { result ≢ Err causes.NoMemory }
+    ensures memory { IfErr result (λ cause. cause ≢ ListCause.NoMemory) }
 {
     let word = take_word(input);
     number_of(word).ok_or(ListCause::Number)

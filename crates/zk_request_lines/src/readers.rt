@@ -1,8 +1,7 @@
 //! The public readers of fields. Each takes its field from the front of its input; after a refusal the input stands where it was.
 //! A reader without an allocator is never refused memory.
-ghost use Rattle.std.specs.Prelude.{◌≡◌, ◌≢◌, Err, OnErr};
+ghost use Rattle.std.specs.Prelude.{◌≡◌, ◌≢◌, IfErr, OnErr};
 ghost use Rattle.zk_listing.specs.Reading.{Takes, spaced};
-ghost use Rattle.zk_listing.specs.declared.fault.ListCause.TheVariants as causes;
 ghost use Rattle.zk_request_lines.specs.Reading.{id_field_at, int_field_at, long_field_at, number_at, ids_at, request_at, lookup_at};
 
 use crate::fields::{id, int, long};
@@ -20,7 +19,7 @@ use zk_prepare::Request;
 pub fn take_id(input: &mut &str) -> Result<i64, ListCause>
     ensures taken { Takes result input.new.now (id_field_at input.old.now) }
     ensures unchanged { OnErr result (input.new.now ≡ input.old.now) }
-    ensures memory { result ≢ Err causes.NoMemory }
+    ensures memory { IfErr result (λ cause. cause ≢ ListCause.NoMemory) }
 {
     let mut rest = *input;
     let id = id(&mut rest)?;
@@ -32,7 +31,7 @@ pub fn take_id(input: &mut &str) -> Result<i64, ListCause>
 pub fn take_int(input: &mut &str) -> Result<i32, ListCause>
     ensures taken { Takes result input.new.now (int_field_at input.old.now) }
     ensures unchanged { OnErr result (input.new.now ≡ input.old.now) }
-    ensures memory { result ≢ Err causes.NoMemory }
+    ensures memory { IfErr result (λ cause. cause ≢ ListCause.NoMemory) }
 {
     let mut rest = *input;
     let int = int(&mut rest)?;
@@ -44,7 +43,7 @@ pub fn take_int(input: &mut &str) -> Result<i32, ListCause>
 pub fn take_long(input: &mut &str) -> Result<i64, ListCause>
     ensures taken { Takes result input.new.now (long_field_at input.old.now) }
     ensures unchanged { OnErr result (input.new.now ≡ input.old.now) }
-    ensures memory { result ≢ Err causes.NoMemory }
+    ensures memory { IfErr result (λ cause. cause ≢ ListCause.NoMemory) }
 {
     let mut rest = *input;
     let long = long(&mut rest)?;
@@ -56,7 +55,7 @@ pub fn take_long(input: &mut &str) -> Result<i64, ListCause>
 pub fn take_number(input: &mut &str) -> Result<u64, ListCause>
     ensures taken { Takes result input.new.now (number_at input.old.now) }
     ensures unchanged { OnErr result (input.new.now ≡ input.old.now) }
-    ensures memory { result ≢ Err causes.NoMemory }
+    ensures memory { IfErr result (λ cause. cause ≢ ListCause.NoMemory) }
 {
     let mut rest = *input;
     let number = number(&mut rest)?;

@@ -1,7 +1,6 @@
 //! Fields behind a space. After a refusal of a public reader the input stands where it was.
-ghost use Rattle.std.specs.Prelude.{◌≡◌, ◌≢◌, Err, OnErr};
+ghost use Rattle.std.specs.Prelude.{◌≡◌, ◌≢◌, IfErr, OnErr};
 ghost use Rattle.zk_listing.specs.Reading.{Takes, spaced, many_at};
-ghost use Rattle.zk_listing.specs.declared.fault.ListCause.TheVariants as causes;
 ghost use Rattle.zk_request_lines.specs.Reading.{id_field_at, int_field_at, long_field_at, number_at, text_field_at, acl_field_at, content_field_at, digest_at, ids_at};
 
 use crate::fields::{acl, content, id, int, long, text};
@@ -16,7 +15,7 @@ use zk_table::Content;
 pub fn spaced_id(input: &mut &str) -> Result<i64, ListCause>
     ensures taken { Takes result input.new.now (spaced id_field_at input.old.now) }
     ensures unchanged { OnErr result (input.new.now ≡ input.old.now) }
-    ensures memory { result ≢ Err causes.NoMemory }
+    ensures memory { IfErr result (λ cause. cause ≢ ListCause.NoMemory) }
 {
     let mut rest = *input;
     take_space(&mut rest)?;
@@ -29,7 +28,7 @@ pub fn spaced_id(input: &mut &str) -> Result<i64, ListCause>
 pub fn spaced_int(input: &mut &str) -> Result<i32, ListCause>
     ensures taken { Takes result input.new.now (spaced int_field_at input.old.now) }
     ensures unchanged { OnErr result (input.new.now ≡ input.old.now) }
-    ensures memory { result ≢ Err causes.NoMemory }
+    ensures memory { IfErr result (λ cause. cause ≢ ListCause.NoMemory) }
 {
     let mut rest = *input;
     take_space(&mut rest)?;
@@ -42,7 +41,7 @@ pub fn spaced_int(input: &mut &str) -> Result<i32, ListCause>
 pub fn spaced_long(input: &mut &str) -> Result<i64, ListCause>
     ensures taken { Takes result input.new.now (spaced long_field_at input.old.now) }
     ensures unchanged { OnErr result (input.new.now ≡ input.old.now) }
-    ensures memory { result ≢ Err causes.NoMemory }
+    ensures memory { IfErr result (λ cause. cause ≢ ListCause.NoMemory) }
 {
     let mut rest = *input;
     take_space(&mut rest)?;
@@ -55,7 +54,7 @@ pub fn spaced_long(input: &mut &str) -> Result<i64, ListCause>
 pub fn spaced_number(input: &mut &str) -> Result<u64, ListCause>
     ensures taken { Takes result input.new.now (spaced number_at input.old.now) }
     ensures unchanged { OnErr result (input.new.now ≡ input.old.now) }
-    ensures memory { result ≢ Err causes.NoMemory }
+    ensures memory { IfErr result (λ cause. cause ≢ ListCause.NoMemory) }
 {
     let mut rest = *input;
     take_space(&mut rest)?;

@@ -1,8 +1,7 @@
 //! Words and spaces.
-ghost use Rattle.std.specs.Prelude.{◌≡◌, ◌≢◌, Err, OnErr};
+ghost use Rattle.std.specs.Prelude.{◌≡◌, ◌≢◌, IfErr, OnErr};
 ghost use Rattle.std.specs.List.{position, position_or_len};
 ghost use Rattle.zk_listing.specs.Reading.{TakesUnit, past, is_end, front_of, back_of};
-ghost use Rattle.zk_listing.specs.declared.fault.ListCause.TheVariants as causes;
 ghost use Rattle.zk_request_lines.specs.Reading.{flag_at};
 
 use zk_listing::ListCause;
@@ -35,7 +34,7 @@ fn first_end(bytes: &[u8]) -> Option<usize>
 pub fn take_space(input: &mut &str) -> Result<(), ListCause>
     ensures taken { TakesUnit result input.new.now (past 32 input.old.now) }
     ensures unchanged { OnErr result (input.new.now ≡ input.old.now) }
-    ensures memory { result ≢ Err causes.NoMemory }
+    ensures memory { IfErr result (λ cause. cause ≢ ListCause.NoMemory) }
 {
     match input.strip_prefix(' ') {
         Some(rest) => {

@@ -2,7 +2,7 @@
 use Rattle.std.proofs.Common.{◌≡◌, ◌≢◌, ◌&&◌, ◌==◌, eqb, ℕ, ℤ, ◌^◌, ◌<◌, ◌≤◌, Bool, true, false, cond, List, [], ◌∷◌, ◌++◌, length, nat_le, Option, Some, None, Result, Ok, Err, refl, sym, ap, subst, ◌∙◌, append_assoc, arith}
 use Rattle.std.proofs.lemmas.List.{append-nil}
 use Rattle.std.proofs.lemmas.Bool.Decides.{nat_tests}
-use Rattle.std.specs.Prelude.{FitsSigned, codes}
+use Rattle.std.specs.Prelude.{FitsSigned, IfErr, codes}
 use Rattle.std.specs.Fmt.{decimal, signed_decimal}
 use Rattle.std.specs.Int.{w32, w64}
 use Rattle.std.specs.List.{AllByRecursion}
@@ -398,7 +398,7 @@ found_servers line left n false failed read = λ other s. tested_none (SpellsNum
 no_servers : (line : List ℕ) → servers_at line ≡ None → (servers : ℕ) → SaysServers line servers → ⊥
 no_servers line none servers s = untold (SpellsNumber (codes "servers")) servers_at whole_servers is_count line servers none (counted_so line servers s)
 
-pub reads_servers : (line left : List ℕ) (r : Result ℕ ListCause) → r ≢ Err causes.NoMemory → Takes r left (servers_at line) → ReadsServers line (counted_result left r)
+pub reads_servers : (line left : List ℕ) (r : Result ℕ ListCause) → IfErr r (λ cause. cause ≢ causes.NoMemory) → Takes r left (servers_at line) → ReadsServers line (counted_result left r)
 reads_servers line left (Ok n) memory read = found_servers line left n (is_counted left n) refl read
 reads_servers line left (Err causes.NoMemory) memory read = absurd (memory refl)
 reads_servers line left (Err causes.Fields) memory read = no_servers line read

@@ -1,7 +1,6 @@
 //! The reader of one line.
-ghost use Rattle.std.specs.Prelude.{◌≡◌, ◌≢◌, Err};
+ghost use Rattle.std.specs.Prelude.{◌≡◌, ◌≢◌, IfErr};
 ghost use Rattle.zk_listing.specs.Reading.{Takes, spaced, mapped};
-ghost use Rattle.zk_listing.specs.declared.fault.ListCause.TheVariants as causes;
 ghost use Rattle.zk_request_lines.specs.Reading.{number_at};
 ghost use Rattle.zk_run_script.specs.Commands.{ReadsCommand, ReadsServers};
 ghost use Rattle.zk_run_script.specs.Reading.{two_at, submit_at, expire_at, read_at, submitted, expired, read_by, reported_at, command_at, is_among, among_result, servers_at, counted_result};
@@ -163,7 +162,7 @@ fn report(report: Report, input: &mut &str) -> Result<Command, ListCause>
 /// The number of a server or a message, behind a space.
 fn place(input: &mut &str) -> Result<usize, ListCause>
     ensures taken { Takes result input.new.now (spaced number_at input.old.now) }
-    ensures memory { result ≢ Err causes.NoMemory }
+    ensures memory { IfErr result (λ cause. cause ≢ ListCause.NoMemory) }
 {
     let number = spaced_number(input)?;
     Ok(number as usize)
@@ -172,7 +171,7 @@ fn place(input: &mut &str) -> Result<usize, ListCause>
 /// The number of servers, from 2 to 15, that a script's first line says: `servers N`. It takes no memory.
 pub fn read_servers(line: &str) -> Result<usize, ListCause>
     ensures reads { ReadsServers line.now result }
-    ensures memory { result ≢ Err causes.NoMemory }
+    ensures memory { IfErr result (λ cause. cause ≢ ListCause.NoMemory) }
 {
     let mut rest = line;
     let read = servers(&mut rest);
@@ -182,7 +181,7 @@ pub fn read_servers(line: &str) -> Result<usize, ListCause>
 /// What was read, if nothing is left behind it and it is from 2 to 15.
 fn counted(read: Result<usize, ListCause>, left: &str) -> Result<usize, ListCause>
     ensures counted { result ≡ counted_result left.now read }
-    ensures memory { read ≢ Err causes.NoMemory → result ≢ Err causes.NoMemory }
+    ensures memory { IfErr read (λ cause. cause ≢ ListCause.NoMemory) → IfErr result (λ cause. cause ≢ ListCause.NoMemory) }
 {
     let servers = read?;
     if left.is_empty() && 2 <= servers && servers <= 15 {
@@ -194,7 +193,7 @@ fn counted(read: Result<usize, ListCause>, left: &str) -> Result<usize, ListCaus
 #[tactic(auto, unfolding(crate::specs::Reading::servers_at))]
 fn servers(input: &mut &str) -> Result<usize, ListCause>
     ensures taken { Takes result input.new.now (servers_at input.old.now) }
-    ensures memory { result ≢ Err causes.NoMemory }
+    ensures memory { IfErr result (λ cause. cause ≢ ListCause.NoMemory) }
 {
     match take_word(input) {
         "servers" => place(input),

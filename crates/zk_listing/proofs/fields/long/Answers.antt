@@ -1,12 +1,9 @@
 use Rattle.std.specs.Int.{w64}
 use Rattle.zk_listing.specs.Reading.{int_at, int_from}
 use Rattle.zk_listing.proofs.DecimalLaws.{int_from-empty, narrow64}
-use Rattle.zk_listing.proofs.FieldLaws.{nothing_in_front, takes_no_memory}
+use Rattle.zk_listing.proofs.FieldLaws.{nothing_in_front}
 use Rattle.zk_listing.proofs.fields.long.Goals as goal
 
-pub returns-in-None-clause-taken : goal.returns-in-None-clause-taken
+pub returns-in-None-clause-takes : goal.returns-in-None-clause-takes
 unfolding int_at
-returns-in-None-clause-taken c = nothing_in_front (int_from w64) c.args.input.now.now (int_from-empty w64 narrow64) c.in-None.ensures
-
-pub returns-in-Some-clause-memory : goal.returns-in-Some-clause-memory
-returns-in-Some-clause-memory c = takes_no_memory c.long_of.result c.ok_or.result c.ok_or.ensures.value
+returns-in-None-clause-takes c = nothing_in_front (int_from w64) c.args.input.now.now (int_from-empty w64 narrow64) c.in-None.ensures
