@@ -5,9 +5,9 @@ use Rattle.zk_log.specs.declared.source.Source.{Source}
 use Rattle.zk_path.specs.declared.memory.NoMemory.{NoMemory}
 use Rattle.zk_orders.specs.Assembling.{Assembles}
 use Rattle.zk_orders.specs.Debugs.{Debugs}
-use Rattle.zk_orders.specs.Running.{RunsText}
 use Rattle.zk_orders.specs.Showing.{report_of}
 use Rattle.zk_orders.specs.Telling.{TellsLog}
+use Rattle.zk_run_order.specs.Running.{RunsText}
 use Rattle.zk_orders.specs.declared.command.Order.{Order}
 use Rattle.zk_orders.specs.declared.command.Order.TheVariants as orders
 use Rattle.zk_orders.specs.declared.reporting.Report.TheVariants as reports

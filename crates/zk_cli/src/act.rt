@@ -5,8 +5,9 @@ ghost use Rattle.zk_log.specs.Devices.{reads_of, read_failures_of, write_failure
 use std::alloc::Global;
 use std::io::{Read, Write};
 use zk_log::{Sink, Source};
-use zk_orders::{Order, Report, asm, debug, run, tell_log};
+use zk_orders::{Order, Report, asm, debug, tell_log};
 use zk_path::NoMemory;
+use zk_run_order::run;
 
 /// Does what an order asks for, and answers the exit status: 0, or 1 for a refused input or a failed output, with one
 /// line on `faults`.

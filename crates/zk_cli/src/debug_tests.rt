@@ -4,9 +4,9 @@ use std::alloc::Global;
 use std::process::Abort;
 use std::test::Fail;
 use zk_log::{DripIn, DripOut, Sink, Source};
-use zk_orders::{CommandFault, Order, read_command_line, script_line};
+use zk_orders::{CommandFault, Order, read_command_line};
 use zk_path::NoMemory;
-use zk_script::ScriptFault;
+use zk_reports::{ScriptFault, script_line};
 use zk_usage::ErrorKind;
 
 /// A multi whose parts make and take away a node, and a create that is refused.

@@ -1,5 +1,5 @@
 -- What the order `debug` writes: the answers to a script over a log.
-use Rattle.std.specs.Prelude.{◌≡◌, ℕ, zero, suc, ◌+◌, ◌≤◌, List, [], false, ◌⊎◌, Option, Result, Ok, Err, IsOk, codes}
+use Rattle.std.specs.Prelude.{◌≡◌, ℕ, ◌+◌, ◌≤◌, List, [], false, Option, Result, Ok, Err, codes}
 use Rattle.std.specs.FinMap as finite
 use Rattle.std.specs.Str.{IsUtf8}
 use Rattle.zk_debug.specs.Debugging.{Debugging}
@@ -10,36 +10,20 @@ use Rattle.zk_log.specs.declared.loaded.Loaded.{Loaded}
 use Rattle.zk_log.specs.declared.sink.Sink.{Sink}
 use Rattle.zk_log.specs.declared.source.Source.{Source}
 use Rattle.zk_path.specs.declared.memory.NoMemory.{NoMemory}
-use Rattle.zk_script.specs.Scripts.{RunsScript}
-use Rattle.zk_script.specs.declared.fault.ScriptFault.{ScriptFault}
-use Rattle.zk_script.specs.declared.fault.ScriptFault.TheVariants as script_faults
+use Rattle.zk_debug_script.specs.Scripts.{RunsScript}
+use Rattle.zk_reports.specs.declared.fault.ScriptFault.{ScriptFault}
+use Rattle.zk_reports.specs.declared.fault.ScriptFault.TheVariants as script_faults
 use Rattle.zk_txn.specs.declared.txn.Txn.{Txn}
-use Rattle.zk_orders.specs.FaultLines.{line_of_log_fault, line_of_script_fault}
+use Rattle.zk_orders.specs.Answering.{OutputsAnswers}
+use Rattle.zk_orders.specs.FaultLines.{line_of_log_fault}
 use Rattle.zk_orders.specs.Reading.{ReadsAll, TellsRead}
-use Rattle.zk_orders.specs.Telling.{Loads, Told, Outputs, OutputsNothing, GivesUp}
-use Rattle.zk_orders.specs.Writing.{LeavesSink, Wrote, BrokeOff}
+use Rattle.zk_orders.specs.Telling.{Loads, OutputsNothing, GivesUp}
 use Rattle.zk_orders.specs.declared.text.TextFault.{TextFault}
 use Rattle.zk_orders.specs.declared.text.TextFault.TheVariants as text_faults
 
 -- a debugger at the start of a log, with no breakpoint
 abbrev pub started : List Txn → Debugging
 started txns = record { txns = txns; place = 0; breakpoints = record { standing = finite.empty; numbered = 0 }; failed = false }
-
--- ---- what is written of the answers
-
--- the whole text, and then a line for the user; or a part of it, where the output failed
-abbrev pub OutputsAndTells : {O E : Type 0} → (O → Option (List ℕ)) → (E → Option (List ℕ)) → List ℕ → List ℕ → Sink O → Sink O → Sink E → Sink E → Result ℕ NoMemory → Type 0
-OutputsAndTells written told text line output output' faults faults' (Ok zero) = ⊥
-OutputsAndTells written told text line output output' faults faults' (Ok (suc zero)) =
-    (Wrote written output output' text × Told told faults faults' line) ⊎ (BrokeOff written output output' text × Told told faults faults' (codes "zk: write\n"))
-OutputsAndTells written told text line output output' faults faults' (Ok (suc (suc more))) = ⊥
-OutputsAndTells written told text line output output' faults faults' (Err refused) = LeavesSink written output output' × LeavesSink told faults faults'
-
--- the answers of a script, and the number of its line that says no command
-abbrev pub OutputsAnswers : {O E : Type 0} → (O → Option (List ℕ)) → (E → Option (List ℕ)) → Result (Unit {0}) ScriptFault → List ℕ → Sink O → Sink O → Sink E → Sink E → Result ℕ NoMemory → Type 0
-OutputsAnswers written told (Ok done) answers output output' faults faults' result = Outputs written told answers output output' faults faults' result × IsOk result
-OutputsAnswers written told (Err (script_faults.Malformed line)) answers output output' faults faults' result = OutputsAndTells written told answers (line_of_script_fault line) output output' faults faults' result
-OutputsAnswers written told (Err script_faults.NoMemory) answers output output' faults faults' result = GivesUp written told output output' faults faults' result
 
 -- a script was run from the start of a log, want of memory aside
 abbrev pub RunsFromStart : List Txn → List ℕ → List ℕ → Result (Unit {0}) ScriptFault → List ℕ → Type 0

@@ -1,7 +1,7 @@
+pub mod Answering
 pub mod Assembling
 pub mod Commands
 pub mod Debugs
-pub mod Running
 pub mod FaultLines
 pub mod Reading
 pub mod Showing

@@ -1,20 +1,18 @@
-ghost use Rattle.std.specs.Prelude.{◌≡◌, ◌+◌, ◌-◌, ◌<◌, ◌^◌, Ok};
+ghost use Rattle.std.specs.Prelude.{◌+◌, ◌-◌, ◌<◌, ◌^◌};
 ghost use Rattle.std.specs.String.{string_bytes};
 ghost use Rattle.zk_log.specs.Devices.{reads_of, read_failures_of, write_failures_of};
-ghost use Rattle.zk_orders.specs.Debugs.{Debugs, OutputsAndTells, ReadsScript, Runs, RunsFromStart};
-ghost use Rattle.zk_orders.specs.FaultLines.{line_of_script_fault};
-ghost use Rattle.zk_orders.specs.Telling.{Outputs};
+ghost use Rattle.zk_orders.specs.Debugs.{Debugs, ReadsScript, Runs, RunsFromStart};
 
-use crate::fault_lines::script_line;
+use crate::answering::{put_answers, put_answers_before};
 use crate::telling::{TURNS, tell, tell_log_fault};
 use crate::text::{TextFault, read_text};
 use std::alloc::Global;
 use std::io::{Read, Write};
 use std::mem::forget;
 use zk_debug::Debugger;
+use zk_debug_script::{ScriptFault, run_script};
 use zk_log::{Loaded, LogFault, Sink, Source, load};
 use zk_path::NoMemory;
-use zk_script::{ScriptFault, run_script};
 
 /// Loads a log, reads a script whole, and writes what a debugger answers to the script's lines, up to the first that
 /// says no command. Answers the exit status.
@@ -110,50 +108,4 @@ fn push_answers(
     // The program ends with this: to give the memory back piece by piece would cost as much as the script.
     forget(debugger);
     ran
-}
-
-/// Writes the answers of a script. Answers the exit status.
-pub(crate) fn put_answers<O: Write, E: Write>(
-    answers: &str,
-    output: &mut Sink<O>,
-    faults: &mut Sink<E>,
-) -> u8
-    requires output { write_failures_of output.old < 2 ^ 64 - 1 }
-    requires faults { write_failures_of faults.old < 2 ^ 64 - 1 }
-    ensures { Outputs O.contents E.contents answers.now output.old output.new
-        faults.old faults.new (Ok result) }
-{
-    match output.write_all(answers.as_bytes()) {
-        Ok(()) => 0,
-        Err(_) => {
-            tell(faults, "zk: write\n");
-            1
-        }
-    }
-}
-
-/// Writes the answers to the lines before one that says no command, and tells its number. Answers the exit status.
-pub(crate) fn put_answers_before<O: Write, E: Write>(
-    alloc: Global,
-    answers: &str,
-    line: u64,
-    output: &mut Sink<O>,
-    faults: &mut Sink<E>,
-) -> Result<u8, NoMemory>
-    requires output { write_failures_of output.old < 2 ^ 64 - 1 }
-    requires faults { write_failures_of faults.old < 2 ^ 64 - 1 }
-    ensures { OutputsAndTells O.contents E.contents answers.now (line_of_script_fault line)
-        output.old output.new faults.old faults.new result }
-{
-    let told = script_line(alloc, line)?;
-    match output.write_all(answers.as_bytes()) {
-        Ok(()) => {
-            tell(faults, told.as_str());
-            Ok(1)
-        }
-        Err(_) => {
-            tell(faults, "zk: write\n");
-            Ok(1)
-        }
-    }
 }

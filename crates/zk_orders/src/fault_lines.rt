@@ -1,8 +1,8 @@
 ghost use Rattle.std.specs.Prelude.{◌≡◌, IfNone, IfOk, IfSome};
 ghost use Rattle.std.specs.String.{string_bytes};
-ghost use Rattle.zk_orders.specs.FaultLines.{TellsPlace, line_of_log_fault, line_of_list_fault, line_of_asm_fault, line_of_script_fault, number_of_cause};
+ghost use Rattle.zk_orders.specs.FaultLines.{TellsPlace, line_of_log_fault, line_of_list_fault, line_of_asm_fault, number_of_cause};
 
-use crate::assembling::AsmFault;
+use crate::asm_fault::AsmFault;
 use std::alloc::Global;
 use zk_listing::{ListCause, ListFault};
 use zk_log::LogFault;
@@ -71,15 +71,6 @@ pub fn asm_line(alloc: Global, fault: AsmFault) -> Result<String, NoMemory>
         AsmFault::Length(at) => write!(line, "zk: length {at}\n")?,
         AsmFault::NoMemory => line.push_str("zk: memory\n")?,
     }
-    Ok(line)
-}
-
-/// The line that tells which line of a script says no command.
-pub fn script_line(alloc: Global, number: u64) -> Result<String, NoMemory>
-    ensures { IfOk result (λ line. string_bytes line ≡ line_of_script_fault number) }
-{
-    let mut line = String::new(alloc);
-    write!(line, "zk: script {number}\n")?;
     Ok(line)
 }
 

@@ -1,8 +1,10 @@
-//! The orders of the program `zk`: which words name one, and what it reads and writes, over any readers and writers.
+//! The orders of the program `zk`: which words name one, and what each but `run` reads and writes, over any readers and writers.
 //!
 //! They stand below `zk_cli`, since the proof of a program goes through all that it reaches each time.
 #![tactic(auto)]
 
+mod answering;
+mod asm_fault;
 mod assembling;
 mod command;
 mod debugging;
@@ -10,15 +12,16 @@ mod fault_lines;
 mod lines;
 mod list;
 mod reporting;
-mod running;
 mod show;
 mod telling;
 mod text;
 
-pub use assembling::{AsmFault, asm};
+pub use answering::{put_answers, put_answers_before};
+pub use asm_fault::AsmFault;
+pub use assembling::asm;
 pub use command::{CommandFault, Job, Order, read_command_line};
 pub use debugging::debug;
-pub use fault_lines::{asm_line, log_line, script_line};
+pub use fault_lines::{asm_line, log_line};
 pub use reporting::{Report, tell_log};
-pub use running::run;
+pub use telling::{TURNS, tell};
 pub use text::{TextFault, read_text};

@@ -3,7 +3,7 @@ ghost use Rattle.zk_orders.specs.FaultLines.{line_of_log_fault, line_of_asm_faul
 ghost use Rattle.zk_orders.specs.Telling.{Told, TellsFault};
 ghost use Rattle.zk_log.specs.Devices.{write_failures_of};
 
-use crate::assembling::AsmFault;
+use crate::asm_fault::AsmFault;
 use crate::fault_lines::{asm_line, log_line, placeless_asm_line, placeless_log_line};
 use std::alloc::Global;
 use std::io::Write;
@@ -11,7 +11,7 @@ use zk_log::{LogFault, Sink};
 use zk_path::NoMemory;
 
 /// The most reads of an input.
-pub(crate) const TURNS: u32 = 1_048_576;
+pub const TURNS: u32 = 1_048_576;
 
 /// Tells why a log was refused. Answers the exit status.
 pub(crate) fn tell_log_fault<E: Write>(
@@ -50,7 +50,7 @@ pub(crate) fn tell_asm_fault<E: Write>(
 }
 
 /// Writes a line for the user. Where that fails there is nobody left to tell.
-pub(crate) fn tell<E: Write>(faults: &mut Sink<E>, line: &str)
+pub fn tell<E: Write>(faults: &mut Sink<E>, line: &str)
     requires failures { write_failures_of faults.old < 2 ^ 64 - 1 }
     ensures { Told E.contents faults.old faults.new line.now }
 {

@@ -1,6 +1,7 @@
 -- What a reader of listings reads, where a field ends behind it.
 use Rattle.std.proofs.Common.{◌≡◌, ◌≢◌, ℕ, Bool, true, false, List, [], ◌∷◌, ◌++◌, Option, Some, None, Result, Ok, Err, refl, sym, ap, subst, ◌∙◌}
 use Rattle.std.proofs.lemmas.Option.{cond_some}
+use Rattle.std.specs.Prelude.{IfErr}
 use Rattle.zk_listing.specs.declared.fault.ListCause.{ListCause}
 use Rattle.zk_listing.specs.declared.fault.ListCause.TheVariants as causes
 use Rattle.zk_listing.specs.Promises.{ReadsFound, ReadsOnly}
@@ -69,3 +70,9 @@ module _ {X Y : Type 0} (view : X → Y) (spell : Y → List ℕ) (Fits : Y → 
 pub takes_itself : {X : Type 0} (r : Result X ListCause) (rest : List ℕ) (read : Option (X × List ℕ)) → TakesBy (λ (x : X). x) r rest read → Takes r rest read
 takes_itself (Ok x) rest read h = h
 takes_itself (Err cause) rest read h = h
+
+-- a field's end takes no memory
+pub ended_without_memory : {X : Type 0} (e : Bool) (r : Result X ListCause) → IfErr r (λ cause. cause ≢ causes.NoMemory) → IfErr (ended_result e r) (λ cause. cause ≢ causes.NoMemory)
+ended_without_memory true r h = h
+ended_without_memory false (Ok x) h = λ same. cc
+ended_without_memory false (Err cause) h = h

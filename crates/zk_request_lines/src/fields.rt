@@ -1,5 +1,5 @@
 //! The readers of single fields, behind which a field ends. After a refusal the input stands somewhere in that field.
-ghost use Rattle.std.specs.Prelude.{◌≡◌, ◌==◌, length, Some};
+ghost use Rattle.std.specs.Prelude.{◌≡◌, ◌≢◌, ◌==◌, length, Some, IfErr};
 ghost use Rattle.std.specs.String.{string_bytes};
 ghost use Rattle.zk_listing.specs.Reading.{Takes, TakesBy, mapped};
 ghost use Rattle.zk_request_lines.specs.Reading.{at_end, ended_result, id_field_at, int_field_at, long_field_at, text_field_at, acl_field_at, content_field_at, begins_with_quote};
@@ -76,7 +76,8 @@ pub(crate) fn alone<T: Drop>(read: Result<T, ListCause>, left: &str) -> Result<T
 /// The number of a transaction or a session: sixteen lower-case hexadecimal digits.
 #[tactic(auto, unfolding(crate::specs::Reading::id_field_at))]
 pub(crate) fn id(input: &mut &str) -> Result<i64, ListCause>
-    ensures { Takes result input.new.now (id_field_at input.old.now) }
+    ensures taken { Takes result input.new.now (id_field_at input.old.now) }
+    ensures memory { IfErr result (λ cause. cause ≢ ListCause.NoMemory) }
 {
     let read = read_id(input);
     ended(read, input)
@@ -84,7 +85,8 @@ pub(crate) fn id(input: &mut &str) -> Result<i64, ListCause>
 
 /// A decimal of 32 bits.
 pub(crate) fn int(input: &mut &str) -> Result<i32, ListCause>
-    ensures { Takes result input.new.now (int_field_at input.old.now) }
+    ensures taken { Takes result input.new.now (int_field_at input.old.now) }
+    ensures memory { IfErr result (λ cause. cause ≢ ListCause.NoMemory) }
 {
     let read = read_int(input);
     ended(read, input)
@@ -92,7 +94,8 @@ pub(crate) fn int(input: &mut &str) -> Result<i32, ListCause>
 
 /// A decimal of 64 bits.
 pub(crate) fn long(input: &mut &str) -> Result<i64, ListCause>
-    ensures { Takes result input.new.now (long_field_at input.old.now) }
+    ensures taken { Takes result input.new.now (long_field_at input.old.now) }
+    ensures memory { IfErr result (λ cause. cause ≢ ListCause.NoMemory) }
 {
     let read = read_long(input);
     ended(read, input)

@@ -12,10 +12,15 @@ mod readers;
 mod replies;
 mod requests;
 mod spaced;
+mod words;
 
 pub use lookups::{Lookup, read_lookup};
 pub use parts::read_part;
-pub use readers::{take_id, take_ids, take_int, take_long, take_lookup, take_number, take_request};
+pub use readers::{
+    spaced_lookup, spaced_request, take_id, take_ids, take_int, take_long, take_lookup,
+    take_number, take_request,
+};
 pub use replies::{push_refusal, push_reply};
 pub use requests::read_request;
-pub use spaced::{take_space, take_word};
+pub use spaced::{spaced_id, spaced_ids, spaced_int, spaced_long, spaced_number};
+pub use words::{take_space, take_word};

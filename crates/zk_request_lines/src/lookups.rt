@@ -6,7 +6,8 @@ ghost use Rattle.zk_request_lines.specs.Reading.{lookup_at, lookup_of, watched_a
 ghost use Rattle.zk_request_lines.specs.RequestLines.{SpellsLookup};
 
 use crate::fields::alone;
-use crate::spaced::{flag, spaced_text, take_word};
+use crate::spaced::spaced_text;
+use crate::words::{flag, take_word};
 use std::alloc::Global;
 use zk_listing::ListCause;
 use zk_path::{Path, PathFault};

@@ -1,15 +1,16 @@
 //! Numbers without a sign. After a refusal the input stands behind the word.
-ghost use Rattle.std.specs.Prelude.{◌≡◌};
+ghost use Rattle.std.specs.Prelude.{◌≡◌, ◌≢◌, IfErr};
 ghost use Rattle.zk_listing.specs.Reading.{Takes};
 ghost use Rattle.zk_request_lines.specs.Reading.{number_from, number_at, begins_plainly};
 
-use crate::spaced::take_word;
+use crate::words::take_word;
 use zk_listing::ListCause;
 
 /// A decimal of 64 bits without a sign: `0`, or digits of which the first is not 0.
 #[tactic(auto, unfolding(crate::specs::Reading::number_at))]
 pub(crate) fn number(input: &mut &str) -> Result<u64, ListCause>
-    ensures { Takes result input.new.now (number_at input.old.now) }
+    ensures taken { Takes result input.new.now (number_at input.old.now) }
+    ensures memory { IfErr result (λ cause. cause ≢ ListCause.NoMemory) }
 {
     let word = take_word(input);
     number_of(word).ok_or(ListCause::Number)

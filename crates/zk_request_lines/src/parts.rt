@@ -6,9 +6,8 @@ ghost use Rattle.zk_request_lines.specs.Reading.{created_at, written_at, named_a
 ghost use Rattle.zk_request_lines.specs.RequestLines.{flags_of, SpellsPart};
 
 use crate::fields::{Created, Named, Written, alone};
-use crate::spaced::{
-    flag, spaced_acl, spaced_content, spaced_int, spaced_text, take_space, take_word,
-};
+use crate::spaced::{spaced_acl, spaced_content, spaced_int, spaced_text};
+use crate::words::{flag, take_space, take_word};
 use std::alloc::Global;
 use zk_listing::ListCause;
 use zk_prepare::{Part, Parts};

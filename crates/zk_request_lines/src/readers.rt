@@ -1,6 +1,7 @@
 //! The public readers of fields. Each takes its field from the front of its input; after a refusal the input stands where it was.
-ghost use Rattle.std.specs.Prelude.{◌≡◌, OnErr};
-ghost use Rattle.zk_listing.specs.Reading.{Takes};
+//! A reader without an allocator is never refused memory.
+ghost use Rattle.std.specs.Prelude.{◌≡◌, ◌≢◌, IfErr, OnErr};
+ghost use Rattle.zk_listing.specs.Reading.{Takes, spaced};
 ghost use Rattle.zk_request_lines.specs.Reading.{id_field_at, int_field_at, long_field_at, number_at, ids_at, request_at, lookup_at};
 
 use crate::fields::{id, int, long};
@@ -8,6 +9,7 @@ use crate::lookups::{Lookup, lookup_by_word};
 use crate::numbers::number;
 use crate::requests::request;
 use crate::spaced::ids;
+use crate::words::take_space;
 use std::alloc::Global;
 use zk_acl::Ids;
 use zk_listing::ListCause;
@@ -17,6 +19,7 @@ use zk_prepare::Request;
 pub fn take_id(input: &mut &str) -> Result<i64, ListCause>
     ensures taken { Takes result input.new.now (id_field_at input.old.now) }
     ensures unchanged { OnErr result (input.new.now ≡ input.old.now) }
+    ensures memory { IfErr result (λ cause. cause ≢ ListCause.NoMemory) }
 {
     let mut rest = *input;
     let id = id(&mut rest)?;
@@ -28,6 +31,7 @@ pub fn take_id(input: &mut &str) -> Result<i64, ListCause>
 pub fn take_int(input: &mut &str) -> Result<i32, ListCause>
     ensures taken { Takes result input.new.now (int_field_at input.old.now) }
     ensures unchanged { OnErr result (input.new.now ≡ input.old.now) }
+    ensures memory { IfErr result (λ cause. cause ≢ ListCause.NoMemory) }
 {
     let mut rest = *input;
     let int = int(&mut rest)?;
@@ -39,6 +43,7 @@ pub fn take_int(input: &mut &str) -> Result<i32, ListCause>
 pub fn take_long(input: &mut &str) -> Result<i64, ListCause>
     ensures taken { Takes result input.new.now (long_field_at input.old.now) }
     ensures unchanged { OnErr result (input.new.now ≡ input.old.now) }
+    ensures memory { IfErr result (λ cause. cause ≢ ListCause.NoMemory) }
 {
     let mut rest = *input;
     let long = long(&mut rest)?;
@@ -50,6 +55,7 @@ pub fn take_long(input: &mut &str) -> Result<i64, ListCause>
 pub fn take_number(input: &mut &str) -> Result<u64, ListCause>
     ensures taken { Takes result input.new.now (number_at input.old.now) }
     ensures unchanged { OnErr result (input.new.now ≡ input.old.now) }
+    ensures memory { IfErr result (λ cause. cause ≢ ListCause.NoMemory) }
 {
     let mut rest = *input;
     let number = number(&mut rest)?;
@@ -85,6 +91,30 @@ pub fn take_lookup(alloc: Global, input: &mut &str) -> Result<Lookup, ListCause>
     ensures unchanged { OnErr result (input.new.now ≡ input.old.now) }
 {
     let mut rest = *input;
+    let lookup = lookup_by_word(alloc, &mut rest)?;
+    *input = rest;
+    Ok(lookup)
+}
+
+/// Takes a space and a request; a multi takes all.
+pub fn spaced_request(alloc: Global, input: &mut &str) -> Result<Request, ListCause>
+    ensures taken { Takes result input.new.now (spaced request_at input.old.now) }
+    ensures unchanged { OnErr result (input.new.now ≡ input.old.now) }
+{
+    let mut rest = *input;
+    take_space(&mut rest)?;
+    let request = request(alloc, &mut rest)?;
+    *input = rest;
+    Ok(request)
+}
+
+/// Takes a space and a read.
+pub fn spaced_lookup(alloc: Global, input: &mut &str) -> Result<Lookup, ListCause>
+    ensures taken { Takes result input.new.now (spaced lookup_at input.old.now) }
+    ensures unchanged { OnErr result (input.new.now ≡ input.old.now) }
+{
+    let mut rest = *input;
+    take_space(&mut rest)?;
     let lookup = lookup_by_word(alloc, &mut rest)?;
     *input = rest;
     Ok(lookup)

@@ -7,7 +7,8 @@ ghost use Rattle.zk_request_lines.specs.RequestLines.{SpellsRequest};
 
 use crate::fields::{Named, alone};
 use crate::parts::{created, named, parts, written};
-use crate::spaced::{spaced_acl, spaced_int, spaced_text, take_word};
+use crate::spaced::{spaced_acl, spaced_int, spaced_text};
+use crate::words::take_word;
 use std::alloc::Global;
 use zk_listing::ListCause;
 use zk_prepare::Request;

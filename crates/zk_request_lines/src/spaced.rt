@@ -1,74 +1,78 @@
-//! Words, spaces, and fields behind a space.
-ghost use Rattle.std.specs.Prelude.{◌≡◌, OnErr};
-ghost use Rattle.std.specs.List.{position, position_or_len};
-ghost use Rattle.zk_listing.specs.Reading.{Takes, TakesUnit, past, spaced, is_end, front_of, back_of, many_at};
-ghost use Rattle.zk_request_lines.specs.Reading.{flag_at, int_field_at, text_field_at, acl_field_at, content_field_at, digest_at, ids_at};
+//! Fields behind a space. After a refusal of a public reader the input stands where it was.
+ghost use Rattle.std.specs.Prelude.{◌≡◌, ◌≢◌, IfErr, OnErr};
+ghost use Rattle.zk_listing.specs.Reading.{Takes, spaced, many_at};
+ghost use Rattle.zk_request_lines.specs.Reading.{id_field_at, int_field_at, long_field_at, number_at, text_field_at, acl_field_at, content_field_at, digest_at, ids_at};
 
-use crate::fields::{acl, content, int, text};
+use crate::fields::{acl, content, id, int, long, text};
 use crate::numbers::number;
+use crate::words::take_space;
 use std::alloc::Global;
 use zk_acl::{Acls, Id, Ids, Text};
 use zk_listing::ListCause;
 use zk_table::Content;
 
-/// Takes what stands before the next space, before the end of the line or of the input.
-pub fn take_word<'a>(input: &mut &'a str) -> &'a str
-    ensures word { result.now ≡ front_of input.old.now }
-    ensures rest { input.new.now ≡ back_of input.old.now }
+/// Takes a space and the number of a transaction or a session.
+pub fn spaced_id(input: &mut &str) -> Result<i64, ListCause>
+    ensures taken { Takes result input.new.now (spaced id_field_at input.old.now) }
+    ensures unchanged { OnErr result (input.new.now ≡ input.old.now) }
+    ensures memory { IfErr result (λ cause. cause ≢ ListCause.NoMemory) }
 {
-    let (word, rest) = input.split_at(word_len(input.as_bytes()));
+    let mut rest = *input;
+    take_space(&mut rest)?;
+    let id = id(&mut rest)?;
     *input = rest;
-    word
+    Ok(id)
 }
 
-/// How many bytes stand before the first space or newline.
-fn word_len(bytes: &[u8]) -> usize
-    ensures { result ≡ position_or_len is_end bytes.now }
+/// Takes a space and a decimal of 32 bits.
+pub fn spaced_int(input: &mut &str) -> Result<i32, ListCause>
+    ensures taken { Takes result input.new.now (spaced int_field_at input.old.now) }
+    ensures unchanged { OnErr result (input.new.now ≡ input.old.now) }
+    ensures memory { IfErr result (λ cause. cause ≢ ListCause.NoMemory) }
 {
-    first_end(bytes).unwrap_or(bytes.len())
+    let mut rest = *input;
+    take_space(&mut rest)?;
+    let int = int(&mut rest)?;
+    *input = rest;
+    Ok(int)
 }
 
-/// Where the first space or newline stands.
-fn first_end(bytes: &[u8]) -> Option<usize>
-    ensures { result ≡ position is_end bytes.now }
+/// Takes a space and a decimal of 64 bits.
+pub fn spaced_long(input: &mut &str) -> Result<i64, ListCause>
+    ensures taken { Takes result input.new.now (spaced long_field_at input.old.now) }
+    ensures unchanged { OnErr result (input.new.now ≡ input.old.now) }
+    ensures memory { IfErr result (λ cause. cause ≢ ListCause.NoMemory) }
 {
-    bytes.iter().position(|b| *b == b' ' || *b == b'\n')
+    let mut rest = *input;
+    take_space(&mut rest)?;
+    let long = long(&mut rest)?;
+    *input = rest;
+    Ok(long)
 }
 
-/// Takes one space.
-pub fn take_space(input: &mut &str) -> Result<(), ListCause>
-    ensures taken { TakesUnit result input.new.now (past 32 input.old.now) }
+/// Takes a space and a decimal of 64 bits without a sign.
+pub fn spaced_number(input: &mut &str) -> Result<u64, ListCause>
+    ensures taken { Takes result input.new.now (spaced number_at input.old.now) }
+    ensures unchanged { OnErr result (input.new.now ≡ input.old.now) }
+    ensures memory { IfErr result (λ cause. cause ≢ ListCause.NoMemory) }
+{
+    let mut rest = *input;
+    take_space(&mut rest)?;
+    let number = number(&mut rest)?;
+    *input = rest;
+    Ok(number)
+}
+
+/// Takes a space and identities by digests.
+pub fn spaced_ids(alloc: Global, input: &mut &str) -> Result<Ids, ListCause>
+    ensures taken { Takes result input.new.now (spaced ids_at input.old.now) }
     ensures unchanged { OnErr result (input.new.now ≡ input.old.now) }
 {
-    match input.strip_prefix(' ') {
-        Some(rest) => {
-            *input = rest;
-            Ok(())
-        }
-        None => Err(ListCause::Fields),
-    }
-}
-
-/// Takes a space and a word, if they stand in front.
-#[tactic(auto, unfolding(crate::specs::Reading::flag_at))]
-pub(crate) fn flag(input: &mut &str, word: &str) -> bool
-    ensures { (result, input.new.now) ≡ flag_at word.now input.old.now }
-{
-    let Some(mut rest) = input.strip_prefix(' ') else {
-        return false;
-    };
-    let found = take_word(&mut rest) == word;
-    if found {
-        *input = rest;
-    }
-    found
-}
-
-pub(crate) fn spaced_int(input: &mut &str) -> Result<i32, ListCause>
-    ensures { Takes result input.new.now (spaced int_field_at input.old.now) }
-{
-    take_space(input)?;
-    int(input)
+    let mut rest = *input;
+    take_space(&mut rest)?;
+    let ids = ids(alloc, &mut rest)?;
+    *input = rest;
+    Ok(ids)
 }
 
 pub(crate) fn spaced_text(alloc: Global, input: &mut &str) -> Result<Text, ListCause>

@@ -5,11 +5,11 @@ use Rattle.zk_ensemble.specs.Views.{EnsembleView}
 use Rattle.zk_listing.specs.declared.fault.ListCause.{ListCause}
 use Rattle.zk_listing.specs.declared.fault.ListCause.TheVariants as causes
 use Rattle.zk_path.specs.declared.memory.NoMemory.{NoMemory}
-use Rattle.zk_run_commands.specs.Commands.{Says, SaysNothing, ReadsCommand}
-use Rattle.zk_run_commands.specs.declared.command.Command.{Command}
-use Rattle.zk_script.specs.Scripts.{lines_of}
-use Rattle.zk_script.specs.declared.fault.ScriptFault.{ScriptFault}
-use Rattle.zk_script.specs.declared.fault.ScriptFault.TheVariants as faults
+use Rattle.zk_run_script.specs.Commands.{Says, SaysNothing, ReadsCommand}
+use Rattle.zk_run_script.specs.declared.command.Command.{Command}
+use Rattle.zk_reports.specs.Lines.{lines_of}
+use Rattle.zk_reports.specs.declared.fault.ScriptFault.{ScriptFault}
+use Rattle.zk_reports.specs.declared.fault.ScriptFault.TheVariants as faults
 use Rattle.zk_run_script.specs.Playing.{Answers, Obeys}
 use Rattle.zk_run_script.specs.Scripts.{SayAll, AnswersAll, EndsScript, Plays}
 

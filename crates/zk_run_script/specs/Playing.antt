@@ -5,15 +5,15 @@ use Rattle.zab_runs.specs.Worlds.{new_world}
 use Rattle.zk_ensemble.specs.Views.{EnsembleView, state_of, profile_in, IsRefused, tree_in, answers_in, events_in}
 use Rattle.zk_path.specs.declared.memory.NoMemory.{NoMemory}
 use Rattle.zk_request_lines.specs.ReplyLines.{refusal_text}
-use Rattle.zk_run_answers.specs.Answers.{told_text, fault_text, delivered_report, answers_report, events_report, counted_tree}
-use Rattle.zk_run_commands.specs.declared.command.Command.{Command}
-use Rattle.zk_run_commands.specs.declared.command.Command.TheVariants as commands
-use Rattle.zk_run_commands.specs.declared.command.Report.{Report}
-use Rattle.zk_run_commands.specs.declared.command.Report.TheVariants as reports
+use Rattle.zk_run_script.specs.Answers.{told_text, fault_text, delivered_report, answers_report, events_report, counted_tree}
+use Rattle.zk_run_script.specs.declared.command.Command.{Command}
+use Rattle.zk_run_script.specs.declared.command.Command.TheVariants as commands
+use Rattle.zk_run_script.specs.declared.command.Report.{Report}
+use Rattle.zk_run_script.specs.declared.command.Report.TheVariants as reports
 use Rattle.zk_runs.specs.declared.event.Event.{Event}
 use Rattle.zk_runs.specs.declared.fault.EnsembleFault.TheVariants as faults
 use Rattle.zk_runs.specs.Ensembles.{Told, fresh, happens, shown_at}
-use Rattle.zk_script.specs.Reports.{line}
+use Rattle.zk_reports.specs.Reports.{line}
 use Rattle.zk_txn.specs.Codes.{bad_arguments}
 
 -- a new ensemble of so many servers

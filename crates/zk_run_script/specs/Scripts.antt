@@ -1,11 +1,11 @@
 -- What a run script is answered. This project's own.
 use Rattle.std.specs.Prelude.{◌≡◌, ◌+◌, ◌⊎◌, ℕ, List, [], ◌∷◌, ◌++◌, length, Result, Ok, Err, codes}
 use Rattle.zk_ensemble.specs.Views.{EnsembleView}
-use Rattle.zk_run_commands.specs.Commands.{Says, SaysNothing, SaysServers}
-use Rattle.zk_run_commands.specs.declared.command.Command.{Command}
-use Rattle.zk_script.specs.Scripts.{lines_of}
-use Rattle.zk_script.specs.declared.fault.ScriptFault.{ScriptFault}
-use Rattle.zk_script.specs.declared.fault.ScriptFault.TheVariants as faults
+use Rattle.zk_run_script.specs.Commands.{Says, SaysNothing, SaysServers}
+use Rattle.zk_run_script.specs.declared.command.Command.{Command}
+use Rattle.zk_reports.specs.Lines.{lines_of}
+use Rattle.zk_reports.specs.declared.fault.ScriptFault.{ScriptFault}
+use Rattle.zk_reports.specs.declared.fault.ScriptFault.TheVariants as faults
 use Rattle.zk_run_script.specs.Playing.{started, Answers}
 
 -- each line says its command
@@ -68,4 +68,4 @@ pub record BeginsWell (script before : List ℕ) (result : Result (Unit {0}) Scr
 -- what a script is answered: a refusal of its first line changes nothing
 abbrev pub RunsScript : List ℕ → List ℕ → Result (Unit {0}) ScriptFault → List ℕ → Type 0
 RunsScript script before result after =
-    BeginsWell script before result after ⊎ ((BeginsWithNone (lines_of script) × (result ≡ Err (faults.Malformed 1)) × (after ≡ before)) ⊎ ((result ≡ Err faults.NoMemory) × (after ≡ before)))
+    BeginsWell script before result after ⊎ (BeginsWithNone (lines_of script) × (result ≡ Err (faults.Malformed 1)) × (after ≡ before))

@@ -1,9 +1,20 @@
-//! Run scripts: what an ensemble answers to a command, and to a whole script of elections, crashes, messages, calls and reads.
+//! Run scripts: what one line may say, and what an ensemble answers to a command, and to a whole script of elections, crashes,
+//! messages, calls and reads.
+//!
+//! What is named `push` appends whole lines, with their newlines, or nothing where memory is refused.
 #![tactic(auto)]
 
+mod command;
 mod playing;
+mod reading;
+mod reports;
 mod script;
+mod told;
 
+pub use command::{Command, Report};
 pub use playing::run_command;
+pub use reading::{read_command, read_servers};
+pub use reports::{push_answers, push_counted_tree, push_delivered, push_events};
 pub use script::run_script;
-pub use zk_script::ScriptFault;
+pub use told::push_told;
+pub use zk_reports::ScriptFault;

@@ -3,14 +3,15 @@ ghost use Rattle.std.specs.Prelude.{◌≡◌, ◌++◌, OnOk, OnErr};
 ghost use Rattle.std.specs.String.{string_bytes};
 ghost use Rattle.zk_request_lines.specs.ReplyLines.{refusal_text};
 ghost use Rattle.zk_run_script.specs.Playing.{Obeys, reported};
-ghost use Rattle.zk_script.specs.Reports.{line};
+ghost use Rattle.zk_reports.specs.Reports.{line};
 ghost use Rattle.zk_txn.specs.Codes.{bad_arguments};
 
+use crate::command::{Command, Report};
+use crate::reports::{push_answers, push_counted_tree, push_delivered, push_events};
+use crate::told::push_told;
 use zk_ensemble::Ensemble;
 use zk_path::NoMemory;
 use zk_request_lines::push_refusal;
-use zk_run_answers::{push_answers, push_counted_tree, push_delivered, push_events, push_told};
-use zk_run_commands::{Command, Report};
 use zk_table::codes::BAD_ARGUMENTS;
 
 /// Does what a command says, and appends the answer's lines. Where memory for the answer is refused, the ensemble has done

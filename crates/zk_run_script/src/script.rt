@@ -4,11 +4,11 @@ ghost use Rattle.std.specs.String.{string_bytes};
 ghost use Rattle.zk_run_script.specs.Scripts.{RunsScript, BeginsOrNot, Plays};
 
 use crate::playing::run_command;
+use crate::reading::{read_command, read_servers};
 use std::alloc::Global;
 use zk_ensemble::Ensemble;
 use zk_listing::ListCause;
-use zk_run_commands::{read_command, read_servers};
-use zk_script::{ScriptFault, next_line};
+use zk_reports::{ScriptFault, next_line};
 
 /// Does what the lines of a script say, one after the other, with an ensemble of as many servers as the first line says, and
 /// appends what is answered to them, up to the first that says no command. A newline ends each line; the last one may have
@@ -23,7 +23,6 @@ pub fn run_script(alloc: Global, script: &str, answers: &mut String) -> Result<(
     let first = next_line(&mut text);
     match read_servers(first) {
         Ok(servers) => begin(alloc, servers, text, answers),
-        Err(ListCause::NoMemory) => Err(ScriptFault::NoMemory),
         Err(_) => Err(ScriptFault::Malformed(1)),
     }
 }

@@ -6,7 +6,7 @@ use zk_acl::{Acls, Stat, Text};
 use zk_machine::{ChangeKind, Machine};
 use zk_path::{NoMemory, Path};
 use zk_request_lines::{push_refusal, push_reply};
-use zk_run_answers::{push_answers, push_counted_tree, push_delivered, push_events, push_told};
+use zk_run_script::{push_answers, push_counted_tree, push_delivered, push_events, push_told};
 use zk_runs::{Answer, Answered, EnsembleFault};
 use zk_table::{Content, Names, Op, PartResults, ReadReply, Txn, TxnResult};
 use zk_watch::Fired;

@@ -1,4 +1,4 @@
-//! The worked rows of run scripts: the tests of `zk_request_lines`, `zk_run_commands`, `zk_run_answers` and `zk_run_script`,
+//! The worked rows of run scripts: the tests of `zk_request_lines` and `zk_run_script`,
 //! and no code of its own.
 //!
 //! They stand apart from the crates that they test, as those of `zk_rows` do, and for the same reason.

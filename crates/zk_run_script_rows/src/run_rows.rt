@@ -2,8 +2,7 @@
 use std::alloc::Global;
 use zk_ensemble::Ensemble;
 use zk_listing::ListCause;
-use zk_run_commands::{Command, read_command, read_servers};
-use zk_run_script::{ScriptFault, run_command, run_script};
+use zk_run_script::{Command, ScriptFault, read_command, read_servers, run_command, run_script};
 
 /// Lines that each say a command, and what they are answered in turn by two new servers.
 static COMMANDS: [(&str, &str); 22] = [

@@ -1,10 +1,11 @@
 use Rattle.std.proofs.Common.{◌≡◌, ℕ, List, [], Result, Ok, Err, refl, subst, rules}
 use Rattle.std.specs.String.{string_bytes}
-use Rattle.zk_orders.specs.Debugs.{OutputsAndTells, RunsFromStart}
-use Rattle.zk_orders.specs.FaultLines.{line_of_script_fault}
+use Rattle.zk_orders.specs.Answering.{OutputsAndTells}
+use Rattle.zk_orders.specs.Debugs.{RunsFromStart}
+use Rattle.zk_reports.specs.Lines.{line_of_script_fault}
 use Rattle.zk_orders.specs.Telling.{Outputs}
-use Rattle.zk_script.specs.declared.fault.ScriptFault.{ScriptFault}
-use Rattle.zk_script.specs.declared.fault.ScriptFault.TheVariants as faults
+use Rattle.zk_reports.specs.declared.fault.ScriptFault.{ScriptFault}
+use Rattle.zk_reports.specs.declared.fault.ScriptFault.TheVariants as faults
 use Rattle.zk_orders.proofs.debugging.run.Goals as goal
 
 pub returns-in-Ok : goal.returns-in-Ok

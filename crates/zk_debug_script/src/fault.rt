@@ -1,0 +1,29 @@
+ghost use Rattle.std.specs.Prelude.{◌≡◌};
+ghost use Rattle.zk_listing.specs.declared.fault.ListCause.TheVariants as causes;
+ghost use Rattle.zk_debug_script.specs.Reading.{fault_of};
+ghost use Rattle.zk_debug_script.specs.declared.fault.CommandFault.TheVariants as faults;
+
+use thiserror::Error;
+use zk_listing::ListCause;
+
+/// Why a line is no command.
+#[derive(Clone, Copy, Debug, PartialEq, Eq, Error)]
+pub enum CommandFault {
+    /// No command is spelled so.
+    #[error("malformed")]
+    Malformed,
+    /// Memory was refused.
+    #[error("no memory")]
+    NoMemory,
+}
+
+impl From<ListCause> for CommandFault {
+    ghost from_gives = { λ cause fault. fault ≡ fault_of cause };
+
+    fn from(cause: ListCause) -> CommandFault {
+        match cause {
+            ListCause::NoMemory => CommandFault::NoMemory,
+            _ => CommandFault::Malformed,
+        }
+    }
+}

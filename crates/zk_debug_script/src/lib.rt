@@ -1,0 +1,16 @@
+//! Debug scripts: what one line may say, what a debugger answers to it, and what it answers to a whole script.
+#![tactic(auto)]
+
+mod answers;
+mod command;
+mod fault;
+mod fields;
+mod reading;
+mod script;
+
+pub use answers::run_command;
+pub use command::Command;
+pub use fault::CommandFault;
+pub use reading::read_command;
+pub use script::run_script;
+pub use zk_reports::ScriptFault;

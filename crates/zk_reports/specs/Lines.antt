@@ -1,0 +1,16 @@
+-- The lines of a text, and the line that tells which of a script's says no command. This project's own.
+use Rattle.std.specs.Prelude.{◌==◌, ℕ, List, [], ◌∷◌, ◌++◌, if◌then◌else◌, codes}
+use Rattle.std.specs.Fmt.{decimal}
+
+abbrev pub begun_by : ℕ → List (List ℕ) → List (List ℕ)
+begun_by b [] = (b ∷ []) ∷ []
+begun_by b (line ∷ lines) = (b ∷ line) ∷ lines
+
+-- the lines of a text, without the newlines that end them; the last one may have none
+unfoldable pub lines_of : List ℕ → List (List ℕ)
+lines_of [] = []
+lines_of (b ∷ bs) = if b == 10 then [] ∷ lines_of bs else begun_by b (lines_of bs)
+
+-- a script, by the number of its first line that says no command
+abbrev pub line_of_script_fault : ℕ → List ℕ
+line_of_script_fault number = codes "zk: script " ++ decimal number ++ codes "\n"

@@ -1,0 +1,10 @@
+//! What reports and scripts share: the report of a tree, the lines of a text, and why a script ended before its end.
+#![tactic(auto)]
+
+mod fault;
+mod lines;
+mod report;
+
+pub use fault::{ScriptFault, script_line};
+pub use lines::next_line;
+pub use report::{push_entry_line, push_head, push_tree, spell_tree};

@@ -1,6 +1,0 @@
-use Rattle.zk_run_commands.proofs.CommandTexts.{reads_command}
-use Rattle.zk_run_commands.proofs.reading.read_command.Goals as goal
-
-pub returns : goal.returns
-returns c =
-    rw c.among.ensures (reads_command c.args.servers c.args.line.now c.command-read.new.input.now c.command-read.result c.command-read.ensures)

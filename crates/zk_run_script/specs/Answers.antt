@@ -1,0 +1,86 @@
+-- What a run script is told: of an event, and of a server. This project's own.
+use Rattle.std.specs.Prelude.{ℕ, ℤ, zero, suc, ◌+◌, List, [], ◌∷◌, ◌++◌, length, Result, Ok, Err, codes}
+use Rattle.std.specs.Fmt.{decimal}
+use Rattle.std.specs.FinMap.{entries}
+use Rattle.std.specs.List.{flat_map}
+use Rattle.zab_epoch.specs.declared.history.Entry.{Entry}
+use Rattle.zab_runs.specs.declared.event.Moved.{Moved}
+use Rattle.zk_machine.specs.declared.change.ChangeKind.{ChangeKind}
+use Rattle.zk_machine.specs.declared.change.ChangeKind.TheVariants as kinds
+use Rattle.zk_request_lines.specs.ReplyLines.{reply_text}
+use Rattle.zk_runs.specs.declared.answer.Answer.{Answer}
+use Rattle.zk_runs.specs.declared.answer.Answer.TheVariants.{Moved as HasMoved, Looked}
+use Rattle.zk_runs.specs.declared.answer.Answered.{Answered}
+use Rattle.zk_runs.specs.declared.fault.EnsembleFault.{EnsembleFault}
+use Rattle.zk_runs.specs.declared.fault.EnsembleFault.TheVariants as faults
+use Rattle.zk_reports.specs.Reports.{line, tree_report}
+use Rattle.zk_spelling.specs.Listings.{line_of}
+use Rattle.zk_spelling.specs.Reports.{result_line}
+use Rattle.zk_spelling.specs.Spelling.{sixteen_digits, id_digits, quoted}
+use Rattle.zk_table.specs.States.{State}
+use Rattle.zk_watch.specs.declared.watch.Fired.{Fired}
+
+-- ---- what an event is answered
+
+-- so many numbers from the first on, each behind a space
+abbrev pub numbers_text : ℕ → ℕ → List ℕ
+numbers_text first zero = []
+numbers_text first (suc count) = numbers_text first count ++ 32 ∷ decimal (first + count)
+
+-- the numbers of the messages that were sent
+abbrev pub moved_text : Moved → List ℕ
+moved_text moved = codes "ok" ++ numbers_text moved.first moved.count
+
+-- a refusal, by its number
+abbrev pub fault_text : EnsembleFault → List ℕ
+fault_text (faults.Behind seen at) = codes "E1 " ++ id_digits seen ++ 32 ∷ id_digits at
+fault_text faults.NoServer = codes "E2"
+fault_text faults.NoMessage = codes "E3"
+fault_text faults.Down = codes "E4"
+fault_text faults.NotDown = codes "E5"
+fault_text faults.NotServing = codes "E6"
+fault_text faults.DuplicateCall = codes "E7"
+fault_text faults.EpochFull = codes "E8"
+fault_text faults.NoMemory = codes "E9"
+
+abbrev pub told_text : Result Answer EnsembleFault → List ℕ
+told_text (Ok (HasMoved moved)) = moved_text moved
+told_text (Ok (Looked reply)) = reply_text reply
+told_text (Err fault) = fault_text fault
+
+-- ---- reports: the number of their lines, and the lines
+
+abbrev pub lines_line : ℕ → List ℕ
+lines_line count = line (codes "lines " ++ decimal count)
+
+-- the entries that a server has delivered, as a listing
+abbrev pub delivered_report : List Entry → List ℕ
+delivered_report delivered = lines_line (length delivered) ++ flat_map (λ entry. line_of entry.txn) delivered
+
+-- a delivered entry's tag, and what it was answered
+abbrev pub answer_line : Answered → List ℕ
+answer_line answered = line (decimal answered.tag ++ 32 ∷ result_line answered.result)
+
+abbrev pub answers_report : List Answered → List ℕ
+answers_report answers = lines_line (length answers) ++ flat_map answer_line answers
+
+-- ZooKeeper Programmer's Guide, "Semantics of Watches"; the numbers are those of its kinds of events
+abbrev pub kind_text : ChangeKind → List ℕ
+kind_text kinds.Created = codes "1"
+kind_text kinds.Deleted = codes "2"
+kind_text kinds.DataChanged = codes "3"
+kind_text kinds.ChildrenChanged = codes "4"
+
+-- the session that was told, what happened, and where
+abbrev pub event_line : Fired → List ℕ
+event_line fired = line (sixteen_digits fired.session ++ codes " event " ++ kind_text fired.kind ++ 32 ∷ quoted fired.path)
+
+abbrev pub events_report : List Fired → List ℕ
+events_report fired = lines_line (length fired) ++ flat_map event_line fired
+
+-- the last transaction, a line for each open session, and one for each node
+abbrev pub tree_lines : State → ℕ
+tree_lines state = 1 + length (entries state.sessions) + length (entries state.nodes)
+
+abbrev pub counted_tree : State → List ℕ
+counted_tree state = lines_line (tree_lines state) ++ tree_report state

@@ -1,0 +1,202 @@
+//! The reader of one line.
+ghost use Rattle.std.specs.Prelude.{◌≡◌, ◌≢◌, IfErr};
+ghost use Rattle.zk_listing.specs.Reading.{Takes, spaced, mapped};
+ghost use Rattle.zk_request_lines.specs.Reading.{number_at};
+ghost use Rattle.zk_run_script.specs.Commands.{ReadsCommand, ReadsServers};
+ghost use Rattle.zk_run_script.specs.Reading.{two_at, submit_at, expire_at, read_at, submitted, expired, read_by, reported_at, command_at, is_among, among_result, servers_at, counted_result};
+ghost use Rattle.zk_run_script.specs.declared.command.Command.TheVariants as commands;
+ghost use Rattle.zk_runs.specs.declared.event.Event.TheVariants as events;
+ghost use Rattle.zab_runs.specs.declared.event.Event.TheVariants.{Follow as WorldFollow};
+
+use crate::command::{Command, Report};
+use std::alloc::Global;
+use zab_runs::Event as WorldEvent;
+use zk_listing::ListCause;
+use zk_prepare::Call;
+use zk_request_lines::{
+    Lookup, spaced_id, spaced_ids, spaced_int, spaced_long, spaced_lookup, spaced_number,
+    spaced_request, take_word,
+};
+use zk_runs::{Event, Question};
+
+/// The command that a line says among so many servers, without its newline. A report on another server is none.
+pub fn read_command(alloc: Global, servers: usize, line: &str) -> Result<Command, ListCause>
+    ensures { ReadsCommand servers line.now result }
+{
+    let mut rest = line;
+    let read = command(alloc, &mut rest);
+    among(servers, read, rest)
+}
+
+/// What was read, if nothing is left behind it and it asks of a server that there is.
+fn among(servers: usize, read: Result<Command, ListCause>, left: &str) -> Result<Command, ListCause>
+    ensures { result ≡ among_result servers left.now read }
+{
+    let command = read?;
+    if left.is_empty() && is_among(servers, &command) {
+        return Ok(command);
+    }
+    Err(ListCause::Fields)
+}
+
+/// Whether a report is asked of a server that there is.
+fn is_among(servers: usize, command: &Command) -> bool
+    ensures { result ≡ is_among servers command.now }
+{
+    match command {
+        Command::Reports { server, .. } => 0 < *server && *server <= servers,
+        _ => true,
+    }
+}
+
+#[tactic(auto, unfolding(crate::specs::Reading::command_at))]
+fn command(alloc: Global, input: &mut &str) -> Result<Command, ListCause>
+    ensures { Takes result input.new.now (command_at input.old.now) }
+{
+    match take_word(input) {
+        "lead" => Ok(happens(WorldEvent::Lead {
+            server: place(input)?,
+        })),
+        "follow" => follow(input),
+        "arrive" => Ok(happens(WorldEvent::Arrive {
+            message: place(input)?,
+        })),
+        "crash" => Ok(happens(WorldEvent::Crash {
+            server: place(input)?,
+        })),
+        "restart" => Ok(happens(WorldEvent::Restart {
+            server: place(input)?,
+        })),
+        "submit" => submit(alloc, input),
+        "expire" => expire(input),
+        "read" => read(alloc, input),
+        "delivered" => report(Report::Delivered, input),
+        "answers" => report(Report::Answers, input),
+        "events" => report(Report::Events, input),
+        "tree" => report(Report::Tree, input),
+        _ => Err(ListCause::Word),
+    }
+}
+
+/// What happens in the world of servers.
+fn happens(event: WorldEvent<Call>) -> Command
+    ensures { result ≡ commands.Happens (events.World event) }
+{
+    Command::Happens(Event::World(event))
+}
+
+fn follow(input: &mut &str) -> Result<Command, ListCause>
+    ensures { Takes result input.new.now (mapped (λ x. commands.Happens (events.World (WorldFollow x.0 x.1))) two_at input.old.now) }
+{
+    let server = place(input)?;
+    let leader = place(input)?;
+    Ok(happens(WorldEvent::Follow { server, leader }))
+}
+
+#[tactic(auto, unfolding(crate::specs::Reading::submit_at))]
+fn submit(alloc: Global, input: &mut &str) -> Result<Command, ListCause>
+    ensures { Takes result input.new.now (mapped submitted submit_at input.old.now) }
+{
+    let server = place(input)?;
+    let tag = spaced_number(input)?;
+    let session = spaced_id(input)?;
+    let cxid = spaced_int(input)?;
+    let now = spaced_long(input)?;
+    let auths = spaced_ids(alloc, input)?;
+    let request = spaced_request(alloc, input)?;
+    let call = Call {
+        tag,
+        session,
+        cxid,
+        auths,
+        now,
+        request,
+    };
+    Ok(happens(WorldEvent::Submit { server, call }))
+}
+
+#[tactic(auto, unfolding(crate::specs::Reading::expire_at))]
+fn expire(input: &mut &str) -> Result<Command, ListCause>
+    ensures { Takes result input.new.now (mapped expired expire_at input.old.now) }
+{
+    let server = place(input)?;
+    let tag = spaced_number(input)?;
+    let session = spaced_id(input)?;
+    let now = spaced_long(input)?;
+    Ok(happens(WorldEvent::Expire {
+        server,
+        tag,
+        session,
+        now,
+    }))
+}
+
+#[tactic(auto, unfolding(crate::specs::Reading::read_at))]
+fn read(alloc: Global, input: &mut &str) -> Result<Command, ListCause>
+    ensures { Takes result input.new.now (mapped read_by read_at input.old.now) }
+{
+    let server = place(input)?;
+    let session = spaced_id(input)?;
+    let seen = spaced_id(input)?;
+    let auths = spaced_ids(alloc, input)?;
+    match spaced_lookup(alloc, input)? {
+        Lookup::Asks { call, watch } => Ok(Command::Happens(Event::Read(Question {
+            server,
+            session,
+            seen,
+            auths,
+            call,
+            watch,
+        }))),
+        Lookup::BadPath => Ok(Command::ReadsNoPath),
+    }
+}
+
+fn report(report: Report, input: &mut &str) -> Result<Command, ListCause>
+    ensures { Takes result input.new.now (reported_at report input.old.now) }
+{
+    let server = place(input)?;
+    Ok(Command::Reports { report, server })
+}
+
+/// The number of a server or a message, behind a space.
+fn place(input: &mut &str) -> Result<usize, ListCause>
+    ensures taken { Takes result input.new.now (spaced number_at input.old.now) }
+    ensures memory { IfErr result (λ cause. cause ≢ ListCause.NoMemory) }
+{
+    let number = spaced_number(input)?;
+    Ok(number as usize)
+}
+
+/// The number of servers, from 2 to 15, that a script's first line says: `servers N`. It takes no memory.
+pub fn read_servers(line: &str) -> Result<usize, ListCause>
+    ensures reads { ReadsServers line.now result }
+    ensures memory { IfErr result (λ cause. cause ≢ ListCause.NoMemory) }
+{
+    let mut rest = line;
+    let read = servers(&mut rest);
+    counted(read, rest)
+}
+
+/// What was read, if nothing is left behind it and it is from 2 to 15.
+fn counted(read: Result<usize, ListCause>, left: &str) -> Result<usize, ListCause>
+    ensures counted { result ≡ counted_result left.now read }
+    ensures memory { IfErr read (λ cause. cause ≢ ListCause.NoMemory) → IfErr result (λ cause. cause ≢ ListCause.NoMemory) }
+{
+    let servers = read?;
+    if left.is_empty() && 2 <= servers && servers <= 15 {
+        return Ok(servers);
+    }
+    Err(ListCause::Fields)
+}
+
+#[tactic(auto, unfolding(crate::specs::Reading::servers_at))]
+fn servers(input: &mut &str) -> Result<usize, ListCause>
+    ensures taken { Takes result input.new.now (servers_at input.old.now) }
+    ensures memory { IfErr result (λ cause. cause ≢ ListCause.NoMemory) }
+{
+    match take_word(input) {
+        "servers" => place(input),
+        _ => Err(ListCause::Word),
+    }
+}

@@ -1,7 +1,0 @@
-//! The worked rows of debug scripts: the tests of `zk_script`, and no code of its own.
-//!
-//! They stand apart from the crate that they test, as those of `zk_rows` do, and for the same reason.
-#![tactic(auto)]
-
-#[cfg(test)]
-mod script_rows;
