@@ -11,12 +11,12 @@ use Rattle.zab_broadcast.specs.Places.{place_from, ArePlaces}
 -- ---- one list
 
 some_or_none : (o : Option ℕ) (P : Type 0) → ((i : ℕ) → o ≡ Some i → P) → (o ≡ None → P) → P
-some_or_none (Some i) P some none = some i refl
-some_or_none None P some none = none refl
+some_or_none (Some i) P one other = one i refl
+some_or_none None P one other = other refl
 
 true_or_false : (b : Bool) (P : Type 0) → (b ≡ true → P) → (b ≡ false → P) → P
-true_or_false true P yes no = yes refl
-true_or_false false P yes no = no refl
+true_or_false true P one other = one refl
+true_or_false false P one other = other refl
 
 equal_is : (a b : ℕ) → (a == b) ≡ true → a ≡ b
 equal_is a b e = grind (arith, nat_tests)
@@ -55,6 +55,9 @@ comes_last at tag (t ∷ tags) none = by (t == tag) none (λ below. comes_last (
     by true here later = absurd cc
     by false here later = later here ∙ (let same : at + 1 + length tags ≡ at + suc (length tags) = omega arith in ap (λ k. Some k) same)
 
+comes_first : (tag : ℕ) (tags : List ℕ) → place_from 0 tag tags ≡ None → place_from 0 tag (tags ++ tag ∷ []) ≡ Some (length tags)
+comes_first tag tags none = comes_last 0 tag tags none ∙ (let all : 0 + length tags ≡ length tags = omega arith in ap (λ k. Some k) all)
+
 same_place : (i j : ℕ) → (let o : Option ℕ = Some i in o ≡ Some j) → i ≡ j
 same_place i j e = cc
 
@@ -89,7 +92,7 @@ pub newly_taken : (m n : BTreeMap ℕ ℕ) (tags : List ℕ) (x : ℕ) → ArePl
 newly_taken m n tags x are free puts q =
     true_or_false (x == q) (get nat_cmp n q ≡ place_from 0 q (tags ++ x ∷ []))
     (λ same. puts q ∙ ap (λ (b : Bool). cond b (Some (length tags)) (get nat_cmp m q)) (test_is x q ∙ same)
-    ∙ sym (comes_last 0 x tags (sym (are x) ∙ no_place (get nat_cmp m x) free)) ∙ ap (λ k. place_from 0 k (tags ++ x ∷ [])) (equal_is x q same))
+    ∙ sym (comes_first x tags (sym (are x) ∙ no_place (get nat_cmp m x) free)) ∙ ap (λ k. place_from 0 k (tags ++ x ∷ [])) (equal_is x q same))
     (λ apart. puts q ∙ ap (λ (b : Bool). cond b (Some (length tags)) (get nat_cmp m q)) (test_is x q ∙ apart) ∙ are q ∙ sym (other_stays 0 q x tags apart))
   where
     no_place : (o : Option ℕ) → is_some o ≡ false → o ≡ None
@@ -127,7 +130,7 @@ kept_from m front x are early q =
     true_or_false (x == q) (get nat_cmp m q ≡ place_from 0 q front)
     (λ same. some_or_none (place_from 0 x front) (get nat_cmp m q ≡ place_from 0 q front)
     (λ i at. ap (get nat_cmp m) (sym (equal_is x q same)) ∙ are x ∙ stays 0 x x i front at ∙ sym at ∙ ap (λ t. place_from 0 t front) (equal_is x q same))
-    (λ none. absurd (early (are x ∙ comes_last 0 x front none))))
+    (λ none. absurd (early (are x ∙ comes_first x front none))))
     (λ apart. are q ∙ other_stays 0 q x front apart)
 
 pub last_gone : (m k : BTreeMap ℕ ℕ) (tags : List ℕ) (n x : ℕ) → ArePlaces m tags → n + 1 ≡ length tags → x ≡ get_or tags n x → get nat_cmp m x ≡ Some n → ((q : ℕ) → get nat_cmp k q ≡ cond (is_at (nat_cmp x) q) None (get nat_cmp m q)) → ArePlaces k (take n tags)

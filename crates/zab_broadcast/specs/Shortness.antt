@@ -13,6 +13,6 @@ error_of tag session cxid zxid time code = record {
 }
 
 -- that of an error has 36 bytes
-unfolding record_of
 pub error_is_short : (tag : ℕ) (session cxid zxid time code : ℤ) → IsShort (error_of tag session cxid zxid time code)
+unfolding record_of
 error_is_short tag session cxid zxid time code = lit≤ tt

@@ -75,7 +75,12 @@ impl<P: Primary> Server<P> {
     pub fn delivered(&self) -> Entries<'_>
         ensures { result ≡ take self.now.delivered self.now.peer.stable.history }
     {
-        self.state.peer.stable.history.entries().first(self.state.delivered)
+        self.state
+            .peer
+            .stable
+            .history
+            .entries()
+            .first(self.state.delivered)
     }
 
     /// Crashes: what is left is its stable part.

@@ -24,8 +24,9 @@ impl Model for Tags {
 }
 
 impl Tags {
-    ghost use Rattle.std.specs.Prelude.{◌≡◌, ◌-◌, [], ◌∷◌, ◌++◌, length, take, OnOk, OnErr};
+    ghost use Rattle.std.specs.Prelude.{◌≡◌, ◌≢◌, ◌-◌, [], ◌∷◌, ◌++◌, true, false, length, take, Some, OnOk, OnErr};
     ghost use Rattle.zab_broadcast.specs.Calls.{is_taken};
+    ghost use Rattle.zab_broadcast.specs.Places.{place_from};
 
     /// No tags.
     pub fn new(alloc: Global) -> Tags
@@ -59,13 +60,25 @@ impl Tags {
         }
         let last = self.tags.len() - 1;
         let tag = self.tags[last];
-        if self.is_placed(tag, last) {
+        if self.is_first_at(tag, last) {
             self.places.remove(&tag);
         }
         self.tags.truncate(last);
     }
 
+    /// Whether a tag was first taken at a place, which is counted from 0.
+    fn is_first_at(&self, tag: u64, place: usize) -> bool
+        ensures yes { result ≡ true → place_from 0 tag self.now ≡ Some place }
+        ensures no { result ≡ false → place_from 0 tag self.now ≢ Some place }
+    {
+        match self.places.get(&tag) {
+            Some(first) => *first == place,
+            None => false,
+        }
+    }
+
     /// Whether a tag is among them.
+    #[tactic(auto, using(crate::proofs::Places::taken_is))]
     pub fn has(&self, tag: u64) -> bool
         ensures { result ≡ is_taken tag self.now }
     {
