@@ -1,5 +1,5 @@
 -- Owners are open sessions, transaction after transaction.
-use Rattle.std.proofs.Common.{◌≡◌, ◌≢◌, inl, inr, ℕ, ℤ, pos, true, false, cond, List, [], ◌∷◌, ◌++◌, Some, is_some, unwrap_or, codes, refl, sym, ap, subst, ◌∙◌}
+use Rattle.std.proofs.Common.{◌≡◌, ◌≢◌, inl, inr, ℕ, ℤ, pos, negsuc, true, false, cond, List, [], ◌∷◌, ◌++◌, Some, is_some, unwrap_or, codes, refl, sym, ap, subst, ◌∙◌}
 use Rattle.std.proofs.lemmas.Bool.{false≢true}
 use Rattle.std.proofs.lemmas.Cmp.{nat_list_cmp_total}
 use Rattle.std.proofs.lemmas.List.{append-nil, append_assoc}
@@ -62,6 +62,8 @@ multi_stands state txn parts allowed stands =
 op_stands : (state : State) (txn : Txn) (op : Op) → (is_in_session op ≡ true → IsAllowed state txn) → Stands state → Stands (step_by state txn op).0
 op_stands state txn (ops.Create path content acl ephemeral count) allowed stands =
     comes_stands state txn (create state.nodes txn path content acl ephemeral count).nodes txn.zxid (create_comes txn state.nodes path content acl ephemeral count) (allowed refl) stands
+op_stands state txn (ops.CreateOld path content acl ephemeral) allowed stands =
+    comes_stands state txn (create state.nodes txn path content acl ephemeral (negsuc 0)).nodes txn.zxid (create_comes txn state.nodes path content acl ephemeral (negsuc 0)) (allowed refl) stands
 op_stands state txn (ops.Delete path) allowed stands =
     comes_stands state txn (delete state.nodes txn path).nodes txn.zxid (delete_comes txn.session txn state.nodes path) (allowed refl) stands
 op_stands state txn (ops.SetData path content version) allowed stands =

@@ -4,7 +4,7 @@ use Rattle.std.specs.Prelude.{◌≡◌, ◌≢◌, ℕ, ℤ, pos, List, Bool, t
 use Rattle.std.specs.List.{AllByRecursion, list_any}
 use Rattle.zk_txn.specs.declared.sub.Sub.{Sub}
 use Rattle.zk_txn.specs.declared.txn.Op.{Op}
-use Rattle.zk_txn.specs.declared.txn.Op.TheVariants.{Create, Delete, SetData, SetAcl, OpenSession, CloseSession, Error, Multi}
+use Rattle.zk_txn.specs.declared.txn.Op.TheVariants.{Create, CreateOld, Delete, SetData, SetAcl, OpenSession, CloseSession, Error, Multi}
 use Rattle.zk_txn.specs.declared.txn.Txn.{Txn}
 use Rattle.zk_txn.specs.Parts.{is_error}
 use Rattle.zk_table.specs.Multis.{nodes_after}
@@ -18,6 +18,7 @@ use Rattle.zk_prepare.specs.Requests.{is_open}
 -- an error, or a multi that holds one
 abbrev pub has_error : Op → Bool
 has_error (Create path content acl ephemeral count) = false
+has_error (CreateOld path content acl ephemeral) = false
 has_error (Delete path) = false
 has_error (SetData path content version) = false
 has_error (SetAcl path acl version) = false

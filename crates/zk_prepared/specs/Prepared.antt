@@ -3,7 +3,7 @@
 use Rattle.std.specs.Prelude.{◌≡◌, ℤ, List, ◌∷◌, ◌++◌, Bool, true, false, FitsSigned}
 use Rattle.std.specs.Int.{w64}
 use Rattle.zk_txn.specs.declared.txn.Op.{Op}
-use Rattle.zk_txn.specs.declared.txn.Op.TheVariants.{Create, Delete, SetData, SetAcl, OpenSession, CloseSession, Error, Multi}
+use Rattle.zk_txn.specs.declared.txn.Op.TheVariants.{Create, CreateOld, Delete, SetData, SetAcl, OpenSession, CloseSession, Error, Multi}
 use Rattle.zk_txn.specs.declared.txn.Txn.{Txn}
 use Rattle.zk_table.specs.Histories.{tree_of}
 use Rattle.zk_table.specs.States.{State}
@@ -27,6 +27,7 @@ ArePrepared txns = OfEach (λ before txn. IsPrepared (tree_of before) txn) txns
 -- is the zxid, and not where there is an error.
 abbrev pub is_in_session : Op → Bool
 is_in_session (Create path content acl ephemeral count) = true
+is_in_session (CreateOld path content acl ephemeral) = true
 is_in_session (Delete path) = true
 is_in_session (SetData path content version) = true
 is_in_session (SetAcl path acl version) = true
