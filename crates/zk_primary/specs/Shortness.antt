@@ -8,8 +8,9 @@ use Rattle.zab_broadcast.specs.Shortness.{error_is_short}
 use Rattle.zk_jute.specs.Records.{record_of}
 use Rattle.zk_jute.specs.Sizes.{size_of}
 use Rattle.zk_prepare.specs.declared.call.Call.{Call}
-use Rattle.zk_prepare.specs.Requests.{bad_arguments, within_limit}
+use Rattle.zk_prepare.specs.Requests.{within_limit}
 use Rattle.zk_primary.specs.Entries.{entry_of}
+use Rattle.zk_txn.specs.Codes.{bad_arguments}
 use Rattle.zk_txn.specs.declared.txn.Op.TheVariants as ops
 use Rattle.zk_txn.specs.declared.txn.Txn.{Txn}
 
