@@ -16,7 +16,7 @@ enum Heard {
     CEpoch(usize, u32),
     NewEpoch(usize, u32),
     AckEpoch(usize, u32, Vote),
-    NewLeader(usize, u32, History),
+    NewLeader(usize, u32, i64, History),
     AckLeader(usize, u32, u64),
     Submit(u64),
     Request(u32, u64),
@@ -35,8 +35,8 @@ fn discovers(alloc: Global, server: &mut Server<Echo>, heard: Heard) -> Option<M
         Heard::AckEpoch(from, epoch, said) => server
             .ack_epoch(alloc, &THREE, from, epoch, true, said)
             .ok(),
-        Heard::NewLeader(from, epoch, history) => server
-            .new_leader(alloc, from, epoch, &history)
+        Heard::NewLeader(from, epoch, keep, rest) => server
+            .new_leader(alloc, from, epoch, keep, &rest)
             .ok(),
         _ => None,
     }
@@ -154,13 +154,11 @@ fn a_server_that_looks_takes_no_calls(rt: HostRuntime) {
     assert!(rt; matches!(told, Err(RuleFault::NotServing)));
 }
 
-/// A vote of a server with no entries.
-fn empty_vote(alloc: Global) -> Vote {
-    Vote {
-        current: 0,
-        history: History::new(alloc),
-    }
-}
+/// The vote of a server with no entries.
+const EMPTY_VOTE: Vote = Vote {
+    current: 0,
+    last: 0,
+};
 
 /// Whether server 1 leads, server 2 follows it, and they find epoch 1.
 fn are_discovered(alloc: Global, leader: &mut Server<Echo>, follower: &mut Server<Echo>) -> bool {
@@ -181,7 +179,7 @@ fn are_discovered(alloc: Global, leader: &mut Server<Echo>, follower: &mut Serve
             alloc,
             follower,
             Heard::NewEpoch(1, 1),
-            "[Message { sender: 2, addressee: 1, body: AckEpoch { epoch: 1, vote: true, current: 0, history: History { entries: [] } } }]",
+            "[Message { sender: 2, addressee: 1, body: AckEpoch { epoch: 1, vote: true, current: 0, last: 0 } }]",
         )
 }
 
@@ -190,12 +188,12 @@ fn are_synced(alloc: Global, leader: &mut Server<Echo>, follower: &mut Server<Ec
     says(
         alloc,
         leader,
-        Heard::AckEpoch(2, 1, empty_vote(alloc)),
-        "[Message { sender: 1, addressee: 2, body: NewLeader { epoch: 1, history: History { entries: [] } } }]",
+        Heard::AckEpoch(2, 1, EMPTY_VOTE),
+        "[Message { sender: 1, addressee: 2, body: NewLeader { epoch: 1, keep: 0, rest: History { entries: [] } } }]",
     ) && says(
         alloc,
         follower,
-        Heard::NewLeader(1, 1, History::new(alloc)),
+        Heard::NewLeader(1, 1, 0, History::new(alloc)),
         "[Message { sender: 2, addressee: 1, body: AckLeader { epoch: 1, length: 0 } }]",
     ) && says(
         alloc,
@@ -271,4 +269,22 @@ fn request_that_comes_three_times(rt: HostRuntime) {
         assert!(rt; says(rt.alloc(), &mut leader, Heard::Request(1, 4), shown));
     }
     assert_eq!(rt; lengths(&leader), (1, 0));
+}
+
+#[test]
+fn a_proposal_is_taken_above_the_last_zxid(rt: HostRuntime) {
+    let mut leader = new_server(rt.alloc(), 1);
+    let mut follower = new_server(rt.alloc(), 2);
+    assert!(rt; are_discovered(rt.alloc(), &mut leader, &mut follower));
+    assert!(rt; are_synced(rt.alloc(), &mut leader, &mut follower));
+    assert!(rt; is_proposed(rt.alloc(), &mut leader, &mut follower));
+    for zxid in [0x1_0000_0001, 0x1_0000_0000, 0] {
+        let heard = Heard::Propose(1, 1, 2, entry(2, zxid));
+        assert!(rt; says(rt.alloc(), &mut follower, heard, "[]"));
+        assert_eq!(rt; lengths(&follower), (1, 0));
+    }
+    let heard = Heard::Propose(1, 1, 2, entry(2, 0x1_0000_0002));
+    let shown = "[Message { sender: 2, addressee: 1, body: Ack { epoch: 1, length: 2 } }]";
+    assert!(rt; says(rt.alloc(), &mut follower, heard, shown));
+    assert_eq!(rt; lengths(&follower), (2, 0));
 }

@@ -21,7 +21,7 @@ enum Heard {
     CEpoch(usize, u32),
     NewEpoch(usize, u32),
     AckEpoch(usize, u32, Vote),
-    NewLeader(usize, u32, History),
+    NewLeader(usize, u32, i64, History),
 }
 
 /// What it says then.
@@ -34,8 +34,8 @@ fn told(alloc: Global, peer: &mut Peer, heard: Heard) -> Option<Messages<u64>> {
         Heard::AckEpoch(from, epoch, said) => peer
             .ack_epoch(alloc, &THREE, from, epoch, true, said)
             .ok(),
-        Heard::NewLeader(from, epoch, history) => peer
-            .new_leader(alloc, from, epoch, &history)
+        Heard::NewLeader(from, epoch, keep, rest) => peer
+            .new_leader(alloc, from, epoch, keep, &rest)
             .ok(),
     }
 }
@@ -129,13 +129,11 @@ fn a_leader_chooses_the_first_epoch(rt: HostRuntime) {
     assert!(rt; follower.role.follows(1));
 }
 
-/// A vote of a server with no entries.
-fn empty_vote(alloc: Global) -> Vote {
-    Vote {
-        current: 0,
-        history: History::new(alloc),
-    }
-}
+/// The vote of a server with no entries.
+const EMPTY_VOTE: Vote = Vote {
+    current: 0,
+    last: 0,
+};
 
 /// Whether the follower promises epoch 1, the leader then tells its history, and the follower takes it.
 fn are_synced(alloc: Global, leader: &mut Peer, follower: &mut Peer) -> bool {
@@ -143,17 +141,16 @@ fn are_synced(alloc: Global, leader: &mut Peer, follower: &mut Peer) -> bool {
         alloc,
         follower,
         Heard::NewEpoch(1, 1),
-        "[Message { sender: 2, addressee: 1, body: AckEpoch { epoch: 1, vote: true, current: 0, \
-         history: History { entries: [] } } }]",
+        "[Message { sender: 2, addressee: 1, body: AckEpoch { epoch: 1, vote: true, current: 0, last: 0 } }]",
     ) && says(
         alloc,
         leader,
-        Heard::AckEpoch(2, 1, empty_vote(alloc)),
-        "[Message { sender: 1, addressee: 2, body: NewLeader { epoch: 1, history: History { entries: [] } } }]",
+        Heard::AckEpoch(2, 1, EMPTY_VOTE),
+        "[Message { sender: 1, addressee: 2, body: NewLeader { epoch: 1, keep: 0, rest: History { entries: [] } } }]",
     ) && says(
         alloc,
         follower,
-        Heard::NewLeader(1, 1, History::new(alloc)),
+        Heard::NewLeader(1, 1, 0, History::new(alloc)),
         "[Message { sender: 2, addressee: 1, body: AckLeader { epoch: 1, length: 0 } }]",
     )
 }
@@ -182,28 +179,191 @@ fn push(history: &mut History, tag: u64, zxid: i64) -> bool {
     history.push(entry(tag, zxid)).is_ok()
 }
 
-/// A vote of epoch 1 with one entry.
-fn vote(alloc: Global, tag: u64, zxid: i64) -> Result<Vote, NoMemory> {
+/// A history with these zxids.
+fn history_of(alloc: Global, zxids: &[i64]) -> Result<History, NoMemory> {
     let mut history = History::new(alloc);
-    history.push(entry(tag, zxid))?;
-    Ok(Vote {
-        current: 1,
-        history,
-    })
+    for zxid in zxids {
+        history.push(entry(0, *zxid))?;
+    }
+    Ok(history)
+}
+
+/// Whether a history has these zxids.
+fn has_zxids(history: &History, zxids: &[i64]) -> bool {
+    if history.len() != zxids.len() {
+        return false;
+    }
+    for (entry, zxid) in history.as_slice().iter().zip(zxids) {
+        if entry.txn.zxid != *zxid {
+            return false;
+        }
+    }
+    true
+}
+
+/// Server 1 of three, which has entries with zxids 5 and 7 of epoch 0 and has chosen epoch 1.
+fn choosing_leader(alloc: Global) -> Result<Peer, NoMemory> {
+    let mut stable = Stable::new(alloc);
+    stable.history = history_of(alloc, &[5, 7])?;
+    let mut leader = Peer::restored(3, 1, stable);
+    leader.lead::<u64>(alloc)?;
+    match leader.c_epoch::<Majority, u64>(alloc, &THREE, 2, 0) {
+        Ok(_) => Ok(leader),
+        Err(_) => Err(NoMemory),
+    }
+}
+
+/// Whether such a leader sends nothing and leads no more, once server 3 votes so. It keeps its promise and its history.
+fn steps_down(alloc: Global, said: Vote) -> Result<bool, NoMemory> {
+    let mut leader = choosing_leader(alloc)?;
+    Ok(
+        says(alloc, &mut leader, Heard::AckEpoch(3, 1, said), "[]")
+            && matches!(leader.role, Role::Looking)
+            && (leader.stable.promised, leader.stable.current) == (1, 0)
+            && has_zxids(&leader.stable.history, &[5, 7]),
+    )
 }
 
 #[test]
-fn the_vote_of_the_latest_epoch_wins(rt: HostRuntime) {
-    let mut leader = new_peer(rt.alloc(), 1);
-    let mut follower = new_peer(rt.alloc(), 2);
-    assert!(rt; are_discovered(rt.alloc(), &mut leader, &mut follower));
-    assert!(rt; push(&mut leader.stable.history, 1, 5));
-    assert!(rt; push(&mut leader.stable.history, 2, 6));
-    let said = vote(rt.alloc(), 3, 4).expect(&rt, "memory");
-    let told = told(rt.alloc(), &mut leader, Heard::AckEpoch(3, 1, said)).expect(&rt, "memory");
-    assert_eq!(rt; told.len(), 1);
-    assert_eq!(rt; leader.stable.history.len(), 1);
-    assert_eq!(rt; leader.stable.history.last_zxid(), 4);
+fn a_leader_below_a_greater_vote_steps_down(rt: HostRuntime) {
+    for (current, last, down) in [
+        (0, 8, true),
+        (1, 4, true),
+        (1, 0, true),
+        (0, 7, false),
+        (0, 6, false),
+        (0, 0, false),
+    ] {
+        assert_eq!(rt; steps_down(rt.alloc(), Vote { current, last }), Ok(down));
+    }
+}
+
+/// What a NewLeader keeps, and the zxids of its rest, as lines of text.
+fn shown_suffix(alloc: Global, messages: &Messages<u64>) -> Result<String, NoMemory> {
+    let mut text = String::new(alloc);
+    for message in messages.as_slice() {
+        if let Body::NewLeader { epoch, keep, rest } = &message.body {
+            let to = message.addressee;
+            text.push_str(format!(in alloc; "to {to}, epoch {epoch}, keep {keep}:")?.as_str())?;
+            for entry in rest.as_slice() {
+                let zxid = entry.txn.zxid;
+                text.push_str(format!(in alloc; " {zxid}")?.as_str())?;
+            }
+        }
+    }
+    Ok(text)
+}
+
+/// What such a leader tells server 3, which votes in epoch 0 with a last zxid.
+fn suffix_for(alloc: Global, last: i64) -> Result<String, NoMemory> {
+    let mut leader = choosing_leader(alloc)?;
+    let said = Vote { current: 0, last };
+    match told(alloc, &mut leader, Heard::AckEpoch(3, 1, said)) {
+        Some(messages) => shown_suffix(alloc, &messages),
+        None => Err(NoMemory),
+    }
+}
+
+#[test]
+fn a_leader_tells_what_a_joiner_lacks(rt: HostRuntime) {
+    for (last, shown) in [
+        (0, "to 3, epoch 1, keep 0: 5 7"),
+        (4, "to 3, epoch 1, keep 0: 5 7"),
+        (5, "to 3, epoch 1, keep 5: 7"),
+        (6, "to 3, epoch 1, keep 5: 7"),
+        (7, "to 3, epoch 1, keep 7:"),
+    ] {
+        let told = suffix_for(rt.alloc(), last).expect(&rt, "memory");
+        assert_eq!(rt; told.as_str(), shown);
+    }
+}
+
+/// Server 2 of three, which has these zxids of epoch 0, follows server 1 and has promised epoch 1.
+fn joining_follower(alloc: Global, zxids: &[i64]) -> Result<Peer, NoMemory> {
+    let mut stable = Stable::new(alloc);
+    stable.promised = 1;
+    stable.history = history_of(alloc, zxids)?;
+    let mut follower = Peer::restored(3, 2, stable);
+    follower.follow::<u64>(alloc, 1)?;
+    Ok(follower)
+}
+
+/// Whether such a follower with zxids 1, 3 and 4, told what to keep and the rest, then says this and has these zxids.
+fn goes_on(
+    alloc: Global,
+    (keep, rest): (i64, &[i64]),
+    shown: &str,
+    zxids: &[i64],
+) -> Result<bool, NoMemory> {
+    let mut follower = joining_follower(alloc, &[1, 3, 4])?;
+    let rest = history_of(alloc, rest)?;
+    Ok(
+        says(
+            alloc,
+            &mut follower,
+            Heard::NewLeader(1, 1, keep, rest),
+            shown,
+        ) && has_zxids(&follower.stable.history, zxids),
+    )
+}
+
+#[test]
+fn a_follower_cuts_to_what_it_keeps(rt: HostRuntime) {
+    let joins = [
+        "[Message { sender: 2, addressee: 1, body: AckLeader { epoch: 1, length: 1 } }]",
+        "[Message { sender: 2, addressee: 1, body: AckLeader { epoch: 1, length: 3 } }]",
+    ];
+    assert_eq!(rt; goes_on(rt.alloc(), (0, &[2]), joins[0], &[2]), Ok(true));
+    assert_eq!(rt; goes_on(rt.alloc(), (1, &[]), joins[0], &[1]), Ok(true));
+    assert_eq!(rt;
+        goes_on(rt.alloc(), (1, &[5, 6]), joins[1], &[1, 5, 6]),
+        Ok(true)
+    );
+    assert_eq!(rt;
+        goes_on(rt.alloc(), (3, &[5]), joins[1], &[1, 3, 5]),
+        Ok(true)
+    );
+    assert_eq!(rt;
+        goes_on(rt.alloc(), (4, &[]), joins[1], &[1, 3, 4]),
+        Ok(true)
+    );
+}
+
+/// Whether such a follower ignores a NewLeader that keeps and goes on so.
+fn ignores(alloc: Global, keep: i64, rest: &[i64]) -> Result<bool, NoMemory> {
+    let mut follower = joining_follower(alloc, &[1, 3, 4])?;
+    let rest = history_of(alloc, rest)?;
+    Ok(
+        says(
+            alloc,
+            &mut follower,
+            Heard::NewLeader(1, 1, keep, rest),
+            "[]",
+        ) && has_zxids(&follower.stable.history, &[1, 3, 4])
+            && follower.stable.current == 0
+            && matches!(
+                follower.role,
+                Role::Following {
+                    leader: 1,
+                    synced: false
+                }
+            ),
+    )
+}
+
+#[test]
+fn a_follower_ignores_what_does_not_fit(rt: HostRuntime) {
+    // It has no entry with the zxid that it is to keep.
+    assert_eq!(rt; ignores(rt.alloc(), 2, &[5]), Ok(true));
+    assert_eq!(rt; ignores(rt.alloc(), 5, &[6]), Ok(true));
+    assert_eq!(rt; ignores(rt.alloc(), 2, &[]), Ok(true));
+    // The rest does not begin above it.
+    assert_eq!(rt; ignores(rt.alloc(), 3, &[3]), Ok(true));
+    assert_eq!(rt; ignores(rt.alloc(), 4, &[2, 5]), Ok(true));
+    assert_eq!(rt; ignores(rt.alloc(), 0, &[0, 1]), Ok(true));
+    // The rest does not rise.
+    assert_eq!(rt; ignores(rt.alloc(), 1, &[5, 5]), Ok(true));
+    assert_eq!(rt; ignores(rt.alloc(), 1, &[2, 4, 3]), Ok(true));
 }
 
 /// The length of a history, by its copy, and its last zxid.

@@ -5,7 +5,7 @@ ghost use Rattle.zab_broadcast.specs.Echoes.{echo_of};
 
 use std::alloc::Global;
 use zab_broadcast::{EchoCall, Primary, Server};
-use zab_epoch::{Entry, History, Majority, RuleFault, Stable, Vote};
+use zab_epoch::{Entry, Majority, RuleFault, Stable, Vote};
 use zk_path::NoMemory;
 use zk_table::{Op, Txn};
 
@@ -76,7 +76,7 @@ fn leads_alone(alloc: Global) -> Result<Server<Refusing>, RuleFault> {
     server.c_epoch(alloc, &ALONE, 1, 0)?;
     let said = Vote {
         current: 0,
-        history: History::new(alloc),
+        last: 0,
     };
     server.ack_epoch(alloc, &ALONE, 1, 1, true, said)?;
     server.ack_leader(alloc, &ALONE, 1, 1, 0)?;

@@ -205,6 +205,122 @@ fn uncommitted_entry_is_replaced(rt: HostRuntime) -> Result<(), Fail> {
     Ok(())
 }
 
+/// What the NewLeader with a number keeps, and how many entries come with it; none, where the message is no NewLeader.
+fn suffix(world: &EchoWorld, message: usize) -> Option<(i64, usize)>
+    requires { world.now.failed ≡ false }
+{
+    match &world.messages().get(message.checked_sub(1)?)?.body {
+        Body::NewLeader { keep, rest, .. } => Some((*keep, rest.len())),
+        _ => None,
+    }
+}
+
+/// Whether a server has these entries, and has delivered them all.
+fn has_delivered(world: &EchoWorld, server: usize, expected: &[(u64, i64)]) -> bool
+    requires { world.now.failed ≡ false }
+{
+    match world.stable(server) {
+        Some(stable) => {
+            are(stable.history.as_slice(), expected) && are(world.delivered(server), expected)
+        }
+        None => false,
+    }
+}
+
+/// Server 3, which has nothing, leads, and hears the vote of server 2; then server 2 leads, and server 3 follows it.
+fn shorter_leads(alloc: Global) -> Result<Vec<Row>, AllocError> {
+    Ok(vec![in alloc;
+        arrive(9, 0),
+        lead(3),
+        follow(2, 3, 10),
+        arrive(10, 11),
+        arrive(11, 12),
+        arrive(12, 0),
+        lead(2),
+        follow(3, 2, 13),
+        arrive(13, 14),
+        arrive(14, 15),
+        arrive(15, 16),
+        arrive(16, 17),
+        arrive(17, 18),
+        arrive(18, 0),
+    ]?)
+}
+
+#[test]
+fn leader_with_a_shorter_history_steps_down(rt: HostRuntime) -> Result<(), Fail> {
+    let mut world = EchoWorld::new(rt.alloc(), 3)?;
+    walk(&mut world, first_submit(rt.alloc())?)?;
+    walk(&mut world, first_commit(rt.alloc())?)?;
+    walk(&mut world, shorter_leads(rt.alloc())?)?;
+    assert_eq!(rt; suffix(&world, 16), Some((0, 1)));
+    assert!(rt; has_delivered(&world, 3, &[(1, 0x1_0000_0001)]));
+    Ok(())
+}
+
+/// Server 2 makes an entry that nobody else gets, and crashes. Servers 3 and 1, with equal histories, go on without it.
+fn third_leader(alloc: Global) -> Result<Vec<Row>, AllocError> {
+    let call = EchoCall { tag: 3 };
+    let proposed = Row {
+        event: Event::Submit { server: 2, call },
+        answer: Ok(Moved {
+            first: 23,
+            count: 2,
+        }),
+    };
+    Ok(vec![in alloc;
+        proposed,
+        crash(2),
+        lead(3),
+        follow(1, 3, 25),
+        arrive(25, 26),
+        arrive(26, 27),
+        arrive(27, 28),
+        arrive(28, 29),
+        arrive(29, 30),
+        submit(3, 4, 31),
+        arrive(31, 32),
+        arrive(32, 33),
+        arrive(33, 0),
+    ]?)
+}
+
+/// Server 2 starts again, and follows server 3.
+fn second_follows(alloc: Global) -> Result<Vec<Row>, AllocError> {
+    Ok(vec![in alloc;
+        restart(2),
+        follow(2, 3, 34),
+        arrive(34, 35),
+        arrive(35, 36),
+        arrive(36, 37),
+        arrive(37, 38),
+        arrive(38, 39),
+        arrive(39, 0),
+    ]?)
+}
+
+/// The entries of epochs 2 and 3.
+const THIRD: [(u64, i64); 2] = [(2, 0x2_0000_0001), (4, 0x3_0000_0001)];
+
+#[test]
+fn follower_cuts_to_keep(rt: HostRuntime) -> Result<(), Fail> {
+    let mut world = EchoWorld::new(rt.alloc(), 3)?;
+    walk(&mut world, first_submit(rt.alloc())?)?;
+    walk(&mut world, second_leader(rt.alloc())?)?;
+    walk(&mut world, first_follows(rt.alloc())?)?;
+    // Nothing of its history is kept.
+    assert_eq!(rt; suffix(&world, 20), Some((0, 1)));
+    assert!(rt; has_delivered(&world, 1, &SECOND));
+    walk(&mut world, third_leader(rt.alloc())?)?;
+    // All is kept, and nothing lacks.
+    assert_eq!(rt; suffix(&world, 28), Some((0x2_0000_0001, 0)));
+    walk(&mut world, second_follows(rt.alloc())?)?;
+    // The first entry of two is kept.
+    assert_eq!(rt; suffix(&world, 37), Some((0x2_0000_0001, 1)));
+    assert!(rt; has_delivered(&world, 2, &THIRD));
+    Ok(())
+}
+
 /// A submit that is refused.
 fn refused_submit(server: usize, tag: u64, fault: WorldFault) -> Row {
     let call = EchoCall { tag };
