@@ -4,7 +4,7 @@ ghost use Rattle.std.specs.Prelude.{◌≡◌, false, OnOk};
 
 use std::test::Fail;
 use zab_broadcast::{Echo, EchoCall};
-use zab_epoch::{Entry, Majority};
+use zab_epoch::{Entries, Majority};
 use zab_world::{Event, Moved, World, WorldFault};
 
 /// A world of echoes.

@@ -8,7 +8,7 @@ use Rattle.zk_primary.specs.Entries.{txns_of}
 use Rattle.zk_runs.specs.Headline.{last_zxid}
 use Rattle.zk_txn.specs.declared.result.TxnResult.{TxnResult}
 use Rattle.zk_txn.specs.declared.txn.Op.{Op}
-use Rattle.zk_txn.specs.declared.txn.Op.TheVariants.{Create, Delete, SetData, SetAcl, OpenSession, CloseSession, Error, Multi}
+use Rattle.zk_txn.specs.declared.txn.Op.TheVariants.{Create, CreateOld, Delete, SetData, SetAcl, OpenSession, CloseSession, Error, Multi}
 use Rattle.zk_txn.specs.declared.txn.Txn.{Txn}
 use Rattle.zk_txn.specs.Parts.{is_error}
 use Rattle.zk_table.specs.Histories.{state_after, tree_of}
@@ -28,6 +28,7 @@ by_test false x y z p q = q
 
 step_last : (s : State) (t : Txn) (op : Op) → (step_by s t op).0.last ≡ t.zxid
 step_last s t (Create path content acl ephemeral count) = refl
+step_last s t (CreateOld path content acl ephemeral) = refl
 step_last s t (Delete path) = refl
 step_last s t (SetData path content version) = refl
 step_last s t (SetAcl path acl version) = refl
