@@ -12,13 +12,15 @@ pub as_many_txns : (entries : List Entry) → length (txns_of entries) ≡ lengt
 as_many_txns [] = refl
 as_many_txns (x ∷ entries) = ap (λ n. suc n) (as_many_txns entries)
 
-from_there : (entries : List Entry) (i tag : ℕ) (txn : Txn) → i < length entries → tag ≡ get_or (tags_of entries) i tag → txn ≡ get_or (txns_of entries) i txn → drop i entries ≡ record { tag = tag; txn = txn } ∷ drop (suc i) entries
-from_there [] i tag txn below one other = absurd (omega (arith, below))
-from_there (x ∷ entries) zero tag txn below one other =
-    ap (λ (k : ℕ). record { tag = k; txn = x.txn } ∷ entries) (sym one) ∙ ap (λ (y : Txn). record { tag = tag; txn = y } ∷ entries) (sym other)
-from_there (x ∷ entries) (suc i) tag txn below one other = from_there entries i tag txn (omega (arith, below)) one other
+from_there : (entries : List Entry) (i : ℕ) (txn : Txn) → i < length entries → txn ≡ get_or (txns_of entries) i txn → drop i entries ≡ record { tag = get_or (tags_of entries) i 0; txn = txn } ∷ drop (suc i) entries
+from_there [] i txn below is = absurd (omega (arith, below))
+from_there (x ∷ entries) zero txn below is = ap (λ (y : Txn). record { tag = x.tag; txn = y } ∷ entries) (sym is)
+from_there (x ∷ entries) (suc i) txn below is = from_there entries i txn (omega (arith, below)) is
 
 -- the entry at a place, and those behind it
-pub next_one : (entries : List Entry) (i tag : ℕ) (txn : Txn) → i < length entries → tag ≡ get_or (tags_of entries) i tag → txn ≡ get_or (txns_of entries) i txn → drop i entries ≡ record { tag = tag; txn = txn } ∷ drop (i + 1) entries
-next_one entries i tag txn below one other =
-    (let after : suc i ≡ i + 1 = omega arith in from_there entries i tag txn below one other ∙ ap (λ k. record { tag = tag; txn = txn } ∷ drop k entries) after)
+pub next_one : (entries : List Entry) (tags : List ℕ) (txns : List Txn) (i : ℕ) (txn : Txn) → tags ≡ tags_of entries → txns ≡ txns_of entries → i < length entries → txn ≡ get_or txns i txn → drop i entries ≡ record { tag = get_or tags i 0; txn = txn } ∷ drop (i + 1) entries
+next_one entries tags txns i txn tags_are txns_are below is =
+    (let after : suc i ≡ i + 1 = omega arith in
+    from_there entries i txn below (is ∙ ap (λ (l : List Txn). get_or l i txn) txns_are)
+    ∙ ap (λ k. record { tag = get_or (tags_of entries) i 0; txn = txn } ∷ drop k entries) after
+    ∙ ap (λ (l : List ℕ). record { tag = get_or l i 0; txn = txn } ∷ drop (i + 1) entries) (sym tags_are))
