@@ -1,10 +1,11 @@
 use crate::counting::{commit_count, next_zxid};
 use crate::primary::Primary;
-use crate::state::{State, Tags};
+use crate::state::State;
+use crate::tags::Tags;
 use std::alloc::Global;
 use std::marker::Model;
 use zab_epoch::{
-    Body, Entry, History, Messages, Peer, Quorums, Role, RuleFault, Stable, Table, Vote,
+    Body, Entries, Entry, History, Messages, Peer, Quorums, Role, RuleFault, Stable, Table, Vote,
 };
 use zk_path::NoMemory;
 
@@ -33,9 +34,11 @@ impl<P: Primary> Model for Server<P> {
 }
 
 impl<P: Primary> Server<P> {
-    ghost use Rattle.std.specs.Prelude.{◌≡◌, ◌≢◌, ◌≤◌, ◌<◌, ◌-◌, max, set, length, take, None, if◌then◌else◌, IfOk, OnOk, OnErr};
+    ghost use Rattle.std.specs.Prelude.{◌≡◌, ◌≢◌, ◌≤◌, ◌<◌, ◌<ℤ◌, ◌-◌, max, set, length, take, None, if◌then◌else◌, IfOk, OnOk, OnErr};
     ghost use Rattle.zab_epoch.specs.declared.fault.RuleFault.TheVariants as faults;
+    ghost use Rattle.zab_epoch.specs.Entries.{last_zxid, IsShort};
     ghost use Rattle.zab_broadcast.specs.Calls.{setting_of};
+    ghost use Rattle.zab_broadcast.specs.Guards.{EndsBelow, IsBelowNext};
     ghost use Rattle.zab_broadcast.specs.Rules.{restored, is_serving, lead, follow, c_epoch, new_epoch, ack_epoch};
     ghost use Rattle.zab_broadcast.specs.Rules.{new_leader, ack_leader, submit, request, propose, ack, commit};
     ghost use Rattle.zab_broadcast.specs.Rules.{begun, joined, counted, settles, raised, enters, catching_up, tells_news};
@@ -69,10 +72,15 @@ impl<P: Primary> Server<P> {
     }
 
     /// The entries that it has delivered, lent.
-    pub fn delivered(&self) -> &[Entry]
-        ensures { result.now ≡ take self.now.delivered self.now.peer.stable.history }
+    pub fn delivered(&self) -> Entries<'_>
+        ensures { result ≡ take self.now.delivered self.now.peer.stable.history }
     {
-        &self.state.peer.stable.history.as_slice()[..self.state.delivered]
+        self.state
+            .peer
+            .stable
+            .history
+            .entries()
+            .first(self.state.delivered)
     }
 
     /// Crashes: what is left is its stable part.
@@ -356,7 +364,7 @@ impl<P: Primary> Server<P> {
     fn start_primary(&self, alloc: Global) -> Result<P, NoMemory>
         ensures { IfOk result (λ primary. P.stands_for primary self.now.peer.stable.history self.now.delivered) }
     {
-        let mut primary = P::start(alloc, self.state.peer.stable.history.as_slice())?;
+        let mut primary = P::start(alloc, &self.state.peer.stable.history.entries())?;
         primary.delivered(self.state.delivered);
         Ok(primary)
     }
@@ -382,13 +390,14 @@ impl<P: Primary> Server<P> {
         Ok(messages)
     }
 
-    /// A client submits a call.
+    /// A client submits a call. A leader's history ends below the zxid that it makes.
     pub fn submit<Q: Quorums>(
         &mut self,
         alloc: Global,
         quorums: &Q,
         call: P::Call,
     ) -> Result<Messages<P::Call>, RuleFault>
+        requires below { EndsBelow self.old }
         ensures acts { result ≢ Err faults.NoMemory
             → (self.new, result) ≡ submit (setting_of (Q.passes quorums.now) P.made_of P.tag_of) self.old call }
         ensures err { OnErr result (self.new.peer.stable ≡ self.old.peer.stable) }
@@ -409,7 +418,7 @@ impl<P: Primary> Server<P> {
         }
     }
 
-    /// A Request comes.
+    /// A Request comes. A leader's history ends below the zxid that it makes.
     pub fn request<Q: Quorums>(
         &mut self,
         alloc: Global,
@@ -417,6 +426,7 @@ impl<P: Primary> Server<P> {
         epoch: u32,
         call: &P::Call,
     ) -> Result<Messages<P::Call>, RuleFault>
+        requires below { EndsBelow self.old }
         ensures acts { result ≢ Err faults.NoMemory
             → (self.new, result) ≡ request (setting_of (Q.passes quorums.now) P.made_of P.tag_of) self.old epoch call.now }
         ensures err { OnErr result (self.new.peer.stable ≡ self.old.peer.stable) }
@@ -442,6 +452,7 @@ impl<P: Primary> Server<P> {
         quorums: &Q,
         call: &P::Call,
     ) -> Result<Messages<P::Call>, RuleFault>
+        requires below { IsBelowNext self.old }
         ensures acts { result ≢ Err faults.NoMemory
             → (self.new, result) ≡ appends (setting_of (Q.passes quorums.now) P.made_of P.tag_of) self.old call.now }
         ensures err { OnErr result (self.new.peer.stable ≡ self.old.peer.stable) }
@@ -482,7 +493,8 @@ impl<P: Primary> Server<P> {
         call: &P::Call,
         zxid: i64,
     ) -> Result<Option<u64>, NoMemory>
-        requires { self.old.made < 4294967295 }
+        requires made { self.old.made < 4294967295 }
+        requires below { last_zxid self.old.peer.stable.history <ℤ zxid }
         ensures took { OnOk result
             (self.new ≡ took self.old (P.made_of self.old.peer.stable.history call.now zxid)) }
         ensures back { IfOk result (λ before. set self.new.has (self.new.peer.me - 1) before ≡ self.old.has) }
@@ -540,7 +552,7 @@ impl<P: Primary> Server<P> {
         self.state.taken.drop_last();
     }
 
-    /// A Propose comes.
+    /// A Propose comes, of an entry whose record has at most 16,777,216 bytes.
     pub fn propose(
         &mut self,
         alloc: Global,
@@ -549,6 +561,7 @@ impl<P: Primary> Server<P> {
         index: u64,
         entry: &Entry,
     ) -> Result<Messages<P::Call>, NoMemory>
+        requires short { IsShort entry.now }
         ensures acts { IfOk result (λ messages. (self.new, Ok messages)
             ≡ propose self.old from epoch index entry.now) }
         ensures err { OnErr result (self.new ≡ self.old) }

@@ -1,8 +1,9 @@
 //! Rows of `zab_broadcast`.
 
+use crate::asked::{ends_below, is_short};
 use std::alloc::Global;
 use zab_broadcast::{Echo, EchoCall, Primary, Server, Tags, commit_count, next_zxid};
-use zab_epoch::{Entry, History, Majority, Messages, RuleFault, Stable, Vote};
+use zab_epoch::{Entries, Entry, History, Majority, Messages, RuleFault, Stable, Vote};
 use zk_path::NoMemory;
 use zk_table::{Op, Txn};
 
@@ -42,20 +43,31 @@ fn discovers(alloc: Global, server: &mut Server<Echo>, heard: Heard) -> Option<M
     }
 }
 
+/// What it says then, of entries.
+fn proposes(alloc: Global, server: &mut Server<Echo>, heard: Heard) -> Option<Messages<EchoCall>> {
+    match heard {
+        Heard::Submit(tag) if ends_below(server) => server
+            .submit(alloc, &THREE, EchoCall { tag })
+            .ok(),
+        Heard::Request(epoch, tag) if ends_below(server) => server
+            .request(alloc, &THREE, epoch, &EchoCall { tag })
+            .ok(),
+        Heard::Propose(from, epoch, index, entry) if is_short(&entry) => server
+            .propose(alloc, from, epoch, index, &entry)
+            .ok(),
+        heard => discovers(alloc, server, heard),
+    }
+}
+
 /// What it says then.
 fn told(alloc: Global, server: &mut Server<Echo>, heard: Heard) -> Option<Messages<EchoCall>> {
     match heard {
         Heard::AckLeader(from, epoch, length) => server
             .ack_leader(alloc, &THREE, from, epoch, length)
             .ok(),
-        Heard::Submit(tag) => server.submit(alloc, &THREE, EchoCall { tag }).ok(),
-        Heard::Request(epoch, tag) => server.request(alloc, &THREE, epoch, &EchoCall { tag }).ok(),
-        Heard::Propose(from, epoch, index, entry) => server
-            .propose(alloc, from, epoch, index, &entry)
-            .ok(),
         Heard::Ack(from, epoch, length) => server.ack(alloc, &THREE, from, epoch, length).ok(),
         Heard::Commit(from, epoch, length) => Some(server.commit(alloc, from, epoch, length)),
-        heard => discovers(alloc, server, heard),
+        heard => proposes(alloc, server, heard),
     }
 }
 
@@ -109,7 +121,7 @@ fn commit_count_of_a_quorum(rt: HostRuntime) {
 
 /// What a primary makes of a call, as the first of a history.
 fn made<P: Primary>(alloc: Global, call: &P::Call, zxid: i64) -> Result<Entry, NoMemory> {
-    let mut primary = P::start(alloc, &[])?;
+    let mut primary = P::start(alloc, &Entries::none())?;
     let entry = primary.make(call, zxid)?;
     primary.taken(&entry)?;
     primary.delivered(1);
@@ -141,6 +153,18 @@ fn tags_are_found(rt: HostRuntime) {
     assert!(rt; !tags.has(4));
 }
 
+#[test]
+fn a_tag_that_is_taken_twice_is_found(rt: HostRuntime) {
+    let mut tags = Tags::new(rt.alloc());
+    for tag in [5, 3, 5, u64::MAX, 0] {
+        assert_eq!(rt; tags.push(tag), Ok(()));
+    }
+    for tag in [0, 3, 5, u64::MAX] {
+        assert!(rt; tags.has(tag), "{tag}");
+    }
+    assert!(rt; !tags.has(1) && !tags.has(4));
+}
+
 /// A server of three that has started again with nothing.
 fn new_server(alloc: Global, me: usize) -> Server<Echo> {
     Server::restored(alloc, 3, me, Stable::new(alloc))
@@ -150,6 +174,7 @@ fn new_server(alloc: Global, me: usize) -> Server<Echo> {
 fn a_server_that_looks_takes_no_calls(rt: HostRuntime) {
     let mut server = new_server(rt.alloc(), 1);
     assert!(rt; !server.is_serving());
+    assert!(rt; ends_below(&server));
     let told = server.submit(rt.alloc(), &THREE, EchoCall { tag: 1 });
     assert!(rt; matches!(told, Err(RuleFault::NotServing)));
 }
@@ -189,7 +214,8 @@ fn are_synced(alloc: Global, leader: &mut Server<Echo>, follower: &mut Server<Ec
         alloc,
         leader,
         Heard::AckEpoch(2, 1, EMPTY_VOTE),
-        "[Message { sender: 1, addressee: 2, body: NewLeader { epoch: 1, keep: 0, rest: History { entries: [] } } }]",
+        "[Message { sender: 1, addressee: 2, body: NewLeader { epoch: 1, keep: 0, rest: History { journal: \
+         Journal { txns: [], bytes: [] }, tags: [] } } }]",
     ) && says(
         alloc,
         follower,

@@ -4,6 +4,8 @@
 #![tactic(auto)]
 
 #[cfg(test)]
+mod asked;
+#[cfg(test)]
 mod broadcast_rows;
 #[cfg(test)]
 mod epoch_rows;

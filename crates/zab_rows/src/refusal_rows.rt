@@ -1,11 +1,13 @@
 //! A leader whose primary was refused memory takes later calls.
 
-ghost use Rattle.std.specs.Prelude.{refl};
+ghost use Rattle.std.specs.Prelude.{refl, pos};
 ghost use Rattle.zab_broadcast.specs.Echoes.{echo_of};
+ghost use Rattle.zab_broadcast.specs.Shortness.{error_is_short};
 
+use crate::asked::ends_below;
 use std::alloc::Global;
 use zab_broadcast::{EchoCall, Primary, Server};
-use zab_epoch::{Entry, Majority, RuleFault, Stable, Vote};
+use zab_epoch::{Entries, Entry, Majority, RuleFault, Stable, Vote};
 use zk_path::NoMemory;
 use zk_table::{Op, Txn};
 
@@ -36,7 +38,7 @@ impl Primary for Refusing {
         EchoCall { tag }
     }
 
-    fn start(_alloc: Global, _history: &[Entry]) -> Result<Refusing, NoMemory> {
+    fn start(_alloc: Global, _history: &Entries<'_>) -> Result<Refusing, NoMemory> {
         Ok(Refusing)
     }
 
@@ -66,6 +68,8 @@ impl Primary for Refusing {
 
     ghost made_tag = { λ history call zxid. refl };
 
+    ghost made_short = { λ history call zxid. error_is_short call.tag (pos 0) (pos 0) zxid (pos 0) (pos 0) };
+
     ghost closing_tag = { λ tag session now. refl };
 }
 
@@ -86,9 +90,11 @@ fn leads_alone(alloc: Global) -> Result<Server<Refusing>, RuleFault> {
 #[test]
 fn a_call_after_one_that_was_refused_memory(rt: HostRuntime) {
     let mut server = leads_alone(rt.alloc()).expect(&rt, "memory");
+    assert!(rt; ends_below(&server));
     let refused = server.submit(rt.alloc(), &ALONE, EchoCall { tag: 13 });
     assert!(rt; matches!(refused, Err(RuleFault::NoMemory)));
     assert_eq!(rt; server.delivered().len(), 0);
+    assert!(rt; ends_below(&server));
     let told = server.submit(rt.alloc(), &ALONE, EchoCall { tag: 1 });
     assert!(rt; told.is_ok());
     assert_eq!(rt; server.delivered().len(), 1);

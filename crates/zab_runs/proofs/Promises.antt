@@ -60,7 +60,7 @@ servers_share profile law system servers events leader server it other at there 
     shares profile.setting.passes (shares_of profile.setting.passes system) t.last it.state other.state (t.stands.servers leader it at).stands (t.stands.servers server other there).stands begun same
 
 pub leaders_end_below : {C : Type 0} (profile : Profile C) → CarriesZxid profile.setting → IsQuorumSystem profile.setting.passes → (servers : ℕ) (events : List (Event C)) → LeadersEndBelow profile servers events
-leaders_end_below profile law system servers events leader it zxid at role next =
+leaders_end_below profile law system servers events leader it at role zxid next =
     let t = whole profile law system servers events in
     let f = (t.stands.servers leader it at).stands in
     ends profile.setting.passes t.last it.state zxid f (subst (RoleFact (laws_of profile.setting.passes) t.last it.state) role f.role) next

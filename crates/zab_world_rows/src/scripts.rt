@@ -4,7 +4,7 @@ ghost use Rattle.std.specs.Prelude.{◌≡◌, false, OnOk};
 
 use std::test::Fail;
 use zab_broadcast::{Echo, EchoCall};
-use zab_epoch::{Entry, Majority};
+use zab_epoch::{Entries, Majority};
 use zab_world::{Event, Moved, World, WorldFault};
 
 /// A world of echoes.
@@ -82,8 +82,8 @@ pub fn walk(world: &mut EchoWorld, rows: Vec<Row>) -> Result<(), Fail>
 }
 
 /// Whether entries have these tags and zxids.
-pub fn are(entries: &[Entry], expected: &[(u64, i64)]) -> bool {
+pub fn are(entries: &Entries<'_>, expected: &[(u64, i64)]) -> bool {
     entries.len() == expected.len()
-        && entries.iter().zip(expected).all(|(entry, (tag, zxid))| entry.tag == *tag
-            && entry.txn.zxid == *zxid)
+        && entries.tags().iter().zip(expected).all(|(tag, (expected, _))| *tag == *expected)
+        && entries.txns().iter().zip(expected).all(|(txn, (_, zxid))| txn.zxid == *zxid)
 }

@@ -35,9 +35,9 @@ fn first_session_commits(rt: HostRuntime) -> Result<(), Fail> {
     let mut world = EchoWorld::new(rt.alloc(), 3)?;
     walk(&mut world, first_submit(rt.alloc())?)?;
     walk(&mut world, first_commit(rt.alloc())?)?;
-    assert!(rt; are(world.delivered(1), &[(1, 0x1_0000_0001)]) && world.delivered(2).is_empty());
+    assert!(rt; are(&world.delivered(1), &[(1, 0x1_0000_0001)]) && world.delivered(2).len() == 0);
     walk(&mut world, vec![in rt.alloc(); arrive(9, 0)]?)?;
-    assert!(rt; are(world.delivered(2), &[(1, 0x1_0000_0001)]) && world.delivered(3).is_empty());
+    assert!(rt; are(&world.delivered(2), &[(1, 0x1_0000_0001)]) && world.delivered(3).len() == 0);
     assert_eq!(rt; world.messages().len(), 9);
     Ok(())
 }
@@ -52,7 +52,7 @@ fn repeated_new_leader_keeps(rt: HostRuntime) -> Result<(), Fail> {
     let Some(stable) = world.stable(2) else {
         return Err("three servers".into());
     };
-    assert!(rt; are(stable.history.as_slice(), &[(1, 0x1_0000_0001)]));
+    assert!(rt; are(&stable.history.entries(), &[(1, 0x1_0000_0001)]));
     Ok(())
 }
 
@@ -96,7 +96,7 @@ const THREE: [(u64, i64); 3] = [(1, 0x1_0000_0001), (2, 0x1_0000_0002), (3, 0x1_
 #[test]
 fn two_creates_of_one_path(rt: HostRuntime) -> Result<(), Fail> {
     let mut world = three_calls(rt.alloc())?;
-    assert!(rt; are(world.delivered(1), &THREE));
+    assert!(rt; are(&world.delivered(1), &THREE));
     let rows = vec![in rt.alloc();
         refused_submit(1, 2, WorldFault::DuplicateCall),
         sends(expire(1, 7), 15),
@@ -199,8 +199,8 @@ fn uncommitted_entry_is_replaced(rt: HostRuntime) -> Result<(), Fail> {
         let Some(stable) = world.stable(server) else {
             return Err("three servers".into());
         };
-        assert!(rt; are(world.delivered(server), &SECOND), "{server}");
-        assert!(rt; are(stable.history.as_slice(), &SECOND), "{server}");
+        assert!(rt; are(&world.delivered(server), &SECOND), "{server}");
+        assert!(rt; are(&stable.history.entries(), &SECOND), "{server}");
     }
     Ok(())
 }
@@ -221,7 +221,7 @@ fn has_delivered(world: &EchoWorld, server: usize, expected: &[(u64, i64)]) -> b
 {
     match world.stable(server) {
         Some(stable) => {
-            are(stable.history.as_slice(), expected) && are(world.delivered(server), expected)
+            are(&stable.history.entries(), expected) && are(&world.delivered(server), expected)
         }
         None => false,
     }

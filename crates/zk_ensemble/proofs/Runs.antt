@@ -120,16 +120,16 @@ pub ok_of : {T E P : Type 0} (r : Result T E) → OnOk r P → is_err r ≡ fals
 ok_of (Ok x) p is = p
 ok_of (Err e) p is = absurd cc
 
-pub went_on : (below next : Sight Majority Call) (rs given news : List ReplicaView) (event : WorldEvent Call) (answer : Result Moved WorldFault) (messages : List (Message Call)) (before : List Entry) (number : ℕ) → given ≡ rs → messages ≡ below.world.messages → number ≡ mover (world below.world.servers messages below.world.tags) event → before ≡ delivered_of below.world number → (next.world, answer) ≡ zab.happens (profile_in below) below.world event → shown_by news ≡ at_server (shown_then (is_running next.world number) (length before) (delivered_of next.world number)) (shown_by given) number → (ensemble next.world (shown_by news), of_world answer) ≡ happens (profile_in below) (ensemble below.world (shown_by rs)) (events.World event)
+pub went_on : (below next : Sight Majority Call) (rs given news : List ReplicaView) (event : WorldEvent Call) (answer : Result Moved WorldFault) (messages : List (Message Call)) (before number : ℕ) → given ≡ rs → messages ≡ below.world.messages → number ≡ mover (world below.world.servers messages below.world.tags) event → before ≡ length (delivered_of below.world number) → (next.world, answer) ≡ zab.happens (profile_in below) below.world event → shown_by news ≡ at_server (shown_then (is_running next.world number) before (delivered_of next.world number)) (shown_by given) number → (ensemble next.world (shown_by news), of_world answer) ≡ happens (profile_in below) (ensemble below.world (shown_by rs)) (events.World event)
 went_on below next rs given news event answer messages before number all same at had is shows =
     moved (profile_in below) below.world (shown_by rs) (shown_by news) event next.world answer number
     (at ∙ ap (λ m. mover (world below.world.servers m below.world.tags) event) same) is
     (shows
-    ∙ ap (λ l. at_server (shown_then (is_running next.world number) (length before) (delivered_of next.world number)) (shown_by l) number) all
-    ∙ ap (λ d. at_server (shown_then (is_running next.world number) (length d) (delivered_of next.world number)) (shown_by rs) number) had)
+    ∙ ap (λ l. at_server (shown_then (is_running next.world number) before (delivered_of next.world number)) (shown_by l) number) all
+    ∙ ap (λ n. at_server (shown_then (is_running next.world number) n (delivered_of next.world number)) (shown_by rs) number) had)
 
 -- and it is told so
-pub went_on_so : (below next : Sight Majority Call) (rs given news : List ReplicaView) (event : WorldEvent Call) (answer : Result Moved WorldFault) (messages : List (Message Call)) (before : List Entry) (number : ℕ) (items : List ReplicaView) (said : Told) → given ≡ rs → messages ≡ below.world.messages → number ≡ mover (world below.world.servers messages below.world.tags) event → before ≡ delivered_of below.world number → (next.world, answer) ≡ zab.happens (profile_in below) below.world event → shown_by news ≡ at_server (shown_then (is_running next.world number) (length before) (delivered_of next.world number)) (shown_by given) number → items ≡ news → said ≡ of_world answer → (ensemble next.world (shown_by items), said) ≡ happens (profile_in below) (ensemble below.world (shown_by rs)) (events.World event)
+pub went_on_so : (below next : Sight Majority Call) (rs given news : List ReplicaView) (event : WorldEvent Call) (answer : Result Moved WorldFault) (messages : List (Message Call)) (before number : ℕ) (items : List ReplicaView) (said : Told) → given ≡ rs → messages ≡ below.world.messages → number ≡ mover (world below.world.servers messages below.world.tags) event → before ≡ length (delivered_of below.world number) → (next.world, answer) ≡ zab.happens (profile_in below) below.world event → shown_by news ≡ at_server (shown_then (is_running next.world number) before (delivered_of next.world number)) (shown_by given) number → items ≡ news → said ≡ of_world answer → (ensemble next.world (shown_by items), said) ≡ happens (profile_in below) (ensemble below.world (shown_by rs)) (events.World event)
 went_on_so below next rs given news event answer messages before number items said all same at had is shows keeps tells =
     ap (λ l. (ensemble next.world (shown_by l), said)) keeps
     ∙ ap (λ t. (ensemble next.world (shown_by news), t)) tells

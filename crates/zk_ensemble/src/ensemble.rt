@@ -7,9 +7,10 @@ use crate::moving::{catch_up, find, look, mover, peek};
 use crate::replica::Replica;
 use std::alloc::Global;
 use std::marker::Model;
-use zab_epoch::{Entry, Majority, Message};
+use zab_epoch::{Entries, Majority, Message};
 use zab_runs::Moved;
 use zab_world::{World, WorldFault};
+use zk_log::Journal;
 use zk_machine::Machine;
 use zk_path::NoMemory;
 use zk_prepare::Call;
@@ -54,7 +55,8 @@ impl Model for Ensemble {
 
 impl Ensemble {
     ghost use Rattle.std.specs.Prelude.{◌≡◌, ◌≢◌, replicate, true, false, IfOk, Err};
-    ghost use Rattle.zab_runs.specs.Runs.{delivered_of};
+    ghost use Rattle.std.specs.Option.{option_copied, option_map};
+    ghost use Rattle.zab_runs.specs.Runs.{delivered_of, stable_of};
     ghost use Rattle.zab_runs.specs.Worlds.{new_world, is_server};
     ghost use Rattle.zk_primary.specs.Entries.{txns_of};
     ghost use Rattle.zk_runs.specs.declared.event.Event.TheVariants as events;
@@ -227,11 +229,23 @@ impl Ensemble {
     }
 
     /// The entries that a server has delivered, lent; none where no server has this number.
-    pub fn delivered(&self, number: usize) -> &[Entry]
+    pub fn delivered(&self, number: usize) -> Entries<'_>
         requires { self.now.failed ≡ false }
-        ensures { result.now ≡ delivered_of self.now.below.world number }
+        ensures { result ≡ delivered_of self.now.below.world number }
     {
         self.world.delivered(number)
+    }
+
+    /// The transactions of a server's history, with the bytes of their entries in a log, lent; those of a server that is down,
+    /// too, and none where no server has this number.
+    pub fn journal(&self, number: usize) -> Option<&Journal>
+        requires { self.now.failed ≡ false }
+        ensures { option_copied result ≡ option_map (λ stable. txns_of stable.history) (stable_of self.now.below.world number) }
+    {
+        match self.world.stable(number) {
+            Some(stable) => Some(stable.history.journal()),
+            None => None,
+        }
     }
 
     /// All messages ever sent, lent, from number 1 on.

@@ -1,6 +1,6 @@
 //! What an event does to the servers' trees.
 
-ghost use Rattle.std.specs.Prelude.{◌≡◌, ◌≢◌, ◌≤◌, ℕ, List, drop, length, true, false, if◌then◌else◌, int_lt, Some, None, Err, OnOk, OnErr, IfSome};
+ghost use Rattle.std.specs.Prelude.{◌≡◌, ◌≢◌, ◌≤◌, ℕ, List, length, true, false, if◌then◌else◌, int_lt, Some, None, Err, OnOk, OnErr, IfSome};
 ghost use Rattle.zab_runs.specs.Movers.{mover, addressee_of};
 ghost use Rattle.zab_runs.specs.Running.{is_running};
 ghost use Rattle.zab_runs.specs.Runs.{delivered_of};
@@ -14,7 +14,7 @@ ghost use Rattle.std.specs.Option.{option_copied};
 
 use crate::replica::Replica;
 use std::alloc::Global;
-use zab_epoch::{Entry, Majority, Message};
+use zab_epoch::{Majority, Message};
 use zab_world::World;
 use zk_path::NoMemory;
 use zk_prepare::Call;
@@ -60,14 +60,6 @@ pub(crate) fn find(replicas: &[Replica], number: usize) -> Option<&Replica>
     replicas.get(number - 1)
 }
 
-/// What a list has behind its first entries.
-fn beyond(entries: &[Entry], before: usize) -> &[Entry]
-    requires { before ≤ length entries.now }
-    ensures { result.now ≡ drop before entries.now }
-{
-    &entries[before..]
-}
-
 /// The server delivers what it had not delivered before; one that is down shows what a new one does.
 pub(crate) fn catch_up(
     alloc: Global,
@@ -92,7 +84,7 @@ pub(crate) fn catch_up(
         *replica = Replica::new(alloc)?;
         return Ok(());
     }
-    replica.take_all(beyond(world.delivered(number), before))
+    replica.take_all(&world.delivered(number).behind(before))
 }
 
 /// How a client is refused that has seen more than this server's last transaction.

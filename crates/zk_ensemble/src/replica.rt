@@ -5,7 +5,7 @@ ghost use Rattle.zk_ensemble.specs.Views.{replica};
 
 use std::alloc::Global;
 use std::marker::Model;
-use zab_epoch::Entry;
+use zab_epoch::Entries;
 use zk_machine::Machine;
 use zk_path::NoMemory;
 use zk_runs::{Answered, EnsembleFault, Question};
@@ -53,33 +53,36 @@ impl Replica {
         })
     }
 
-    /// Delivers an entry.
-    fn take_in(&mut self, entry: &Entry) -> Result<(), NoMemory>
+    /// Delivers an entry with this tag and this transaction.
+    fn take_in(&mut self, tag: u64, txn: &Txn) -> Result<(), NoMemory>
         requires { self.old.failed ≡ false }
-        ensures { OnOk result (self.new ≡ replica (take_in self.old.shown entry.now) false) }
+        ensures { OnOk result (self.new ≡ replica (take_in self.old.shown (record { tag = tag; txn = txn.now })) false) }
     {
         self.machine.make_countable()?;
-        let Ok(applied) = self.machine.apply(&entry.txn) else {
+        let Ok(applied) = self.machine.apply(txn) else {
             return Err(NoMemory);
         };
-        stop_waiting(&mut self.watches, &entry.txn);
+        stop_waiting(&mut self.watches, txn);
         let mut fired = self.watches.fire(&applied.changes)?;
         self.events.append(&mut fired)?;
         self.answers.push(Answered {
-            tag: entry.tag,
-            session: entry.txn.session,
+            tag,
+            session: txn.session,
             result: applied.result,
         })?;
         Ok(())
     }
 
     /// Delivers entries in turn.
-    pub(crate) fn take_all(&mut self, entries: &[Entry]) -> Result<(), NoMemory>
+    #[tactic(auto, using(crate::proofs::Lent::as_many_tags, crate::proofs::Lent::as_many_txns))]
+    pub(crate) fn take_all(&mut self, entries: &Entries<'_>) -> Result<(), NoMemory>
         requires { self.old.failed ≡ false }
         ensures { OnOk result (self.new ≡ replica (take_all self.old.shown entries.now) false) }
     {
-        for entry in entries {
-            self.take_in(entry)?;
+        let tags = entries.tags();
+        let txns = entries.txns();
+        for index in 0..entries.len() {
+            self.take_in(tags[index], &txns[index])?;
         }
         Ok(())
     }

@@ -3,7 +3,7 @@
 use crate::calls::call;
 use anyhow::{Result, bail};
 use std::alloc::Global;
-use zab_epoch::Entry;
+use zab_epoch::Entries;
 use zk_ensemble::{Ensemble, EnsembleFault, Event};
 use zk_path::NoMemory;
 
@@ -56,7 +56,7 @@ impl Load {
     }
 
     /// What a server has delivered.
-    pub(crate) fn delivered(&self, server: usize) -> Result<&[Entry], NoMemory> {
+    pub(crate) fn delivered(&self, server: usize) -> Result<Entries<'_>, NoMemory> {
         if self.ensemble.has_failed() {
             return Err(NoMemory);
         }

@@ -25,8 +25,9 @@ use anyhow::{Context, Result, bail};
 use load::{Load, SERVERS};
 use std::alloc::Global;
 use std::env;
-use zab_epoch::Entry;
+use zab_epoch::Entries;
 use zk_machine::Machine;
+use zk_table::Txn;
 
 /// The calls where no other number is given.
 const CALLS: u64 = 200;
@@ -43,7 +44,8 @@ fn main(rt: HostRuntime) -> Result<()> {
     }
     println!(rt; "{calls} calls, {} events", load.events())?;
     tell_servers(&rt, &load)?;
-    let steps = apply_to_all(rt.alloc(), load.delivered(load.leader())?, machines)?;
+    let delivered = load.delivered(load.leader())?;
+    let steps = apply_to_all(rt.alloc(), delivered.txns(), machines)?;
     println!(rt; "{machines} machines, {steps} steps")?;
     Ok(())
 }
@@ -63,7 +65,7 @@ fn word(rt: &HostRuntime, place: usize, otherwise: u64) -> Result<u64> {
 /// A line for each server: what it has delivered, and how much of that was refused.
 fn tell_servers(rt: &HostRuntime, load: &Load) -> Result<()> {
     for server in 1..=SERVERS {
-        let once = delivered_once(load.delivered(server)?)?;
+        let once = delivered_once(&load.delivered(server)?)?;
         let refused = load.refused(server)?;
         println!(rt; "server {server}: {once} delivered once, {refused} of them refused")?;
     }
@@ -71,34 +73,34 @@ fn tell_servers(rt: &HostRuntime, load: &Load) -> Result<()> {
 }
 
 /// How many calls were delivered, where no call came twice, or after a later one.
-fn delivered_once(entries: &[Entry]) -> Result<usize> {
+fn delivered_once(entries: &Entries<'_>) -> Result<usize> {
     let mut next = 0;
-    for entry in entries {
-        if entry.tag < next {
-            bail!("call {} was delivered again, or late", entry.tag);
+    for tag in entries.tags() {
+        if *tag < next {
+            bail!("call {} was delivered again, or late", *tag);
         }
-        next = entry.tag.saturating_add(1);
+        next = tag.saturating_add(1);
     }
     Ok(entries.len())
 }
 
-/// Applies the transactions of entries to so many machines, one after the other. How many steps all of them made.
-fn apply_to_all(alloc: Global, entries: &[Entry], machines: u64) -> Result<u64> {
+/// Applies transactions to so many machines, one after the other. How many steps all of them made.
+fn apply_to_all(alloc: Global, txns: &[Txn], machines: u64) -> Result<u64> {
     let mut steps: u64 = 0;
     for _ in 0..machines {
-        steps = steps.wrapping_add(apply_all(alloc, entries)?);
+        steps = steps.wrapping_add(apply_all(alloc, txns)?);
     }
     Ok(steps)
 }
 
-/// Applies the transactions of entries to a new machine. How many steps it made.
-fn apply_all(alloc: Global, entries: &[Entry]) -> Result<u64> {
+/// Applies transactions to a new machine. How many steps it made.
+fn apply_all(alloc: Global, txns: &[Txn]) -> Result<u64> {
     let mut machine = Machine::new(alloc)?;
-    for entry in entries {
+    for txn in txns {
         if machine.steps()? == u64::MAX {
             bail!("a machine counts its steps in 64 bits");
         }
-        machine.apply(&entry.txn)?;
+        machine.apply(txn)?;
     }
     Ok(machine.steps()?)
 }

@@ -1,10 +1,11 @@
 ghost use Rattle.std.specs.Prelude.{refl};
 ghost use Rattle.zk_prepare.specs.Requests.{closing_call};
 ghost use Rattle.zk_primary.specs.Entries.{Prepares, entry_of, entry_zxid};
+ghost use Rattle.zk_primary.specs.Shortness.{entry_is_short};
 
 use std::alloc::Global;
 use zab_broadcast::Primary;
-use zab_epoch::Entry;
+use zab_epoch::{Entries, Entry};
 use zk_machine::Machine;
 use zk_path::NoMemory;
 use zk_prepare::{Call, Prep, closing_call};
@@ -37,11 +38,11 @@ impl Primary for Preparer {
         closing_call(alloc, tag, session, now)
     }
 
-    fn start(alloc: Global, history: &[Entry]) -> Result<Preparer, NoMemory> {
+    fn start(alloc: Global, history: &Entries<'_>) -> Result<Preparer, NoMemory> {
         let machine = Machine::new(alloc)?;
         let mut prep = Prep::start(alloc, &machine, &[])?;
-        for entry in history {
-            prep.taken(&entry.txn)?;
+        for txn in history.txns() {
+            prep.taken(txn)?;
         }
         Ok(Preparer { prep })
     }
@@ -62,6 +63,8 @@ impl Primary for Preparer {
     ghost made_zxid = { entry_zxid };
 
     ghost made_tag = { λ history call zxid. refl };
+
+    ghost made_short = { entry_is_short };
 
     ghost closing_tag = { λ tag session now. refl };
 }

@@ -20,6 +20,6 @@ returns-clause-shown c =
     on_ok_weaker c.take_all.result (λ is.
     replaced (shown_then (is_running c.args.world.now.world c.args.number) c.args.before (delivered_of c.args.world.now.world c.args.number)) c.args.replicas.now c.args.number c.index-replicas-number.result c.take_all.new.self here
     (ap (λ r. r.shown) is
-    ∙ ap (λ r. take_all r.shown c.beyond.result.now) (sym c.index-replicas-number.is)
-    ∙ ap (λ d. take_all c.index-replicas-number.result.shown d) (c.beyond.ensures ∙ ap (drop c.args.before) c.delivered.ensures)
+    ∙ ap (λ r. take_all r.shown c.behind.result) (sym c.index-replicas-number.is)
+    ∙ ap (λ d. take_all c.index-replicas-number.result.shown d) (c.behind.ensures ∙ ap (drop c.args.before) c.delivered.ensures)
     ∙ ap (λ b. shown_then b c.args.before (delivered_of c.args.world.now.world c.args.number) c.index-replicas-number.result.shown) (sym runs))) c.take_all.ensures

@@ -1,0 +1,87 @@
+use std::alloc::Global;
+use std::collections::BTreeMap;
+use std::marker::Model;
+use zk_path::NoMemory;
+
+/// Tags of calls, in the order in which they were taken. A tag is looked up, and not compared with all of them.
+#[derive(Debug, Drop)]
+pub struct Tags {
+    tags: Vec<u64>,
+    /// The place at which each tag was first taken.
+    places: BTreeMap<u64, usize>,
+}
+
+/// They are seen as a list.
+impl Model for Tags {
+    ghost use Rattle.std.specs.Prelude.{List, ℕ};
+    ghost use Rattle.zab_broadcast.specs.Places.{ArePlaces};
+
+    ghost Value = { List ℕ };
+
+    ghost view = { λ tags. tags.tags.items };
+
+    ghost invariant = { λ tags. ArePlaces tags.places tags.tags.items };
+}
+
+impl Tags {
+    ghost use Rattle.std.specs.Prelude.{◌≡◌, ◌≢◌, ◌-◌, [], ◌∷◌, ◌++◌, true, false, length, take, Some, OnOk, OnErr};
+    ghost use Rattle.zab_broadcast.specs.Calls.{is_taken};
+    ghost use Rattle.zab_broadcast.specs.Places.{place_from};
+
+    /// No tags.
+    pub fn new(alloc: Global) -> Tags
+        ensures { result ≡ [] }
+    {
+        Tags {
+            tags: Vec::new(alloc),
+            places: BTreeMap::new(alloc),
+        }
+    }
+
+    /// Adds a tag. Where memory is refused they are as they were.
+    pub fn push(&mut self, tag: u64) -> Result<(), NoMemory>
+        ensures ok { OnOk result (self.new ≡ self.old ++ tag ∷ []) }
+        ensures err { OnErr result (self.new ≡ self.old) }
+    {
+        self.tags.reserve(1)?;
+        if !self.places.contains_key(&tag) {
+            self.places.insert(tag, self.tags.len())?;
+        }
+        self.tags.push_reserved(tag);
+        Ok(())
+    }
+
+    /// Drops the last tag, if there is one. Takes no memory.
+    pub(crate) fn drop_last(&mut self)
+        ensures { self.new ≡ take (length self.old - 1) self.old }
+    {
+        if self.tags.is_empty() {
+            return;
+        }
+        let last = self.tags.len() - 1;
+        let tag = self.tags[last];
+        if self.is_first_at(tag, last) {
+            self.places.remove(&tag);
+        }
+        self.tags.truncate(last);
+    }
+
+    /// Whether a tag was first taken at a place, which is counted from 0.
+    fn is_first_at(&self, tag: u64, place: usize) -> bool
+        ensures yes { result ≡ true → place_from 0 tag self.now ≡ Some place }
+        ensures no { result ≡ false → place_from 0 tag self.now ≢ Some place }
+    {
+        match self.places.get(&tag) {
+            Some(first) => *first == place,
+            None => false,
+        }
+    }
+
+    /// Whether a tag is among them.
+    #[tactic(auto, using(crate::proofs::Places::taken_is))]
+    pub fn has(&self, tag: u64) -> bool
+        ensures { result ≡ is_taken tag self.now }
+    {
+        self.places.contains_key(&tag)
+    }
+}

@@ -1,0 +1,36 @@
+//! What calls of histories and servers ask, as tests.
+
+ghost use Rattle.std.specs.Prelude.{◌≡◌, true};
+ghost use Rattle.zab_epoch.specs.Entries.{IsShort};
+ghost use Rattle.zab_broadcast.specs.Guards.{EndsBelow};
+
+use zab_broadcast::{Primary, Server, next_zxid};
+use zab_epoch::{Entry, History};
+use zk_jute::size;
+use zk_path::NoMemory;
+
+/// Whether a server's history ends below the zxid that it would make next.
+pub(crate) fn ends_below<P: Primary>(server: &Server<P>) -> bool
+    ensures { result ≡ true → EndsBelow server.now }
+{
+    let state = server.state();
+    match next_zxid(state.peer.stable.promised, state.made) {
+        Some(zxid) => state.peer.stable.history.last_zxid() < zxid,
+        None => true,
+    }
+}
+
+/// Whether an entry's record has at most 16,777,216 bytes.
+pub(crate) fn is_short(entry: &Entry) -> bool
+    ensures { result ≡ true → IsShort entry.now }
+{
+    size(&entry.txn) <= 16_777_216
+}
+
+/// Appends an entry, if it may be appended.
+pub(crate) fn push(history: &mut History, entry: Entry) -> Result<(), NoMemory> {
+    if history.last_zxid() < entry.txn.zxid && is_short(&entry) {
+        return history.push(entry);
+    }
+    Err(NoMemory)
+}
