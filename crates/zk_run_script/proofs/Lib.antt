@@ -1,3 +1,4 @@
 pub mod Wholes
 pub mod CommandTexts
+pub mod Kept
 pub mod PlaysLaws

@@ -8,7 +8,7 @@ pub enum Command {
     Happens(Event),
     /// A read at a text that is no path: nothing happens.
     ReadsNoPath,
-    /// A report on a server: `delivered P`, `answers P`, `events P` or `tree P`.
+    /// A report on a server: `delivered P`, `history P`, `answers P`, `events P` or `tree P`.
     Reports { report: Report, server: usize },
 }
 
@@ -17,7 +17,9 @@ pub enum Command {
 pub enum Report {
     /// The entries that it has delivered, as a listing.
     Delivered,
-    /// What each of them was answered.
+    /// The entries of its history, delivered or not, as a listing.
+    History,
+    /// What each delivered entry was answered.
     Answers,
     /// What sessions were told there by their watches.
     Events,

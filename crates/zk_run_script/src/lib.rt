@@ -14,7 +14,7 @@ mod told;
 pub use command::{Command, Report};
 pub use playing::run_command;
 pub use reading::{read_command, read_servers};
-pub use reports::{push_answers, push_counted_tree, push_delivered, push_events};
+pub use reports::{push_answers, push_counted_tree, push_events, push_listing};
 pub use script::run_script;
 pub use told::push_told;
 pub use zk_reports::ScriptFault;

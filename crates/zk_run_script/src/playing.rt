@@ -1,13 +1,16 @@
 //! What an ensemble answers to a command.
-ghost use Rattle.std.specs.Prelude.{◌≡◌, ◌++◌, OnOk, OnErr};
+ghost use Rattle.std.specs.Prelude.{◌≡◌, ◌++◌, false, OnOk, OnErr};
 ghost use Rattle.std.specs.String.{string_bytes};
+ghost use Rattle.zab_epoch.specs.Entries.{txns_of};
+ghost use Rattle.zab_runs.specs.Runs.{history_of};
 ghost use Rattle.zk_request_lines.specs.ReplyLines.{refusal_text};
+ghost use Rattle.zk_run_script.specs.Answers.{listing_report};
 ghost use Rattle.zk_run_script.specs.Playing.{Obeys, reported};
 ghost use Rattle.zk_reports.specs.Reports.{line};
 ghost use Rattle.zk_txn.specs.Codes.{bad_arguments};
 
 use crate::command::{Command, Report};
-use crate::reports::{push_answers, push_counted_tree, push_delivered, push_events};
+use crate::reports::{push_answers, push_counted_tree, push_events, push_listing};
 use crate::told::push_told;
 use zk_ensemble::Ensemble;
 use zk_path::NoMemory;
@@ -68,12 +71,26 @@ fn push_report(
         return Ok(());
     }
     match report {
-        Report::Delivered => push_delivered(answer, ensemble.delivered(server)),
+        Report::Delivered => push_listing(answer, ensemble.delivered(server).txns()),
+        Report::History => push_history(answer, ensemble, server),
         Report::Answers => push_answers(answer, ensemble.answers(server)),
         Report::Events => push_events(answer, ensemble.events_of(server)),
         Report::Tree => {
             let machine = ensemble.tree(server)?;
             push_counted_tree(answer, &machine)
         }
+    }
+}
+
+/// Appends the report of a server's history.
+#[tactic(auto, using(crate::proofs::Kept::history_told, crate::proofs::Kept::none_told))]
+fn push_history(answer: &mut String, ensemble: &Ensemble, server: usize) -> Result<(), NoMemory>
+    requires { ensemble.now.failed ≡ false }
+    ensures { OnOk result (string_bytes answer.new ≡ string_bytes answer.old
+        ++ listing_report (txns_of (history_of ensemble.now.below.world server))) }
+{
+    match ensemble.journal(server) {
+        Some(journal) => push_listing(answer, journal.txns()),
+        None => push_listing(answer, &[]),
     }
 }

@@ -58,7 +58,8 @@ pub(crate) fn run_lines() -> &'static str {
   read P SESSION SEEN AUTHS READ
                       a client reads at P
   delivered P         the entries that P has delivered
-  answers P           what each of them was answered
+  history P           the entries of its history, delivered or not
+  answers P           what each delivered entry was answered
   events P            what the watches at P have told
   tree P              the tree of P
 
