@@ -23,13 +23,13 @@ use Rattle.zk_runs.specs.declared.event.Event.{Event}
 use Rattle.zk_runs.specs.declared.event.Event.TheVariants as events
 use Rattle.zk_runs.specs.declared.event.Question.{Question}
 use Rattle.zk_runs.specs.declared.fault.EnsembleFault.TheVariants as faults
-use Rattle.zk_runs.specs.Consequences.{FitsEvent, FitEvents}
+use Rattle.zk_headline_laws.specs.Consequences.{FitsEvent, FitEvents}
 use Rattle.zk_runs.specs.Ensembles.{Ensemble, Shown, Told, ensemble, new_ensemble, happens, moves, looks, reads, at_server, shown_then, shown_at, of_world, profile_by}
-use Rattle.zk_runs.specs.Headline.{Shows, IsNextInRun}
+use Rattle.zk_headline_laws.specs.Headline.{Shows, IsNextInRun}
 use Rattle.zk_runs.specs.Runs.{run, answered_of}
-use Rattle.zk_runs.proofs.Following.{fit_more, follows}
+use Rattle.zk_headline_laws.proofs.Following.{fit_more, follows}
 use Rattle.zk_runs.proofs.Lists.{is_there}
-use Rattle.zk_runs.proofs.Standing.{Stands, stands_in_run, grows}
+use Rattle.zk_headline_laws.proofs.Standing.{Stands, stands_in_run, grows}
 use Rattle.zk_runs.proofs.Worlds.{after_more}
 use Rattle.zk_table.specs.Histories.{tree_of}
 use Rattle.zk_ensemble.specs.Views.{ReplicaView, EnsembleView, state_of, shown_by, AreRunning, profile_in, IsOfRun, answers_in, tree_in}

@@ -14,7 +14,7 @@ use Rattle.zk_prepare.specs.declared.call.Call.{Call}
 use Rattle.zk_runs.specs.declared.answer.Answered.{Answered}
 use Rattle.zk_runs.specs.declared.event.Event.{Event}
 use Rattle.zk_runs.specs.declared.event.Event.TheVariants as events
-use Rattle.zk_runs.specs.Consequences.{FitEvents}
+use Rattle.zk_headline_laws.specs.Consequences.{FitEvents}
 use Rattle.zk_runs.specs.Ensembles.{Shown, Ensemble, ensemble, profile_by}
 use Rattle.zk_runs.specs.Runs.{run}
 use Rattle.zk_txn.specs.declared.node.Node.{Node}

@@ -1,6 +1,6 @@
 ghost use Rattle.std.specs.Prelude.{◌≡◌, ◌≢◌, ℕ, length, true, false, Err};
 ghost use Rattle.zab_runs.specs.declared.fault.WorldFault.TheVariants as world_faults;
-ghost use Rattle.zk_runs.specs.Consequences.{FitsInWorld};
+ghost use Rattle.zk_headline_laws.specs.Consequences.{FitsInWorld};
 ghost use Rattle.zk_runs.specs.Ensembles.{of_world};
 
 use crate::moving::{catch_up, find, look, mover, peek};
@@ -62,7 +62,7 @@ impl Ensemble {
     ghost use Rattle.zk_runs.specs.declared.event.Event.TheVariants as events;
     ghost use Rattle.zk_runs.specs.declared.fault.EnsembleFault.TheVariants as faults;
     ghost use Rattle.zk_runs.specs.Ensembles.{fresh, happens, shown_at};
-    ghost use Rattle.zk_runs.specs.Headline.{IsNextInRun};
+    ghost use Rattle.zk_headline_laws.specs.Headline.{IsNextInRun};
     ghost use Rattle.zk_runs.specs.Runs.{answered_of};
     ghost use Rattle.zk_table.specs.Histories.{tree_of};
     ghost use Rattle.zk_ensemble.specs.Views.{state_of, profile_in, server_of, IsRefused, answers_in, events_in, tree_in};

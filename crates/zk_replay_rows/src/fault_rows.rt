@@ -31,13 +31,21 @@ fn is_call_fault(alloc: Global, fault: CallFault, shown: &str) -> Result<bool, N
 #[test]
 fn debug_faults_are_shown_by_their_numbers(rt: HostRuntime) {
     for (fault, shown) in &DEBUG_FAULTS {
-        assert_eq!(rt; is_debug_fault(rt.alloc(), *fault, shown), Ok(true), "{shown}");
+        assert_eq!(rt;
+            is_debug_fault(rt.alloc(), *fault, shown),
+            Ok(true),
+            "{shown}"
+        );
     }
 }
 
 #[test]
 fn call_faults_are_shown_by_their_numbers(rt: HostRuntime) {
     for (fault, shown) in &CALL_FAULTS {
-        assert_eq!(rt; is_call_fault(rt.alloc(), *fault, shown), Ok(true), "{shown}");
+        assert_eq!(rt;
+            is_call_fault(rt.alloc(), *fault, shown),
+            Ok(true),
+            "{shown}"
+        );
     }
 }

@@ -1,9 +1,2 @@
-pub mod Consequences
-pub mod Firing
-pub mod Following
-pub mod Headlines
 pub mod Lists
-pub mod ReadLaws
-pub mod Showing
-pub mod Standing
 pub mod Worlds

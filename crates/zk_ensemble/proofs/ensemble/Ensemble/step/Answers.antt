@@ -1,7 +1,7 @@
 use Rattle.std.proofs.Common.{sym, subst}
 use Rattle.zk_runs.specs.declared.event.Event.{Event}
 use Rattle.zk_runs.specs.declared.event.Event.TheVariants as events
-use Rattle.zk_runs.specs.Headline.{IsNextInRun}
+use Rattle.zk_headline_laws.specs.Headline.{IsNextInRun}
 use Rattle.zk_ensemble.specs.Views.{state_of, profile_in}
 use Rattle.zk_ensemble.proofs.Runs.{IsViewOfRun, view_of_run, next_in_run}
 use Rattle.zk_ensemble.proofs.ensemble.Ensemble.step.Goals as goal

@@ -1,0 +1,7 @@
+-- What the contracts of this crate cite.
+pub mod Agreement
+pub mod Facts
+pub mod Laws
+pub mod Moments
+pub mod Origins
+pub mod Promises

@@ -1,0 +1,32 @@
+-- One ensemble follows another in a run.
+use Rattle.std.proofs.Common.{◌≡◌, ℕ, Bool, List, [], ◌∷◌, ◌++◌, refl}
+use Rattle.zab_epoch.specs.Quorums.{IsQuorumSystem}
+use Rattle.zab_move_laws.proofs.Telling.{all_append}
+use Rattle.zab_origin_laws.proofs.Origins.{tagged_once}
+use Rattle.zab_agreement_laws.proofs.AgreeRuns.{runs_agree}
+use Rattle.zk_primary.specs.Entries.{entry_zxid}
+use Rattle.zk_runs.specs.declared.event.Event.{Event}
+use Rattle.zk_headline_laws.specs.Consequences.{FitsEvent, FitEvents}
+use Rattle.zk_runs.specs.Ensembles.{Ensemble, profile_by}
+use Rattle.zk_headline_laws.specs.Headline.{IsNextInRun}
+use Rattle.zk_runs.specs.Runs.{run, in_world}
+use Rattle.zk_headline_laws.proofs.Consequences.{consequences}
+use Rattle.zk_headline_laws.proofs.Headlines.{headline}
+use Rattle.zk_runs.proofs.Worlds.{world_then}
+
+-- one event more, with sessions of 64 bits
+pub fit_more : (some : List Event) (event : Event) → FitEvents some → FitsEvent event → FitEvents (some ++ event ∷ [])
+fit_more some event fit fits = all_append FitsEvent some (event ∷ []) fit (fits, tt)
+
+pub follows : (passes : List Bool → Bool) (system : IsQuorumSystem passes) (servers : ℕ) (some : List Event) (before : Ensemble) (event : Event) (next : Ensemble) → before ≡ (run (profile_by passes) servers some).0 → next ≡ (run (profile_by passes) servers (some ++ event ∷ [])).0 → FitEvents (some ++ event ∷ []) → IsNextInRun (profile_by passes) servers before event next
+follows passes system servers some before event next reached goes_on fit = record {
+  some = some;
+  reached = reached;
+  goes_on = goes_on;
+  headline = headline (profile_by passes) entry_zxid system (λ history call zxid. refl) servers (some ++ event ∷ []);
+  consequences = consequences passes system servers (some ++ event ∷ []);
+  fit = fit;
+  worlds = world_then (profile_by passes) servers (some ++ event ∷ []);
+  agrees = runs_agree (profile_by passes) entry_zxid system servers (in_world (some ++ event ∷ []));
+  tagged = tagged_once (profile_by passes) (λ history call zxid. refl) servers (in_world (some ++ event ∷ []));
+}

@@ -1,0 +1,7 @@
+pub mod Consequences
+pub mod Firing
+pub mod Following
+pub mod Headlines
+pub mod ReadLaws
+pub mod Showing
+pub mod Standing

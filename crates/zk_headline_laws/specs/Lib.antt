@@ -1,0 +1,4 @@
+-- What the contracts of this crate cite.
+pub mod Consequences
+pub mod Headline
+pub mod Occasions

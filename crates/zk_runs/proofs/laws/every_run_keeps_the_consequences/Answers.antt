@@ -1,5 +1,0 @@
-use Rattle.zk_runs.proofs.Consequences.{consequences}
-use Rattle.zk_runs.proofs.laws.every_run_keeps_the_consequences.Goals as goal
-
-pub returns : goal.returns
-returns g c = λ servers some. consequences (g.Q.Quorums.passes c.args._quorums.now) (g.met.Q.Quorums.share c.args._quorums.now) servers some
