@@ -3,7 +3,6 @@ use Rattle.std.specs.Prelude.{ℕ, ℤ, zero, suc, ◌+◌, List, [], ◌∷◌,
 use Rattle.std.specs.Fmt.{decimal}
 use Rattle.std.specs.FinMap.{entries}
 use Rattle.std.specs.List.{flat_map}
-use Rattle.zab_epoch.specs.declared.history.Entry.{Entry}
 use Rattle.zab_runs.specs.declared.event.Moved.{Moved}
 use Rattle.zk_machine.specs.declared.change.ChangeKind.{ChangeKind}
 use Rattle.zk_machine.specs.declared.change.ChangeKind.TheVariants as kinds
@@ -18,6 +17,7 @@ use Rattle.zk_spelling.specs.Listings.{line_of}
 use Rattle.zk_spelling.specs.Reports.{result_line}
 use Rattle.zk_spelling.specs.Spelling.{sixteen_digits, id_digits, quoted}
 use Rattle.zk_table.specs.States.{State}
+use Rattle.zk_txn.specs.declared.txn.Txn.{Txn}
 use Rattle.zk_watch.specs.declared.watch.Fired.{Fired}
 
 -- ---- what an event is answered
@@ -53,9 +53,9 @@ told_text (Err fault) = fault_text fault
 abbrev pub lines_line : ℕ → List ℕ
 lines_line count = line (codes "lines " ++ decimal count)
 
--- the entries that a server has delivered, as a listing
-abbrev pub delivered_report : List Entry → List ℕ
-delivered_report delivered = lines_line (length delivered) ++ flat_map (λ entry. line_of entry.txn) delivered
+-- transactions, as a listing
+abbrev pub listing_report : List Txn → List ℕ
+listing_report txns = lines_line (length txns) ++ flat_map line_of txns
 
 -- a delivered entry's tag, and what it was answered
 abbrev pub answer_line : Answered → List ℕ

@@ -5,5 +5,5 @@
 mod reports;
 mod told;
 
-pub use reports::{push_answers, push_counted_tree, push_delivered, push_events};
+pub use reports::{push_answers, push_counted_tree, push_events, push_listing};
 pub use told::push_told;

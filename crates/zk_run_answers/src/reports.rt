@@ -2,15 +2,15 @@
 ghost use Rattle.std.specs.Prelude.{◌≡◌, ◌++◌, false, IfOk, OnErr, OnOk};
 ghost use Rattle.std.specs.List.{flat_map};
 ghost use Rattle.std.specs.String.{string_bytes};
-ghost use Rattle.zk_run_answers.specs.Answers.{lines_line, delivered_report, answer_line, answers_report, kind_text, event_line, events_report, tree_lines, counted_tree};
+ghost use Rattle.zk_run_answers.specs.Answers.{lines_line, listing_report, answer_line, answers_report, kind_text, event_line, events_report, tree_lines, counted_tree};
 ghost use Rattle.zk_spelling.specs.Listings.{line_of};
 
-use zab_epoch::Entry;
 use zk_listing::{push_digits, push_line, push_quoted, push_result_line};
 use zk_machine::{ChangeKind, Machine};
 use zk_path::NoMemory;
 use zk_runs::Answered;
 use zk_script::push_tree;
+use zk_table::Txn;
 use zk_watch::Fired;
 
 /// Appends how many lines follow.
@@ -22,25 +22,25 @@ fn push_lines(page: &mut String, count: usize) -> Result<(), NoMemory>
     Ok(())
 }
 
-/// Appends the report of what a server has delivered: a listing.
-pub fn push_delivered(page: &mut String, delivered: &[Entry]) -> Result<(), NoMemory>
+/// Appends the report of transactions, as those that a server has delivered: a listing.
+pub fn push_listing(page: &mut String, txns: &[Txn]) -> Result<(), NoMemory>
     ensures appended { OnOk result
-        (string_bytes page.new ≡ string_bytes page.old ++ delivered_report delivered.now) }
+        (string_bytes page.new ≡ string_bytes page.old ++ listing_report txns.now) }
     ensures unchanged { OnErr result (string_bytes page.new ≡ string_bytes page.old) }
 {
     let mut report = String::new(*page.allocator());
-    push_lines(&mut report, delivered.len())?;
-    push_entries(&mut report, delivered)?;
+    push_lines(&mut report, txns.len())?;
+    push_txns(&mut report, txns)?;
     page.push_str(report.as_str())?;
     Ok(())
 }
 
-fn push_entries(page: &mut String, delivered: &[Entry]) -> Result<(), NoMemory>
-    ensures { OnOk result (string_bytes page.new ≡ string_bytes page.old
-        ++ flat_map (λ entry. line_of entry.txn) delivered.now) }
+fn push_txns(page: &mut String, txns: &[Txn]) -> Result<(), NoMemory>
+    ensures { OnOk result
+        (string_bytes page.new ≡ string_bytes page.old ++ flat_map line_of txns.now) }
 {
-    for entry in delivered {
-        push_line(page, &entry.txn)?;
+    for txn in txns {
+        push_line(page, txn)?;
     }
     Ok(())
 }

@@ -278,12 +278,15 @@ commands_made = (
                 (
                   behind_whole (Next Number) (spaced number_at) whole_number (commands.Reports reports.Delivered) (codes "delivered") SpellsCommand (λ x text s. number_made (codes "delivered") x text s),
                   (
+                    behind_whole (Next Number) (spaced number_at) whole_number (commands.Reports reports.History) (codes "history") SpellsCommand (λ x text s. number_made (codes "history") x text s),
+                  (
                     behind_whole (Next Number) (spaced number_at) whole_number (commands.Reports reports.Answers) (codes "answers") SpellsCommand (λ x text s. number_made (codes "answers") x text s),
                     (
                       behind_whole (Next Number) (spaced number_at) whole_number (commands.Reports reports.Events) (codes "events") SpellsCommand (λ x text s. number_made (codes "events") x text s),
                       (
                         behind_whole (Next Number) (spaced number_at) whole_number (commands.Reports reports.Tree) (codes "tree") SpellsCommand (λ x text s. number_made (codes "tree") x text s),
                         tt,
+                      ),
                       ),
                     ),
                   ),
@@ -300,6 +303,7 @@ commands_made = (
 report_again : (report : Report) (server : ℕ) (text : List ℕ) → SpellsNumber (report_word report) server text → command_at text ≡ Some (commands.Reports report server, [])
 unfolding command_at front_of back_of
 report_again reports.Delivered server text s = ap command_at s.1 ∙ mapped_whole (spaced number_at) (commands.Reports reports.Delivered) server (32 ∷ decimal server) (number_read server s.0)
+report_again reports.History server text s = ap command_at s.1 ∙ mapped_whole (spaced number_at) (commands.Reports reports.History) server (32 ∷ decimal server) (number_read server s.0)
 report_again reports.Answers server text s = ap command_at s.1 ∙ mapped_whole (spaced number_at) (commands.Reports reports.Answers) server (32 ∷ decimal server) (number_read server s.0)
 report_again reports.Events server text s = ap command_at s.1 ∙ mapped_whole (spaced number_at) (commands.Reports reports.Events) server (32 ∷ decimal server) (number_read server s.0)
 report_again reports.Tree server text s = ap command_at s.1 ∙ mapped_whole (spaced number_at) (commands.Reports reports.Tree) server (32 ∷ decimal server) (number_read server s.0)

@@ -8,7 +8,7 @@ pub enum Command {
     Happens(Event),
     /// A read at a text that is no path: nothing happens.
     ReadsNoPath,
-    /// A report on a server: `delivered P`, `answers P`, `events P` or `tree P`.
+    /// A report on a server: `delivered P`, `history P`, `answers P`, `events P` or `tree P`.
     Reports { report: Report, server: usize },
 }
 
@@ -17,6 +17,8 @@ pub enum Command {
 pub enum Report {
     /// The entries that it has delivered, as a listing.
     Delivered,
+    /// The entries that it has, delivered or not, as a listing; those of a server that is down, too.
+    History,
     /// What each of them was answered.
     Answers,
     /// What sessions were told there by their watches.

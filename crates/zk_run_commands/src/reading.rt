@@ -68,6 +68,7 @@ fn command(alloc: Global, input: &mut &str) -> Result<Command, ListCause>
         "expire" => expire(input),
         "read" => read(alloc, input),
         "delivered" => report(Report::Delivered, input),
+        "history" => report(Report::History, input),
         "answers" => report(Report::Answers, input),
         "events" => report(Report::Events, input),
         "tree" => report(Report::Tree, input),

@@ -1,6 +1,8 @@
 //! What an ensemble answers to a command.
-ghost use Rattle.std.specs.Prelude.{◌≡◌, ◌++◌, OnOk, OnErr};
+ghost use Rattle.std.specs.Prelude.{◌≡◌, ◌++◌, false, OnOk, OnErr};
 ghost use Rattle.std.specs.String.{string_bytes};
+ghost use Rattle.zab_epoch.specs.Entries.{txns_of};
+ghost use Rattle.zab_runs.specs.Runs.{history_of};
 ghost use Rattle.zk_request_lines.specs.ReplyLines.{refusal_text};
 ghost use Rattle.zk_run_script.specs.Playing.{Obeys, reported};
 ghost use Rattle.zk_script.specs.Reports.{line};
@@ -9,8 +11,9 @@ ghost use Rattle.zk_txn.specs.Codes.{bad_arguments};
 use zk_ensemble::Ensemble;
 use zk_path::NoMemory;
 use zk_request_lines::push_refusal;
-use zk_run_answers::{push_answers, push_counted_tree, push_delivered, push_events, push_told};
+use zk_run_answers::{push_answers, push_counted_tree, push_events, push_listing, push_told};
 use zk_run_commands::{Command, Report};
+use zk_table::Txn;
 use zk_table::codes::BAD_ARGUMENTS;
 
 /// Does what a command says, and appends the answer's lines. Where memory for the answer is refused, the ensemble has done
@@ -53,6 +56,18 @@ fn push_no_path(answer: &mut String) -> Result<(), NoMemory>
     Ok(())
 }
 
+/// The transactions of a server's history, lent; none where no server has this number.
+#[tactic(auto, using(crate::proofs::Histories::lent_is, crate::proofs::Histories::none_is))]
+fn history_of(ensemble: &Ensemble, server: usize) -> &[Txn]
+    requires { ensemble.now.failed ≡ false }
+    ensures { result.now ≡ txns_of (history_of ensemble.now.below.world server) }
+{
+    match ensemble.journal(server) {
+        Some(journal) => journal.txns(),
+        None => &[],
+    }
+}
+
 /// Appends a report on a server.
 fn push_report(
     answer: &mut String,
@@ -67,7 +82,8 @@ fn push_report(
         return Ok(());
     }
     match report {
-        Report::Delivered => push_delivered(answer, ensemble.delivered(server)),
+        Report::Delivered => push_listing(answer, ensemble.delivered(server).txns()),
+        Report::History => push_listing(answer, history_of(ensemble, server)),
         Report::Answers => push_answers(answer, ensemble.answers(server)),
         Report::Events => push_events(answer, ensemble.events_of(server)),
         Report::Tree => {
