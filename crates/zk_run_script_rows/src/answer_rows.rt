@@ -1,12 +1,11 @@
 //! What is told, as text.
 use std::alloc::Global;
-use zab_epoch::Entry;
 use zab_runs::Moved;
 use zk_acl::{Acls, Stat, Text};
 use zk_machine::{ChangeKind, Machine};
 use zk_path::{NoMemory, Path};
 use zk_request_lines::{push_refusal, push_reply};
-use zk_run_answers::{push_answers, push_counted_tree, push_delivered, push_events, push_told};
+use zk_run_answers::{push_answers, push_counted_tree, push_events, push_listing, push_told};
 use zk_runs::{Answer, Answered, EnsembleFault};
 use zk_table::{Content, Names, Op, PartResults, ReadReply, Txn, TxnResult};
 use zk_watch::Fired;
@@ -134,13 +133,7 @@ const CLOSING: Txn = Txn {
 };
 
 fn push_closing(page: &mut String) -> Result<(), NoMemory> {
-    push_delivered(
-        page,
-        &[Entry {
-            tag: 5,
-            txn: CLOSING,
-        }],
-    )
+    push_listing(page, &[CLOSING])
 }
 
 /// What it is answered.
