@@ -1,10 +1,12 @@
 #!/usr/bin/env python3
-"""Measures what an event of an ensemble costs, beside applying what its servers deliver.
+"""Measures what an event of an ensemble costs, beside applying what its servers deliver; what ten times the calls cost; and
+what a follower costs that joins its leader again and lacks ten entries of many.
 
 usage: bench/ensemble.py     in a checkout where `rt ci`, or `rt run` in crates/zk_ensemble_load, has left the proved program
 
 The program runs five servers under 2,000 calls, and then applies what the last leader has delivered to as many machines as it
-is told. The least of several runs counts; what the machines cost is taken from a run with a hundred of them.
+is told. The least of several runs counts; what the machines cost is taken from a run with a hundred of them. What it costs to
+join again is taken from runs in which that happens a hundred times, ten calls before each, behind 2,000 and 100,000 calls.
 """
 import os
 import subprocess
@@ -16,22 +18,32 @@ CALLS = 2000
 SERVERS = 5
 MACHINES = 100
 TURNS = 5
+MORE = 10
+JOINS = 100
+MANY = 100000
 
 
-def run(machines):
+def run(calls, machines=0, joins=0):
     """The CPU seconds of a run, its events, and its steps of machines."""
-    child = subprocess.Popen([LOAD, str(CALLS), str(machines)], stdout=subprocess.PIPE)
+    words = [str(it) for it in (calls, machines, joins)]
+    child = subprocess.Popen([LOAD, *words], stdout=subprocess.PIPE)
     told = [line.split() for line in child.stdout.read().decode().splitlines()]
     _, status, usage = os.wait4(child.pid, 0)
     # between the first line and the last, one for each server
-    if status or len(told) != SERVERS + 2 or int(told[0][0]) != CALLS:
-        sys.exit("%d machines: status %d, %r" % (machines, os.waitstatus_to_exitcode(status), told))
+    if status or len(told) != SERVERS + 2 or int(told[0][0]) != calls:
+        sys.exit("%s: status %d, %r" % (words, os.waitstatus_to_exitcode(status), told))
     return usage.ru_utime + usage.ru_stime, int(told[0][2]), int(told[-1][2])
 
 
+def join(calls, turns):
+    """The CPU seconds in which a follower joins again behind so many calls, with the ten calls that it lacks."""
+    before = min(run(calls) for _ in range(turns))[0]
+    return (min(run(calls, 0, JOINS) for _ in range(turns))[0] - before) / JOINS
+
+
 def main():
-    alone = [run(0) for _ in range(TURNS)]
-    with_machines = [run(MACHINES) for _ in range(TURNS)]
+    alone = [run(CALLS) for _ in range(TURNS)]
+    with_machines = [run(CALLS, MACHINES) for _ in range(TURNS)]
     seconds, events, _ = min(alone)
     steps = with_machines[0][2]
     applying = (min(with_machines)[0] - seconds) / MACHINES * SERVERS
@@ -39,6 +51,10 @@ def main():
     print("%d steps of %d machines: %.4f s, %.2f microseconds a step"
           % (steps // MACHINES * SERVERS, SERVERS, applying, applying / (steps / MACHINES * SERVERS) * 1e6))
     print("the run takes %.1f times what its machines take" % (seconds / applying))
+    more, more_events, _ = min(run(CALLS * MORE) for _ in range(TURNS))
+    print("%d calls, %d events: %.3f s, %.1f times as long" % (CALLS * MORE, more_events, more, more / seconds))
+    for calls, turns in ((CALLS, TURNS), (MANY, 1)):
+        print("behind %d calls a follower that lacks ten joins in %.3f ms, the ten calls with it" % (calls, join(calls, turns) * 1e3))
 
 
 if __name__ == "__main__":

@@ -26,6 +26,8 @@ pub(crate) struct Load {
     calls: u64,
     events: u64,
     sent: usize,
+    /// A server that no message comes to.
+    deaf: Option<usize>,
 }
 
 /// The server that leads in a term, and the one that is down.
@@ -42,6 +44,7 @@ impl Load {
             calls: 0,
             events: 0,
             sent: 0,
+            deaf: None,
         })
     }
 
@@ -89,6 +92,9 @@ impl Load {
     /// A message arrives, once or twice, or is lost. An addressee that lost one follows the leader anew; the leader itself
     /// cannot, and is refused.
     fn send_on(&mut self, message: usize, addressee: usize) -> Result<(), NoMemory> {
+        if self.deaf == Some(addressee) {
+            return Ok(());
+        }
         if message.is_multiple_of(LOST) {
             return self.happens(zab_runs::Event::Follow {
                 server: addressee,
@@ -149,6 +155,21 @@ impl Load {
         let call = call(self.alloc, self.calls)?;
         self.calls = self.calls.wrapping_add(1);
         self.happens(zab_runs::Event::Submit { server, call })?;
+        self.settle()
+    }
+
+    /// A follower hears nothing of so many calls; then it follows the leader anew, and is told what it lacks.
+    pub(crate) fn rejoin(&mut self, lacks: u64) -> Result<()> {
+        let server = self.leader.wrapping_add(3) % SERVERS + 1;
+        self.deaf = Some(server);
+        for _ in 0..lacks {
+            self.submit()?;
+        }
+        self.deaf = None;
+        self.happens(zab_runs::Event::Follow {
+            server,
+            leader: self.leader,
+        })?;
         self.settle()
     }
 

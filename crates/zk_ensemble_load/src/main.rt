@@ -3,8 +3,8 @@
 //! In each of four terms another server leads and another one is down. Nearly every message arrives once, in order; a few are
 //! lost, after which their addressees follow the leader anew, and a few arrive twice.
 //!
-//! usage: zk_ensemble_load [CALLS [MACHINES]]     so many calls are submitted, and what the last leader has delivered of them is
-//! applied to so many machines
+//! usage: zk_ensemble_load [CALLS [MACHINES [JOINS]]]     so many calls are submitted; so many times a follower hears nothing of
+//! ten more, and then joins its leader again; and what the last leader has delivered is applied to so many machines
 //!
 //! What it prints of 200 calls follows from the rules:
 //!
@@ -35,12 +35,19 @@ const CALLS: u64 = 200;
 /// The machines where no other number is given.
 const MACHINES: u64 = 2;
 
+/// What a follower lacks each time that it joins its leader again.
+const LACKS: u64 = 10;
+
 fn main(rt: HostRuntime) -> Result<()> {
     let calls = word(&rt, 1, CALLS)?;
     let machines = word(&rt, 2, MACHINES)?;
+    let joins = word(&rt, 3, 0)?;
     let mut load = Load::new(rt.alloc())?;
     for term in 0..4 {
         load.run_term(term, calls / 4)?;
+    }
+    for _ in 0..joins {
+        load.rejoin(LACKS)?;
     }
     println!(rt; "{calls} calls, {} events", load.events())?;
     tell_servers(&rt, &load)?;
@@ -56,7 +63,7 @@ fn word(rt: &HostRuntime, place: usize, otherwise: u64) -> Result<u64> {
         Some(word) => Ok(
             word.as_str()
                 .parse()
-                .context("CALLS and MACHINES are numbers")?,
+                .context("CALLS, MACHINES and JOINS are numbers")?,
         ),
         None => Ok(otherwise),
     }

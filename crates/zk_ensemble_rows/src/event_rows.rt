@@ -2,7 +2,7 @@
 
 use crate::events::Happening::{Arrive, Crash, Expire, Follow, Lead, Read, Restart, Submit};
 use crate::events::{Ask, By, Look};
-use crate::reports::Report::{Answers, Delivered, Message, Sent, Tree};
+use crate::reports::Report::{Answers, Delivered, History, Loaded, Message, Sent, Tree};
 use crate::scripts::Row::{Shown, Told};
 use crate::scripts::{FIRST, Row, play};
 use std::test::Fail;
@@ -68,6 +68,49 @@ static FIRST_HALF: [Row; 4] = [
 #[test]
 fn first_session_commits(rt: HostRuntime) -> Result<(), Fail> {
     let scripts: [&[Row]; 3] = [&FIRST_SUBMIT, &FIRST_HALF, &FIRST_SHOWN];
+    assert_eq!(rt; play(rt.alloc(), &scripts)?, None);
+    Ok(())
+}
+
+/// Before the call is acknowledged the leader alone has its entry.
+static FIRST_HISTORY: [Row; 7] = [
+    Shown(Delivered(1), ""),
+    Shown(
+        History(1),
+        "0000000100000001 0000000100000001 0 1000 createSession 30000\n",
+    ),
+    Shown(
+        Loaded(1),
+        "0000000100000001 0000000100000001 0 1000 createSession 30000\n",
+    ),
+    Shown(History(2), ""),
+    Shown(Loaded(2), ""),
+    Shown(History(0), "none"),
+    Shown(History(4), "none"),
+];
+
+/// A server that is down has its history, and has delivered nothing.
+static DOWN_WITH_HISTORY: [Row; 4] = [
+    Told(Crash(2), "ok"),
+    Shown(Delivered(2), ""),
+    Shown(
+        History(2),
+        "0000000100000001 0000000100000001 0 1000 createSession 30000\n",
+    ),
+    Shown(
+        Loaded(2),
+        "0000000100000001 0000000100000001 0 1000 createSession 30000\n",
+    ),
+];
+
+#[test]
+fn histories_are_logs(rt: HostRuntime) -> Result<(), Fail> {
+    let scripts: [&[Row]; 4] = [
+        &FIRST_SUBMIT,
+        &FIRST_HISTORY,
+        &FIRST_COMMIT,
+        &DOWN_WITH_HISTORY,
+    ];
     assert_eq!(rt; play(rt.alloc(), &scripts)?, None);
     Ok(())
 }

@@ -7,16 +7,20 @@ use std::test::Fail;
 use zab_epoch::Body;
 use zk_ensemble::Ensemble;
 use zk_listing::{push_line, push_node_line, push_result_line};
+use zk_log::{Ending, Journal, Source, load};
 use zk_machine::Machine;
 use zk_path::{NoMemory, Path};
 use zk_prepare::Call;
+use zk_table::Txn;
 use zk_tree::Tree;
 
-/// What is asked for: of a server, the entries that it has delivered, what these were answered, what was fired, or the tree;
-/// how many messages were sent; or what one of them says.
+/// What is asked for: of a server, the entries that it has delivered, those that it has, those that its journal's bytes load
+/// to, what was answered, what was fired, or the tree; how many messages were sent; or what one of them says.
 #[derive(Clone, Copy)]
 pub enum Report {
     Delivered(usize),
+    History(usize),
+    Loaded(usize),
     Answers(usize),
     Events(usize),
     Tree(usize),
@@ -25,14 +29,47 @@ pub enum Report {
 }
 
 /// A listing.
-fn delivered_by(alloc: Global, ensemble: &Ensemble, server: usize) -> Result<String, NoMemory>
-    requires { ensemble.now.failed ≡ false }
-{
+fn listing_of(alloc: Global, txns: &[Txn]) -> Result<String, NoMemory> {
     let mut text = String::new(alloc);
-    for entry in ensemble.delivered(server) {
-        push_line(&mut text, &entry.txn)?;
+    for txn in txns {
+        push_line(&mut text, txn)?;
     }
     Ok(text)
+}
+
+/// The listing of what a server has, delivered or not.
+fn history_at(alloc: Global, ensemble: &Ensemble, server: usize) -> Result<String, NoMemory>
+    requires { ensemble.now.failed ≡ false }
+{
+    match ensemble.journal(server) {
+        Some(journal) => listing_of(alloc, journal.txns()),
+        None => Ok(String::from_str(alloc, "none")?),
+    }
+}
+
+/// The header of a log with the dbid 0.
+const HEADER: [u8; 16] = [0x5a, 0x4b, 0x4c, 0x47, 0, 0, 0, 2, 0, 0, 0, 0, 0, 0, 0, 0];
+
+/// The listing of the whole log that a journal's bytes are behind a header.
+fn loaded_from(alloc: Global, journal: &Journal) -> Result<String, Fail> {
+    let mut bytes = Vec::from_slice(alloc, &HEADER)?;
+    bytes.extend_from_slice(journal.bytes())?;
+    let mut source = Source::new(bytes.as_slice());
+    match load(alloc, &mut source, 9) {
+        Ok(loaded) if loaded.ending == Ending::Whole => Ok(
+            listing_of(alloc, loaded.txns.as_slice())?,
+        ),
+        _ => Err("no whole log".into()),
+    }
+}
+
+fn loaded_at(alloc: Global, ensemble: &Ensemble, server: usize) -> Result<String, Fail>
+    requires { ensemble.now.failed ≡ false }
+{
+    match ensemble.journal(server) {
+        Some(journal) => loaded_from(alloc, journal),
+        None => Ok(String::from_str(alloc, "none")?),
+    }
 }
 
 /// Each result, spelled from a copy, behind its tag and its session.
@@ -116,7 +153,9 @@ pub fn report_of(alloc: Global, ensemble: &Ensemble, report: Report) -> Result<S
     requires { ensemble.now.failed ≡ false }
 {
     match report {
-        Report::Delivered(server) => Ok(delivered_by(alloc, ensemble, server)?),
+        Report::Delivered(server) => Ok(listing_of(alloc, ensemble.delivered(server).txns())?),
+        Report::History(server) => Ok(history_at(alloc, ensemble, server)?),
+        Report::Loaded(server) => loaded_at(alloc, ensemble, server),
         Report::Answers(server) => Ok(answers_at(alloc, ensemble, server)?),
         Report::Events(server) => Ok(events_at(alloc, ensemble, server)?),
         Report::Tree(server) => tree_at(alloc, ensemble, server),

@@ -5,7 +5,7 @@ use zk_listing::ListCause;
 use zk_run_script::{Command, ScriptFault, read_command, read_servers, run_command, run_script};
 
 /// Lines that each say a command, and what they are answered in turn by two new servers.
-static COMMANDS: [(&str, &str); 22] = [
+static COMMANDS: [(&str, &str); 25] = [
     ("lead 18446744073709551615", "E2\n"),
     ("lead 0", "E2\n"),
     ("arrive 0", "E3\n"),
@@ -23,6 +23,11 @@ static COMMANDS: [(&str, &str); 22] = [
     ),
     ("expire 1 18446744073709551615 0000000000000000 0", "E7\n"),
     ("delivered 1", "lines 0\n"),
+    (
+        "history 1",
+        "lines 1\n0000000100000001 0000000100000001 -1 -1 createSession 1\n",
+    ),
+    ("history 2", "lines 0\n"),
     ("answers 2", "lines 0\n"),
     ("events 1", "lines 0\n"),
     (
@@ -34,6 +39,7 @@ static COMMANDS: [(&str, &str); 22] = [
         "err -8\n",
     ),
     ("crash 2", "ok\n"),
+    ("history 2", "lines 0\n"),
     ("restart 2", "ok\n"),
     ("restart 2", "E5\n"),
     ("crash 3", "E2\n"),
@@ -68,7 +74,7 @@ static OTHERS: [&str; 30] = [
     "answers 3",
     "events",
     "tree 3",
-    "history 1",
+    "history 3",
     "sync 1 1",
     "syncs 1",
 ];
