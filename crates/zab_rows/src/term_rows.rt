@@ -1,11 +1,13 @@
 //! A leader begins its primary once a term, however long its history is.
 
-ghost use Rattle.std.specs.Prelude.{refl};
+ghost use Rattle.std.specs.Prelude.{refl, pos};
 ghost use Rattle.zab_broadcast.specs.Echoes.{echo_of};
+ghost use Rattle.zab_broadcast.specs.Shortness.{error_is_short};
 
+use crate::asked::{ends_below, push};
 use std::alloc::Global;
 use zab_broadcast::{EchoCall, Primary, Server};
-use zab_epoch::{Entry, Majority, RuleFault, Stable, Vote};
+use zab_epoch::{Entries, Entry, Majority, RuleFault, Stable, Vote};
 use zk_path::NoMemory;
 use zk_table::{Op, Txn};
 
@@ -42,8 +44,8 @@ impl Primary for BegunOnce {
         EchoCall { tag }
     }
 
-    fn start(_alloc: Global, history: &[Entry]) -> Result<BegunOnce, NoMemory> {
-        if history.iter().any(|entry| entry.tag >= FIRST) {
+    fn start(_alloc: Global, history: &Entries<'_>) -> Result<BegunOnce, NoMemory> {
+        if history.tags().iter().any(|tag| *tag >= FIRST) {
             return Err(NoMemory);
         }
         Ok(BegunOnce)
@@ -62,6 +64,8 @@ impl Primary for BegunOnce {
     ghost made_zxid = { λ history call zxid. refl };
 
     ghost made_tag = { λ history call zxid. refl };
+
+    ghost made_short = { λ history call zxid. error_is_short call.tag (pos 0) (pos 0) zxid (pos 0) (pos 0) };
 
     ghost closing_tag = { λ tag session now. refl };
 }
@@ -90,7 +94,7 @@ fn led_before(alloc: Global) -> Result<Stable, NoMemory> {
     stable.promised = 1;
     stable.current = 1;
     for (tag, zxid) in [(1, LAST - 2), (2, LAST - 1), (3, LAST)] {
-        stable.history.push(entry(tag, zxid))?;
+        push(&mut stable.history, entry(tag, zxid))?;
     }
     Ok(stable)
 }
@@ -113,6 +117,7 @@ fn leads_again(alloc: Global) -> Result<Server<BegunOnce>, RuleFault> {
 fn a_primary_is_begun_once_a_term(rt: HostRuntime) {
     let mut server = leads_again(rt.alloc()).expect(&rt, "memory");
     for tag in FIRST..FIRST + 3 {
+        assert!(rt; ends_below(&server));
         let told = server.submit(rt.alloc(), &ALONE, EchoCall { tag });
         assert!(rt; told.is_ok(), "{tag}");
     }
