@@ -166,11 +166,7 @@ fn push_seen_node(answer: &mut String, debugger: &Debugger, path: &Path) -> Resu
 }
 
 /// Appends the node at a path as its line has it, without the newline; `none` where there is no node.
-fn push_node_at(
-    text: &mut String,
-    machine: &Machine,
-    path: &Path,
-) -> Result<(), NoMemory>
+fn push_node_at(text: &mut String, machine: &Machine, path: &Path) -> Result<(), NoMemory>
     requires { machine.now.failed ≡ false }
     ensures { OnOk result (string_bytes text.new ≡ string_bytes text.old ++ node_text machine.now.state.nodes path.now) }
 {
