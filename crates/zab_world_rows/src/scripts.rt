@@ -84,6 +84,14 @@ pub fn walk(world: &mut EchoWorld, rows: Vec<Row>) -> Result<(), Fail>
 /// Whether entries have these tags and zxids.
 pub fn are(entries: &Entries<'_>, expected: &[(u64, i64)]) -> bool {
     entries.len() == expected.len()
-        && entries.tags().iter().zip(expected).all(|(tag, (expected, _))| *tag == *expected)
-        && entries.txns().iter().zip(expected).all(|(txn, (_, zxid))| txn.zxid == *zxid)
+        && entries
+            .tags()
+            .iter()
+            .zip(expected)
+            .all(|(tag, (expected, _))| *tag == *expected)
+        && entries
+            .txns()
+            .iter()
+            .zip(expected)
+            .all(|(txn, (_, zxid))| txn.zxid == *zxid)
 }

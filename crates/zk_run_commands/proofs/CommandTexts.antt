@@ -279,14 +279,14 @@ commands_made = (
                   behind_whole (Next Number) (spaced number_at) whole_number (commands.Reports reports.Delivered) (codes "delivered") SpellsCommand (λ x text s. number_made (codes "delivered") x text s),
                   (
                     behind_whole (Next Number) (spaced number_at) whole_number (commands.Reports reports.History) (codes "history") SpellsCommand (λ x text s. number_made (codes "history") x text s),
-                  (
-                    behind_whole (Next Number) (spaced number_at) whole_number (commands.Reports reports.Answers) (codes "answers") SpellsCommand (λ x text s. number_made (codes "answers") x text s),
                     (
-                      behind_whole (Next Number) (spaced number_at) whole_number (commands.Reports reports.Events) (codes "events") SpellsCommand (λ x text s. number_made (codes "events") x text s),
+                      behind_whole (Next Number) (spaced number_at) whole_number (commands.Reports reports.Answers) (codes "answers") SpellsCommand (λ x text s. number_made (codes "answers") x text s),
                       (
-                        behind_whole (Next Number) (spaced number_at) whole_number (commands.Reports reports.Tree) (codes "tree") SpellsCommand (λ x text s. number_made (codes "tree") x text s),
-                        tt,
-                      ),
+                        behind_whole (Next Number) (spaced number_at) whole_number (commands.Reports reports.Events) (codes "events") SpellsCommand (λ x text s. number_made (codes "events") x text s),
+                        (
+                          behind_whole (Next Number) (spaced number_at) whole_number (commands.Reports reports.Tree) (codes "tree") SpellsCommand (λ x text s. number_made (codes "tree") x text s),
+                          tt,
+                        ),
                       ),
                     ),
                   ),
