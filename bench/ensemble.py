@@ -6,7 +6,8 @@ usage: bench/ensemble.py     in a checkout where `rt ci`, or `rt run` in crates/
 
 The program runs five servers under 2,000 calls, and then applies what the last leader has delivered to as many machines as it
 is told. The least of several runs counts; what the machines cost is taken from a run with a hundred of them. What it costs to
-join again is taken from runs in which that happens a hundred times, ten calls before each, behind 2,000 and 100,000 calls.
+join again is taken from runs in which that happens a thousand times, behind 2,000 and 100,000 calls, each beside a run with as many
+calls in which nobody joins again.
 """
 import os
 import subprocess
@@ -19,7 +20,8 @@ SERVERS = 5
 MACHINES = 100
 TURNS = 5
 MORE = 10
-JOINS = 100
+JOINS = 1000
+LACKS = 10
 MANY = 100000
 
 
@@ -36,9 +38,9 @@ def run(calls, machines=0, joins=0):
 
 
 def join(calls, turns):
-    """The CPU seconds in which a follower joins again behind so many calls, with the ten calls that it lacks."""
-    before = min(run(calls) for _ in range(turns))[0]
-    return (min(run(calls, 0, JOINS) for _ in range(turns))[0] - before) / JOINS
+    """The CPU seconds in which a follower that lacks ten entries joins again behind so many calls, beyond those of the ten calls."""
+    joined = min(run(calls, 0, JOINS) for _ in range(turns))[0]
+    return (joined - min(run(calls + LACKS * JOINS) for _ in range(turns))[0]) / JOINS
 
 
 def main():
@@ -53,8 +55,8 @@ def main():
     print("the run takes %.1f times what its machines take" % (seconds / applying))
     more, more_events, _ = min(run(CALLS * MORE) for _ in range(TURNS))
     print("%d calls, %d events: %.3f s, %.1f times as long" % (CALLS * MORE, more_events, more, more / seconds))
-    for calls, turns in ((CALLS, TURNS), (MANY, 1)):
-        print("behind %d calls a follower that lacks ten joins in %.3f ms, the ten calls with it" % (calls, join(calls, turns) * 1e3))
+    for calls, turns in ((CALLS, TURNS), (MANY, 3)):
+        print("behind %d calls a follower that lacks ten entries joins again in %.3f ms" % (calls, join(calls, turns) * 1e3))
 
 
 if __name__ == "__main__":

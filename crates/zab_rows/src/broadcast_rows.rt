@@ -43,20 +43,38 @@ fn discovers(alloc: Global, server: &mut Server<Echo>, heard: Heard) -> Option<M
     }
 }
 
-/// What it says then, of entries.
-fn proposes(alloc: Global, server: &mut Server<Echo>, heard: Heard) -> Option<Messages<EchoCall>> {
-    match heard {
-        Heard::Submit(tag) if ends_below(server) => server
-            .submit(alloc, &THREE, EchoCall { tag })
-            .ok(),
-        Heard::Request(epoch, tag) if ends_below(server) => server
-            .request(alloc, &THREE, epoch, &EchoCall { tag })
-            .ok(),
-        Heard::Propose(from, epoch, index, entry) if is_short(&entry) => server
-            .propose(alloc, from, epoch, index, &entry)
-            .ok(),
-        heard => discovers(alloc, server, heard),
+/// What it says then, of a call.
+fn submits(alloc: Global, server: &mut Server<Echo>, tag: u64) -> Option<Messages<EchoCall>> {
+    if !ends_below(server) {
+        return None;
     }
+    server.submit(alloc, &THREE, EchoCall { tag }).ok()
+}
+
+/// What it says then, of a call that was passed on.
+fn requests(
+    alloc: Global,
+    server: &mut Server<Echo>,
+    epoch: u32,
+    tag: u64,
+) -> Option<Messages<EchoCall>> {
+    if !ends_below(server) {
+        return None;
+    }
+    server.request(alloc, &THREE, epoch, &EchoCall { tag }).ok()
+}
+
+/// What it says then, of a proposal.
+fn proposes(
+    alloc: Global,
+    server: &mut Server<Echo>,
+    (from, epoch, index): (usize, u32, u64),
+    entry: &Entry,
+) -> Option<Messages<EchoCall>> {
+    if !is_short(entry) {
+        return None;
+    }
+    server.propose(alloc, from, epoch, index, entry).ok()
 }
 
 /// What it says then.
@@ -65,9 +83,14 @@ fn told(alloc: Global, server: &mut Server<Echo>, heard: Heard) -> Option<Messag
         Heard::AckLeader(from, epoch, length) => server
             .ack_leader(alloc, &THREE, from, epoch, length)
             .ok(),
+        Heard::Submit(tag) => submits(alloc, server, tag),
+        Heard::Request(epoch, tag) => requests(alloc, server, epoch, tag),
+        Heard::Propose(from, epoch, index, entry) => {
+            proposes(alloc, server, (from, epoch, index), &entry)
+        }
         Heard::Ack(from, epoch, length) => server.ack(alloc, &THREE, from, epoch, length).ok(),
         Heard::Commit(from, epoch, length) => Some(server.commit(alloc, from, epoch, length)),
-        heard => proposes(alloc, server, heard),
+        heard => discovers(alloc, server, heard),
     }
 }
 

@@ -56,9 +56,10 @@ fn loaded_from(alloc: Global, journal: &Journal) -> Result<String, Fail> {
     bytes.extend_from_slice(journal.bytes())?;
     let mut source = Source::new(bytes.as_slice());
     match load(alloc, &mut source, 9) {
-        Ok(loaded) if loaded.ending == Ending::Whole => Ok(
-            listing_of(alloc, loaded.txns.as_slice())?,
-        ),
+        Ok(loaded) if loaded.ending == Ending::Whole => Ok(listing_of(
+            alloc,
+            loaded.txns.as_slice(),
+        )?),
         _ => Err("no whole log".into()),
     }
 }
