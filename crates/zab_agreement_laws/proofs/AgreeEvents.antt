@@ -179,7 +179,7 @@ receives_owe setting law share g from to (Ack epoch count) state here b f = hear
 receives_owe setting law share g from to (Commit epoch count) state here b f = hears_commit (laws_of setting.passes) g state from epoch count f b
 receives_owe setting law share g from to (Request epoch call) state here b f = hears_request setting law g state epoch call f
 
-abbrev MaybeFact : {C : Type 0} → laws.Setting Entry → laws.Ghost Entry → Option (Message C) → Type 0
+abbrev pub MaybeFact : {C : Type 0} → laws.Setting Entry → laws.Ghost Entry → Option (Message C) → Type 0
 MaybeFact k g None = Unit {0}
 MaybeFact k g (Some m) = MessageFact k g m
 
@@ -187,7 +187,7 @@ maybe_get : {C : Type 0} (k : laws.Setting Entry) (g : laws.Ghost Entry) (messag
 maybe_get k g messages i None f is = tt
 maybe_get k g messages i (Some m) f is = all_get (MessageFact k g) messages i m f is
 
-message_fact : {C : Type 0} (k : laws.Setting Entry) (g : laws.Ghost Entry) (messages : List (Message C)) (number : ℕ) → AllByRecursion (MessageFact k g) messages → MaybeFact k g (message_at messages number)
+pub message_fact : {C : Type 0} (k : laws.Setting Entry) (g : laws.Ghost Entry) (messages : List (Message C)) (number : ℕ) → AllByRecursion (MessageFact k g) messages → MaybeFact k g (message_at messages number)
 message_fact k g messages number f =
     by_test (MaybeFact k g) (number == 0) None (slice_get messages (number - 1)) (λ e. tt) (λ e. maybe_get k g messages (number - 1) (slice_get messages (number - 1)) f refl)
 

@@ -15,7 +15,7 @@ use Rattle.zab_runs.specs.declared.event.Event.{Event}
 use Rattle.zab_runs.specs.Worlds.{Profile, new_world}
 use Rattle.zab_runs.specs.Runs.{after, delivered_after, history_of}
 use Rattle.zab_agreement_laws.specs.Moments.{Held, Started, IsAcknowledged}
-use Rattle.zab_agreement_laws.specs.Facts.{OneLeaderAnEpoch, AcknowledgedLasts, HistoriesBeginWithTheirEpoch, DeliveredWasAcknowledged, IsEntryOf, HasQuorum}
+use Rattle.zab_agreement_laws.specs.Facts.{OneLeaderAnEpoch, AcknowledgedLasts, IsOfEpoch, HistoriesBeginWithTheirEpoch, DeliveredWasAcknowledged, IsEntryOf, HasQuorum}
 use Rattle.zab_agreement_laws.proofs.WholeRuns.{IsBegun, Whole, whole, shares_of, told_in, held_in}
 
 -- ---- from the books to the run
@@ -99,22 +99,31 @@ acknowledged_lasts profile law system servers events epoch later leader list sta
     subst (IsPrefix list) b.start_is
     (lasts_from profile servers events t system epoch later list b.began (chosen_of profile servers events t epoch list said) less b.is)
 
+-- a history of the epoch's leader, in the books, is one of the epoch
+pub of_epoch : {C : Type 0} (profile : Profile C) (servers : ℕ) (events : List (Event C)) (t : Whole profile servers events) (epoch : ℕ) (history : List Entry) → laws.IsOfLeader t.last epoch history → 0 < epoch → IsOfEpoch profile servers events epoch history
+of_epoch profile servers events t epoch history o above = record {
+  leader = o.began.leader;
+  start = o.began.start;
+  started = start_moment profile servers events t epoch o.began o.is;
+  starts = o.starts;
+  longest = o.longest;
+  held = moment profile servers events t o.began.leader epoch o.longest o.longest_is above;
+  most = λ list held.
+      (let x = held_of profile servers events t o.began.leader epoch list held in
+      subst (IsPrefix list) (same_some x.history o.longest (sym x.is ∙ o.longest_is)) x.begins);
+  within = o.within;
+}
+
+-- no epoch that began is 0
+pub began_above : {C : Type 0} (profile : Profile C) (servers : ℕ) (events : List (Event C)) (t : Whole profile servers events) (epoch : ℕ) (began : laws.Began Entry) → t.last.began epoch ≡ Some began → 0 < epoch
+began_above profile servers events t epoch began is =
+    let elected = t.facts.elected epoch began is in
+    t.facts.voted_above elected.winner epoch elected.best elected.best_is
+
 pub begins_with_its_epoch : {C : Type 0} (profile : Profile C) → CarriesZxid profile.setting → IsQuorumSystem profile.setting.passes → (servers : ℕ) (events : List (Event C)) → HistoriesBeginWithTheirEpoch profile servers events
 begins_with_its_epoch profile law system servers events server epoch history at above =
     let t = whole profile law system servers events in
-    let o = of_leader_of profile servers events t server epoch history at above in
-    record {
-      leader = o.began.leader;
-      start = o.began.start;
-      started = start_moment profile servers events t epoch o.began o.is;
-      starts = o.starts;
-      longest = o.longest;
-      held = moment profile servers events t o.began.leader epoch o.longest o.longest_is above;
-      most = λ list held.
-          (let x = held_of profile servers events t o.began.leader epoch list held in
-          subst (IsPrefix list) (same_some x.history o.longest (sym x.is ∙ o.longest_is)) x.begins);
-      within = o.within;
-    }
+    of_epoch profile servers events t epoch history (of_leader_of profile servers events t server epoch history at above) above
 
 pub delivered_was_acknowledged : {C : Type 0} (profile : Profile C) → CarriesZxid profile.setting → IsQuorumSystem profile.setting.passes → (servers : ℕ) (events : List (Event C)) → DeliveredWasAcknowledged profile servers events
 delivered_was_acknowledged profile law system servers events count server =
@@ -137,8 +146,7 @@ not_at_start start own before x none within =
 
 quorum_of : {C : Type 0} (profile : Profile C) (servers : ℕ) (events : List (Event C)) (t : Whole profile servers events) (epoch : ℕ) (before : List Entry) (x : Entry) → IsMadeIn (laws_of profile.setting.passes) t.last before x → IsEntryOf epoch x → HasQuorum profile servers events epoch
 quorum_of profile servers events t epoch before x m made =
-    let el = t.facts.elected m.epoch m.began m.is in
-    let above : 0 < m.epoch = t.facts.voted_above el.winner m.epoch el.best el.best_is in
+    let above : 0 < m.epoch = began_above profile servers events t m.epoch m.began m.is in
     let chosen : laws.IsChosen (laws_of profile.setting.passes) t.last m.epoch m.began.start = elim (t.facts.start_chosen m.epoch m.began (m.began.start ++ m.own) m.is m.longest_is) [
       | inl none ↦ absurd (not_at_start m.began.start m.own m.beyond.before x none m.beyond.within)
       | inr c ↦ c

@@ -1,9 +1,11 @@
 -- What a server shares with the leader of the epoch that it has promised, and where a leader's history ends.
 use Rattle.std.proofs.Common.{◌≡◌, ℕ, ℤ, pos, ◌+◌, ◌*◌, ◌^◌, ◌<◌, ◌<ℤ◌, int_lt, Bool, true, false, cond, List, [], ◌∷◌, ◌++◌, length, Option, Some, refl, sym, ap, subst, ◌∙◌, arith}
 use Rattle.zab_epoch.specs.declared.history.Entry.{Entry}
+use Rattle.zab_epoch.specs.declared.message.Body.TheVariants.{NewLeader}
 use Rattle.zab_epoch.specs.declared.role.Role.{Role}
 use Rattle.zab_epoch.specs.declared.role.Role.TheVariants.{Looking, Discover, Choose, Sync, Broadcast, Following}
 use Rattle.zab_epoch.specs.Entries.{last_zxid, up_to}
+use Rattle.zab_epoch.specs.Rules.{meant}
 use Rattle.zab_epoch.specs.Quorums.{IsQuorumSystem}
 use Rattle.zab_broadcast.specs.declared.state.State.{State}
 use Rattle.zab_broadcast.specs.Rules.{next_zxid}
@@ -11,15 +13,18 @@ use Rattle.zab_laws.specs.Prefixes.{IsPrefix, last_key}
 use Rattle.zab_laws.specs.Cores as laws
 use Rattle.zab_laws.specs.Splicing as splicing
 use Rattle.zab_laws.proofs.Splicing.{kept_by, ends_below}
-use Rattle.zab_move_laws.specs.Told.{laws_of, zxid_key, core_of, Leads, Broadcasts, RoleFact, Stands}
+use Rattle.zab_move_laws.specs.Told.{laws_of, zxid_key, core_of, BodyFact, MessageFact, Leads, Broadcasts, RoleFact, Stands}
 use Rattle.zab_move_laws.proofs.Electing.{last_same}
 use Rattle.zab_move_laws.proofs.Hearing.{CarriesZxid}
 use Rattle.zab_move_laws.proofs.Leading.{IsNumber, number_of}
+use Rattle.zab_move_laws.proofs.Splicing.{meant_is}
 use Rattle.zab_runs.specs.declared.event.Event.{Event}
 use Rattle.zab_runs.specs.Standings.{Standing}
-use Rattle.zab_runs.specs.Worlds.{World, Profile, server_at}
-use Rattle.zab_agreement_laws.specs.Promises.{HasBegun, ServersShareTheirLeadersFront, LeadersEndBelow}
-use Rattle.zab_agreement_laws.proofs.AgreeEvents.{WorldStands}
+use Rattle.zab_runs.specs.Worlds.{Profile, server_at, message_at}
+use Rattle.zab_runs.specs.Runs.{run}
+use Rattle.zab_agreement_laws.specs.Promises.{HasBegun, ServersShareTheirLeadersFront, NewLeadersMeanTheirLeadersHistory, LeadersEndBelow}
+use Rattle.zab_agreement_laws.proofs.AgreeEvents.{MaybeFact, message_fact}
+use Rattle.zab_agreement_laws.proofs.FactRuns.{of_epoch, began_above}
 use Rattle.zab_agreement_laws.proofs.WholeRuns.{whole, shares_of}
 
 same_up_to : (zxid : ℤ) (h : List Entry) → splicing.up_to zxid_key zxid h ≡ up_to zxid h
@@ -58,6 +63,17 @@ pub servers_share : {C : Type 0} (profile : Profile C) → CarriesZxid profile.s
 servers_share profile law system servers events leader server it other at there begun same =
     let t = whole profile law system servers events in
     shares profile.setting.passes (shares_of profile.setting.passes system) t.last it.state other.state (t.stands.servers leader it at).stands (t.stands.servers server other there).stands begun same
+
+pub new_leaders_mean : {C : Type 0} (profile : Profile C) → CarriesZxid profile.setting → IsQuorumSystem profile.setting.passes → (servers : ℕ) (events : List (Event C)) → NewLeadersMeanTheirLeadersHistory profile servers events
+new_leaders_mean profile law system servers events number server epoch keep rest m it sent says at fits =
+    let k = laws_of profile.setting.passes in
+    let t = whole profile law system servers events in
+    let w = (run profile servers events).0 in
+    let fact : MessageFact k t.last m = subst (MaybeFact k t.last) sent (message_fact k t.last w.messages number t.stands.messages) in
+    let told = subst (BodyFact k t.last m.sender m.addressee) says fact in
+    let has = (t.stands.servers server it at).stands.kept.sound.held_now in
+    let of = meant_is k t.last refl t.facts it.state.peer.me it.state.peer.stable.current epoch it.state.peer.stable.history keep rest has told fits in
+    of_epoch profile servers events t epoch (meant it.state.peer.stable.history keep rest) of (began_above profile servers events t epoch of.began of.is)
 
 pub leaders_end_below : {C : Type 0} (profile : Profile C) → CarriesZxid profile.setting → IsQuorumSystem profile.setting.passes → (servers : ℕ) (events : List (Event C)) → LeadersEndBelow profile servers events
 leaders_end_below profile law system servers events leader it at role zxid next =

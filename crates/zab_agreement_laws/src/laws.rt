@@ -4,7 +4,7 @@ ghost use Rattle.zab_agreement_laws.specs.Agreement.{Agrees};
 ghost use Rattle.zab_agreement_laws.specs.Facts.{OneLeaderAnEpoch, AcknowledgedLasts};
 ghost use Rattle.zab_agreement_laws.specs.Facts.{HistoriesBeginWithTheirEpoch, DeliveredWasAcknowledged};
 ghost use Rattle.zab_agreement_laws.specs.Facts.{FactsGiveOneOrder};
-ghost use Rattle.zab_agreement_laws.specs.Promises.{ServersShareTheirLeadersFront, LeadersEndBelow};
+ghost use Rattle.zab_agreement_laws.specs.Promises.{ServersShareTheirLeadersFront, NewLeadersMeanTheirLeadersHistory, LeadersEndBelow};
 ghost use Rattle.zab_runs.specs.declared.event.Event.TheVariants as events;
 ghost use Rattle.zab_runs.specs.Worlds.{World, happens, profile_of};
 ghost use Rattle.zab_runs.specs.Runs.{stable_of};
@@ -57,4 +57,11 @@ pub fn servers_share_their_leaders_front<P: Primary, Q: Quorums>(_quorums: &Q)
         → ServersShareTheirLeadersFront (profile_of (Q.passes _quorums.now) P.made_of P.tag_of P.closing_of) servers events }
     ensures end { (servers : ℕ) (events : List (Event P.Call))
         → LeadersEndBelow (profile_of (Q.passes _quorums.now) P.made_of P.tag_of P.closing_of) servers events }
+{}
+
+/// What a follower takes from a NewLeader is a history of its epoch's leader, whenever the message comes: it begins with the
+/// history with which the epoch began, and is a front of the longest that the leader held in it.
+pub fn new_leaders_mean_their_leaders_history<P: Primary, Q: Quorums>(_quorums: &Q)
+    ensures { (servers : ℕ) (events : List (Event P.Call))
+        → NewLeadersMeanTheirLeadersHistory (profile_of (Q.passes _quorums.now) P.made_of P.tag_of P.closing_of) servers events }
 {}

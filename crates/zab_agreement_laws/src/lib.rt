@@ -7,6 +7,6 @@
 mod laws;
 
 pub use laws::{
-    four_facts_give_one_order, runs_agree, runs_keep_the_four_facts,
-    servers_share_their_leaders_front, stable_part_outlasts_crashes,
+    four_facts_give_one_order, new_leaders_mean_their_leaders_history, runs_agree,
+    runs_keep_the_four_facts, servers_share_their_leaders_front, stable_part_outlasts_crashes,
 };
