@@ -1,7 +1,6 @@
 -- What a server shares with the leader of the epoch that it has promised, and where a leader's history ends.
-use Rattle.std.proofs.Common.{◌≡◌, ℕ, ℤ, pos, ◌+◌, ◌*◌, ◌^◌, ◌<◌, ◌<ℤ◌, int_lt, Bool, true, false, cond, List, [], ◌∷◌, ◌++◌, length, Option, Some, refl, sym, ap, subst, ◌∙◌, arith}
+use Rattle.std.proofs.Common.{◌≡◌, ℕ, ℤ, pos, ◌+◌, ◌*◌, ◌^◌, ◌<ℤ◌, int_lt, Bool, cond, List, [], ◌∷◌, ◌++◌, length, Some, refl, sym, ap, subst, ◌∙◌}
 use Rattle.zab_epoch.specs.declared.history.Entry.{Entry}
-use Rattle.zab_epoch.specs.declared.message.Body.TheVariants.{NewLeader}
 use Rattle.zab_epoch.specs.declared.role.Role.{Role}
 use Rattle.zab_epoch.specs.declared.role.Role.TheVariants.{Looking, Discover, Choose, Sync, Broadcast, Following}
 use Rattle.zab_epoch.specs.Entries.{last_zxid, up_to}
@@ -19,8 +18,7 @@ use Rattle.zab_move_laws.proofs.Hearing.{CarriesZxid}
 use Rattle.zab_move_laws.proofs.Leading.{IsNumber, number_of}
 use Rattle.zab_move_laws.proofs.Splicing.{meant_is}
 use Rattle.zab_runs.specs.declared.event.Event.{Event}
-use Rattle.zab_runs.specs.Standings.{Standing}
-use Rattle.zab_runs.specs.Worlds.{Profile, server_at, message_at}
+use Rattle.zab_runs.specs.Worlds.{Profile}
 use Rattle.zab_runs.specs.Runs.{run}
 use Rattle.zab_agreement_laws.specs.Promises.{HasBegun, ServersShareTheirLeadersFront, NewLeadersMeanTheirLeadersHistory, LeadersEndBelow}
 use Rattle.zab_agreement_laws.proofs.AgreeEvents.{MaybeFact, message_fact}

@@ -2,7 +2,7 @@
 use Rattle.std.specs.Prelude.{ℕ, ℤ}
 use Rattle.std.proofs.Common.{lit≤}
 use Rattle.zab_epoch.specs.declared.history.Entry.{Entry}
-use Rattle.zab_epoch.specs.Entries.{IsShort}
+use Rattle.zab_epoch.specs.Shortness.{IsShort}
 use Rattle.zk_jute.specs.Records.{record_of}
 use Rattle.zk_txn.specs.declared.txn.Op.TheVariants as ops
 

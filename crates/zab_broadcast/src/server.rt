@@ -36,7 +36,8 @@ impl<P: Primary> Model for Server<P> {
 impl<P: Primary> Server<P> {
     ghost use Rattle.std.specs.Prelude.{◌≡◌, ◌≢◌, ◌≤◌, ◌<◌, ◌<ℤ◌, ◌-◌, max, set, length, take, None, if◌then◌else◌, IfOk, OnOk, OnErr};
     ghost use Rattle.zab_epoch.specs.declared.fault.RuleFault.TheVariants as faults;
-    ghost use Rattle.zab_epoch.specs.Entries.{last_zxid, IsShort};
+    ghost use Rattle.zab_epoch.specs.Entries.{last_zxid};
+    ghost use Rattle.zab_epoch.specs.Shortness.{IsShort};
     ghost use Rattle.zab_broadcast.specs.Calls.{setting_of};
     ghost use Rattle.zab_broadcast.specs.Guards.{EndsBelow, IsBelowNext};
     ghost use Rattle.zab_broadcast.specs.Rules.{restored, is_serving, lead, follow, c_epoch, new_epoch, ack_epoch};

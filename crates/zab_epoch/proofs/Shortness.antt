@@ -1,7 +1,7 @@
 -- Messages whose proposed entries are short.
-use Rattle.std.proofs.Common.{◌≡◌, ℕ, zero, suc, List, [], ◌∷◌, ◌++◌, Option, Some, None, slice_get, subst}
+use Rattle.std.proofs.Common.{◌≡◌, ℕ, zero, suc, List, [], ◌∷◌, ◌++◌, Option, Some, slice_get, subst}
 use Rattle.zab_epoch.specs.declared.message.Message.{Message}
-use Rattle.zab_epoch.specs.Sending.{IsShortBody, AreShort}
+use Rattle.zab_epoch.specs.Shortness.{IsShortBody, AreShort}
 
 pub both : {C : Type 0} (a b : List (Message C)) → AreShort a → AreShort b → AreShort (a ++ b)
 both [] b p q = q

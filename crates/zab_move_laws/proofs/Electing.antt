@@ -10,7 +10,7 @@ use Rattle.zab_epoch.specs.Tables.{marks_of}
 use Rattle.zab_epoch.proofs.Guards.{no_vote_exceeds}
 use Rattle.zab_laws.specs.Prefixes.{last_key}
 use Rattle.zab_laws.specs.Cores as laws
-use Rattle.zab_move_laws.specs.Told.{VotesFact, HasVote, zxid_key, laws_of}
+use Rattle.zab_move_laws.specs.Told.{VotesFact, zxid_key, laws_of}
 
 -- ---- the last zxid
 

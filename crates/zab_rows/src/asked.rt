@@ -1,7 +1,7 @@
 //! What calls of histories and servers ask, as tests.
 
 ghost use Rattle.std.specs.Prelude.{◌≡◌, true};
-ghost use Rattle.zab_epoch.specs.Entries.{IsShort};
+ghost use Rattle.zab_epoch.specs.Shortness.{IsShort};
 ghost use Rattle.zab_broadcast.specs.Guards.{EndsBelow};
 
 use zab_broadcast::{Primary, Server, next_zxid};

@@ -1,5 +1,5 @@
 -- Each rule but those of calls keeps what is known of tags.
-use Rattle.std.proofs.Common.{◌≡◌, ℕ, ℤ, int_lt, ◌+◌, ◌-◌, ◌<◌, ◌==◌, ◌&&◌, nat_lt, max, min, not, inl, inr, Bool, true, false, cond, List, [], ◌∷◌, length, drop, replicate, Option, Some, None, refl, arith}
+use Rattle.std.proofs.Common.{◌≡◌, ℕ, ℤ, int_lt, ◌+◌, ◌<◌, ◌==◌, ◌&&◌, nat_lt, max, min, not, inl, inr, Bool, true, false, cond, List, [], ◌∷◌, length, drop, Option, Some, None, refl, arith}
 use Rattle.std.proofs.lemmas.Bool.Decides.{nat_tests}
 use Rattle.std.specs.List.{AllByRecursion}
 use Rattle.zab_epoch.specs.declared.history.Entry.{Entry}
@@ -19,7 +19,7 @@ use Rattle.zab_broadcast.specs.declared.state.State.{State}
 use Rattle.zab_broadcast.specs.News.{proposals, commits, tells_all, entries_for, news}
 use Rattle.zab_broadcast.specs.Rules as rules
 use Rattle.zab_broadcast.specs.Rules.{Settled, settles, counted, raised, entered, is_next, is_above}
-use Rattle.zab_tag_laws.proofs.TagFacts.{Owners, AreOwned, IsOwned, BodyFact, MessageFact, SentFact, IsPast, Holds, ServerFact, ActsFact, idles, rises, by_test, all_append, all_set, all_replicate, all_drop}
+use Rattle.zab_tag_laws.proofs.TagFacts.{Owners, AreOwned, IsOwned, BodyFact, MessageFact, SentFact, IsPast, Holds, ServerFact, ActsFact, idles, rises, by_test, all_append, all_drop}
 
 -- ---- messages
 

@@ -3,7 +3,7 @@ use Rattle.std.specs.Prelude.{◌≡◌, ℕ, ◌≤◌, ℤ, Bool, true, false,
 use Rattle.std.proofs.Common.{arith}
 use Rattle.std.proofs.lemmas.Bool.Decides.{nat_tests}
 use Rattle.zab_epoch.specs.declared.history.Entry.{Entry}
-use Rattle.zab_epoch.specs.Entries.{IsShort}
+use Rattle.zab_epoch.specs.Shortness.{IsShort}
 use Rattle.zab_broadcast.specs.Shortness.{error_is_short}
 use Rattle.zk_jute.specs.Records.{record_of}
 use Rattle.zk_jute.specs.Sizes.{size_of}

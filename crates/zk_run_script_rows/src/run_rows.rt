@@ -25,7 +25,7 @@ static COMMANDS: [(&str, &str); 25] = [
     ("delivered 1", "lines 0\n"),
     (
         "history 1",
-        "lines 1\n0000000100000001 0000000100000001 -1 -1 createSession 1\n",
+        "lines 1\n0000000100000001 0000000100000001 -1 -1 createSession 4000\n",
     ),
     ("history 2", "lines 0\n"),
     ("answers 2", "lines 0\n"),

@@ -1,6 +1,4 @@
-use Rattle.std.proofs.Common.{rules, ◌≡◌, ◌≢◌, ◌+◌, ◌-◌, ◌∙◌, sym, length, get_or, Some, true, false}
-use Rattle.std.specs.BTreeMap.{get}
-use Rattle.std.specs.Ordering.{nat_cmp}
+use Rattle.std.proofs.Common.{rules, ◌≡◌, ◌≢◌, ◌+◌, ◌-◌, ◌∙◌, sym, length, get_or, Some}
 use Rattle.zab_broadcast.specs.Places.{place_from}
 use Rattle.zab_broadcast.proofs.Places.{last_gone, last_kept}
 use Rattle.zab_broadcast.proofs.tags.Tags.drop_last.Goals as goal
