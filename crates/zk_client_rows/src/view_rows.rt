@@ -172,8 +172,12 @@ fn reader_behind_and_reader_current(rt: HostRuntime) -> Result<(), Fail> {
 fn asked_when_closed<R: Wait>(rt: &R, alloc: Global) -> Result<String, NoMemory> {
     let (mut publisher, mut readers) = Publisher::start(rt, alloc, 1)?;
     let published = publish(rt, alloc, &mut publisher, MADE);
+    let shown = publisher.published().len();
     publisher.close(rt);
     published?;
+    if shown != 2 {
+        return Ok(format!(in alloc; "{shown} published")?);
+    }
     let mut pass = Pass::new();
     pass.take(1);
     match readers.pop() {
