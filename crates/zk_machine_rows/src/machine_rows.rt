@@ -192,13 +192,23 @@ fn advance_alike(
     Ok(all)
 }
 
-/// Whether this is so of a new machine and a new table on a listing, and they stand alike after it.
+/// Whether this is so of eighteen transactions, and machine and table stand alike after them.
+fn advance_eighteen(
+    alloc: Global,
+    machine: &mut Machine,
+    plain: &mut Plain,
+    txns: &[Txn],
+) -> Result<bool, MachineFault> {
+    let alike = advance_alike(alloc, machine, plain, txns)?;
+    Ok(alike && machine.steps()? == 18 && stand_alike(alloc, machine, plain)?)
+}
+
+/// The same of a new machine and a new table on a listing.
 fn advances(alloc: Global, listing: &str) -> Result<bool, MachineFault> {
     let mut machine = new_machine(alloc)?;
     let mut plain = Plain::new(alloc)?;
     let txns = txns_of(alloc, listing)?;
-    let alike = advance_alike(alloc, &mut machine, &mut plain, txns.as_slice())?;
-    Ok(alike && machine.steps()? == 18 && stand_alike(alloc, &machine, &plain)?)
+    advance_eighteen(alloc, &mut machine, &mut plain, txns.as_slice())
 }
 
 #[test]
@@ -374,15 +384,35 @@ fn copied_after(alloc: Global, txn: &Txn) -> Result<(Option<i32>, u64), MachineF
     session_and_steps(&copy_of(&machine)?)
 }
 
-/// Whether the copy of a new machine stands as the machine does, and then goes its own way with this.
+/// Whether two machines stand alike.
+fn machines_are_alike(alloc: Global, one: &Machine, other: &Machine) -> Result<bool, MachineFault> {
+    let shown = standing(alloc, one)?;
+    Ok(standing(alloc, other)?.as_str() == shown.as_str())
+}
+
+/// Whether a copy stands as the machine does, and then goes its own way with this.
+fn goes_from(
+    alloc: Global,
+    machine: &Machine,
+    copy: &mut Machine,
+    txn: &Txn,
+) -> Result<bool, MachineFault> {
+    let same = machines_are_alike(alloc, machine, copy)?;
+    applied(copy, txn)?;
+    Ok(same && !machines_are_alike(alloc, machine, copy)?)
+}
+
+/// Whether a copy of the machine does.
+fn its_copy_goes(alloc: Global, machine: &Machine, txn: &Txn) -> Result<bool, MachineFault> {
+    let mut copy = copy_of(machine)?;
+    goes_from(alloc, machine, &mut copy, txn)
+}
+
+/// Whether the copy of a new machine does, and leaves the machine as a new one.
 fn goes_its_own_way(alloc: Global, txn: &Txn) -> Result<bool, MachineFault> {
     let machine = new_machine(alloc)?;
-    let before = standing(alloc, &machine)?;
-    let mut copy = copy_of(&machine)?;
-    let same = standing(alloc, &copy)?.as_str() == before.as_str();
-    applied(&mut copy, txn)?;
-    let apart = standing(alloc, &copy)?.as_str() != before.as_str();
-    Ok(same && apart && standing(alloc, &machine)?.as_str() == before.as_str())
+    let goes = its_copy_goes(alloc, &machine, txn)?;
+    Ok(goes && machines_are_alike(alloc, &machine, &new_machine(alloc)?)?)
 }
 
 /// The first transaction of a listing.

@@ -162,18 +162,43 @@ fn is_told(alloc: Global, reply: &ReadReply, told: &str) -> Result<bool, NoMemor
     Ok(line.as_str() == told)
 }
 
-/// Whether the plain table and the machine, each asked a copy of the question, tell what the row says.
+/// What the plain table tells, asked a copy of the question.
+fn told_by_plain(plain: &Plain, call: &ReadCall, auths: &[Id]) -> Result<ReadReply, NoMemory> {
+    plain.read(&call.copy()?, auths)
+}
+
+/// What the machine tells.
+fn told_by_machine(
+    machine: &Machine,
+    call: &ReadCall,
+    auths: &[Id],
+) -> Result<ReadReply, MachineFault> {
+    machine.read(&call.copy()?, auths)
+}
+
+/// Whether both tell this.
+fn both_tell_this(
+    alloc: Global,
+    plain: &Plain,
+    machine: &Machine,
+    call: &ReadCall,
+    auths: &[Id],
+    told: &str,
+) -> Result<bool, MachineFault> {
+    let one = is_told(alloc, &told_by_plain(plain, call, auths)?, told)?;
+    let other = is_told(alloc, &told_by_machine(machine, call, auths)?, told)?;
+    Ok(one && other)
+}
+
+/// Whether the plain table and the machine tell what the row says.
 fn both_tell(
     alloc: Global,
     plain: &Plain,
     machine: &Machine,
     row: &Row,
 ) -> Result<bool, MachineFault> {
-    let call = call_of(alloc, row)?;
     let auths = auths_of(alloc, row.2)?;
-    let one = plain.read(&call.copy()?, &auths)?;
-    let other = machine.read(&call.copy()?, &auths)?;
-    Ok(is_told(alloc, &one, row.3)? && is_told(alloc, &other, row.3)?)
+    both_tell_this(alloc, plain, machine, &call_of(alloc, row)?, &auths, row.3)
 }
 
 /// How many of the rows both tell.
