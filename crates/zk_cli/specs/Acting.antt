@@ -8,8 +8,8 @@ use Rattle.zk_orders.specs.Debugs.{Debugs}
 use Rattle.zk_orders.specs.Showing.{report_of}
 use Rattle.zk_orders.specs.Telling.{TellsLog}
 use Rattle.zk_run_order.specs.Running.{RunsText}
-use Rattle.zk_orders.specs.declared.command.Order.{Order}
-use Rattle.zk_orders.specs.declared.command.Order.TheVariants as orders
+use Rattle.zk_command_line.specs.declared.command.Order.{Order}
+use Rattle.zk_command_line.specs.declared.command.Order.TheVariants as orders
 use Rattle.zk_orders.specs.declared.reporting.Report.TheVariants as reports
 
 -- each order but the debugger's leaves the script

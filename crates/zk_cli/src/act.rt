@@ -4,8 +4,9 @@ ghost use Rattle.zk_log.specs.Devices.{reads_of, read_failures_of, write_failure
 
 use std::alloc::Global;
 use std::io::{Read, Write};
+use zk_command_line::Order;
 use zk_log::{Sink, Source};
-use zk_orders::{Order, Report, asm, debug, tell_log};
+use zk_orders::{Report, asm, debug, tell_log};
 use zk_path::NoMemory;
 use zk_run_order::run;
 

@@ -4,7 +4,7 @@ use std::alloc::Global;
 use std::process::Abort;
 use std::test::Fail;
 use zk_log::{DripIn, DripOut, Sink, Source};
-use zk_orders::{CommandFault, Order, read_command_line};
+use zk_command_line::{CommandFault, Order, read_command_line};
 use zk_path::NoMemory;
 use zk_reports::{ScriptFault, script_line};
 use zk_usage::ErrorKind;

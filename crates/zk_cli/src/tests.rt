@@ -3,12 +3,11 @@ use std::alloc::Global;
 use std::fmt::Display;
 use std::process::Abort;
 use std::test::Fail;
+use zk_command_line::{CommandFault, Order, read_command_line};
 use zk_jute::JuteFault;
 use zk_listing::{ListCause, ListFault};
 use zk_log::{DripIn, DripOut, LogFault, Sink, Source};
-use zk_orders::{
-    AsmFault, CommandFault, Order, TextFault, asm_line, log_line, read_command_line, read_text,
-};
+use zk_orders::{AsmFault, TextFault, asm_line, log_line, read_text};
 use zk_path::NoMemory;
 use zk_usage::ErrorKind;
 

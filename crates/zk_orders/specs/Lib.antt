@@ -1,6 +1,5 @@
 pub mod Answering
 pub mod Assembling
-pub mod Commands
 pub mod Debugs
 pub mod FaultLines
 pub mod Reading

@@ -1,4 +1,4 @@
-//! The orders of the program `zk`: which words name one, and what each but `run` reads and writes, over any readers and writers.
+//! The orders of the program `zk` that look at logs: what each reads and writes, over any readers and writers.
 //!
 //! They stand below `zk_cli`, since the proof of a program goes through all that it reaches each time.
 #![tactic(auto)]
@@ -6,7 +6,6 @@
 mod answering;
 mod asm_fault;
 mod assembling;
-mod command;
 mod debugging;
 mod fault_lines;
 mod lines;
@@ -19,7 +18,6 @@ mod text;
 pub use answering::{put_answers, put_answers_before};
 pub use asm_fault::AsmFault;
 pub use assembling::asm;
-pub use command::{CommandFault, Job, Order, read_command_line};
 pub use debugging::debug;
 pub use fault_lines::{asm_line, log_line};
 pub use reporting::{Report, tell_log};

@@ -1,6 +1,6 @@
 //! What the program `zk` says of a command line that names no job: its usage, by `clap`.
 //!
-//! It stands apart from `zk_orders`, which reads the words, since a proof over `clap` takes long. Its texts are clap's.
+//! It stands apart from `zk_command_line`, which reads the words, since a proof over `clap` takes long. Its texts are clap's.
 #![tactic(auto)]
 
 ghost use Rattle.std.specs.Prelude.{◌≢◌, ◌↔◌, IsTrue};

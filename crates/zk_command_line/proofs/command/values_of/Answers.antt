@@ -1,10 +1,10 @@
 use Rattle.std.proofs.Common.{◌≡◌, ◌∷◌, ◌++◌, ◌+◌, [], List, ℕ, false, drop, get_or, subst, refl, sym, ◌∙◌}
 use Rattle.std.proofs.Common.{Bor}
 use Rattle.std.proofs.lemmas.List.{drop_all}
-use Rattle.zk_orders.specs.Commands.{values_of}
-use Rattle.zk_orders.proofs.WordsLaws.{texts, values_from, with_values, no_word, at_turn, takes_any, ends_options, takes_value, takes_none, takes_all, from_start}
-use Rattle.zk_orders.proofs.command.values_of.Goals as goal
-use Rattle.zk_orders.proofs.command.values_of.Goals.{then-options_end+in_ok-push, else-options_end+then-eq, else-options_end+else-eq+else-is_option+in_ok-push-2}
+use Rattle.zk_command_line.specs.Commands.{values_of}
+use Rattle.zk_command_line.proofs.WordsLaws.{texts, values_from, with_values, no_word, at_turn, takes_any, ends_options, takes_value, takes_none, takes_all, from_start}
+use Rattle.zk_command_line.proofs.command.values_of.Goals as goal
+use Rattle.zk_command_line.proofs.command.values_of.Goals.{then-options_end+in_ok-push, else-options_end+then-eq, else-options_end+else-eq+else-is_option+in_ok-push-2}
 
 pub loop-word-init : goal.loop-word-init
 loop-word-init c = rw c.new-values.ensures.items (from_start (texts c.args.words.now))

@@ -1,5 +1,5 @@
 ghost use Rattle.std.specs.Prelude.{◌≡◌, IfOk, map, option_map};
-ghost use Rattle.zk_orders.specs.Commands.{AreOnly, IsOnly, ReadsCommandLine, ReadsDebug, ReadsDigits, ReadsJob, ReadsJobBy, ReadsUpto, is_option, values_of};
+ghost use Rattle.zk_command_line.specs.Commands.{AreOnly, IsOnly, ReadsCommandLine, ReadsDebug, ReadsDigits, ReadsJob, ReadsJobBy, ReadsUpto, is_option, values_of};
 
 use hex::FromHex;
 use std::alloc::Global;

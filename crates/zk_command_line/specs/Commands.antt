@@ -3,11 +3,11 @@ use Rattle.std.specs.Prelude.{◌≡◌, ◌≢◌, ℕ, ℤ, ◌<◌, ◌^◌, 
 use Rattle.std.specs.Int.{w64}
 use Rattle.std.specs.Str.{bytes_eq}
 use Rattle.zk_spelling.specs.Spelling.{sixteen_digits, id_digits}
-use Rattle.zk_orders.specs.declared.command.Order.{Order}
-use Rattle.zk_orders.specs.declared.command.Order.TheVariants as orders
-use Rattle.zk_orders.specs.declared.command.CommandFault.{CommandFault}
-use Rattle.zk_orders.specs.declared.command.CommandFault.TheVariants as faults
-use Rattle.zk_orders.specs.declared.command.Job.{Job}
+use Rattle.zk_command_line.specs.declared.command.Order.{Order}
+use Rattle.zk_command_line.specs.declared.command.Order.TheVariants as orders
+use Rattle.zk_command_line.specs.declared.command.CommandFault.{CommandFault}
+use Rattle.zk_command_line.specs.declared.command.CommandFault.TheVariants as faults
+use Rattle.zk_command_line.specs.declared.command.Job.{Job}
 
 -- ---- up to which transaction
 

@@ -5,11 +5,11 @@ use Rattle.std.specs.Int.{to_be_bytes, cast_unsigned}
 use Rattle.hex.proofs.HexLemmas.{length-encode_with}
 use Rattle.hex.specs.Hex.{encode_lower, lower_digits, decode_sized}
 use Rattle.zk_spelling.specs.Spelling.{sixteen_digits, id_digits}
-use Rattle.zk_orders.specs.Commands.{IsUpto, Names, NamesBy, NamesOnly, script_of, upto_text, values_of}
-use Rattle.zk_orders.specs.declared.command.Order.{Order}
-use Rattle.zk_orders.specs.declared.command.Order.TheVariants as orders
-use Rattle.zk_orders.specs.declared.command.Job.{Job}
-use Rattle.zk_orders.proofs.DigitsLaws.{digits_read, same_bits}
+use Rattle.zk_command_line.specs.Commands.{IsUpto, Names, NamesBy, NamesOnly, script_of, upto_text, values_of}
+use Rattle.zk_command_line.specs.declared.command.Order.{Order}
+use Rattle.zk_command_line.specs.declared.command.Order.TheVariants as orders
+use Rattle.zk_command_line.specs.declared.command.Job.{Job}
+use Rattle.zk_command_line.proofs.DigitsLaws.{digits_read, same_bits}
 
 -- ---- numbers of transactions
 

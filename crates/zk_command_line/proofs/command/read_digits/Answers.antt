@@ -3,8 +3,8 @@ use Rattle.std.proofs.lemmas.Slice.Eq.{bytes_eq-Decides}
 use Rattle.std.specs.Str.{bytes_eq}
 use Rattle.hex.specs.Hex.{decode_sized}
 use Rattle.zk_spelling.specs.Spelling.{sixteen_digits}
-use Rattle.zk_orders.proofs.DigitsLaws.{same_bits, digits_are_read}
-use Rattle.zk_orders.proofs.command.read_digits.Goals as goal
+use Rattle.zk_command_line.proofs.DigitsLaws.{same_bits, digits_are_read}
+use Rattle.zk_command_line.proofs.command.read_digits.Goals as goal
 
 pub returns-in_default : goal.returns-in_default
 returns-in_default c = λ bits fits e.

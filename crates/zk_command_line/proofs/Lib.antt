@@ -1,0 +1,3 @@
+pub mod DigitsLaws
+pub mod NamesLaws
+pub mod WordsLaws
