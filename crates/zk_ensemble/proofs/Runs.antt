@@ -18,7 +18,8 @@ use Rattle.zab_runs.specs.Runs.{Sight, delivered_of}
 use Rattle.zab_runs.specs.Worlds as zab
 use Rattle.zab_runs.specs.Worlds.{World, Profile, world, is_server, running}
 use Rattle.zk_prepare.specs.declared.call.Call.{Call}
-use Rattle.zk_primary.specs.Entries.{entry_zxid, txns_of}
+use Rattle.zab_epoch.specs.Entries.{txns_of}
+use Rattle.zk_primary.specs.Entries.{entry_zxid}
 use Rattle.zk_runs.specs.declared.event.Event.{Event}
 use Rattle.zk_runs.specs.declared.event.Event.TheVariants as events
 use Rattle.zk_runs.specs.declared.event.Question.{Question}

@@ -58,7 +58,7 @@ impl Ensemble {
     ghost use Rattle.std.specs.Option.{option_copied, option_map};
     ghost use Rattle.zab_runs.specs.Runs.{delivered_of, stable_of};
     ghost use Rattle.zab_runs.specs.Worlds.{new_world, is_server};
-    ghost use Rattle.zk_primary.specs.Entries.{txns_of};
+    ghost use Rattle.zab_epoch.specs.Entries.{txns_of};
     ghost use Rattle.zk_runs.specs.declared.event.Event.TheVariants as events;
     ghost use Rattle.zk_runs.specs.declared.fault.EnsembleFault.TheVariants as faults;
     ghost use Rattle.zk_runs.specs.Ensembles.{fresh, happens, shown_at};

@@ -19,7 +19,7 @@ use Rattle.zab_runs.specs.Worlds.{World, Profile, if_up, running, server_at}
 use Rattle.zab_tag_laws.proofs.TagFacts.{cases_eq}
 use Rattle.zk_machine.specs.Changes.{changes_of}
 use Rattle.zk_prepare.specs.declared.call.Call.{Call}
-use Rattle.zk_primary.specs.Entries.{txns_of}
+use Rattle.zab_epoch.specs.Entries.{txns_of}
 use Rattle.zk_runs.proofs.Lists.{changed_here, changed_elsewhere, fresh_at}
 use Rattle.zk_headline_laws.proofs.Showing.{shows_in}
 use Rattle.zk_headline_laws.proofs.Standing.{Stands, new_stands, event_stands, grows, world_more, nothing}

@@ -17,7 +17,7 @@ use Rattle.zab_runs.specs.Standings.{Standing}
 use Rattle.zab_runs.specs.Worlds.{Profile, is_server, running, server_at}
 use Rattle.zab_agreement_laws.proofs.AgreeRuns.{runs_agree}
 use Rattle.zk_prepare.specs.declared.call.Call.{Call}
-use Rattle.zk_primary.specs.Entries.{txns_of}
+use Rattle.zab_epoch.specs.Entries.{txns_of}
 use Rattle.zk_runs.specs.declared.answer.Answer.TheVariants.{Looked}
 use Rattle.zk_runs.specs.declared.event.Event.{Event}
 use Rattle.zk_runs.specs.declared.event.Event.TheVariants as events

@@ -4,7 +4,7 @@ use Rattle.std.specs.List.{list_any}
 use Rattle.zab_epoch.specs.declared.history.Entry.{Entry}
 use Rattle.zab_laws.specs.Prefixes.{IsPrefix, last_key, Rises}
 use Rattle.zab_laws.proofs.PrefixLaws.{prefix_refl, prefix_by_last}
-use Rattle.zk_primary.specs.Entries.{txns_of}
+use Rattle.zab_epoch.specs.Entries.{txns_of}
 use Rattle.zk_headline_laws.specs.Headline.{last_zxid}
 use Rattle.zk_txn.specs.declared.result.TxnResult.{TxnResult}
 use Rattle.zk_txn.specs.declared.txn.Op.{Op}

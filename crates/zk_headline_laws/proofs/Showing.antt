@@ -3,7 +3,7 @@ use Rattle.std.proofs.Common.{◌≡◌, List, [], ◌∷◌, ◌++◌, map, len
 use Rattle.std.proofs.lemmas.List.{append-nil, append_assoc}
 use Rattle.zab_epoch.specs.declared.history.Entry.{Entry}
 use Rattle.zab_laws.specs.Prefixes.{IsPrefix}
-use Rattle.zk_primary.specs.Entries.{txns_of}
+use Rattle.zab_epoch.specs.Entries.{txns_of}
 use Rattle.zk_runs.specs.declared.answer.Answered.{Answered}
 use Rattle.zk_runs.specs.Ensembles.{Shown, fresh, answered, take_in, take_all, shown_then}
 use Rattle.zk_headline_laws.specs.Headline.{Shows}

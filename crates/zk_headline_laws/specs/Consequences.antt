@@ -9,7 +9,7 @@ use Rattle.zab_runs.specs.Worlds.{Profile}
 use Rattle.zk_prepare.specs.declared.call.Call.{Call}
 use Rattle.zk_prepared_laws.specs.Consequences.{HasOpenOwners, IsRefusedOnlyAsError, IsWholeOrNothing}
 use Rattle.zk_prepared_laws.specs.Prepared.{ArePrepared, OfEach}
-use Rattle.zk_primary.specs.Entries.{txns_of}
+use Rattle.zab_epoch.specs.Entries.{txns_of}
 use Rattle.zk_runs.specs.declared.event.Event.{Event}
 use Rattle.zk_runs.specs.declared.event.Event.TheVariants as events
 use Rattle.zk_runs.specs.Runs.{delivered_after, history_after}

@@ -1,10 +1,12 @@
 //! What a call comes to on a machine's state: one transaction.
 
-ghost use Rattle.std.specs.Prelude.{◌≡◌, ℤ, false, IfOk};
+ghost use Rattle.std.specs.Prelude.{◌≡◌, ℤ, Result, false, IfOk};
 ghost use Rattle.zk_prepare.specs.Refusals.{Gives};
-ghost use Rattle.zk_prepare.specs.Requests.{op_of, op_on, opens, is_open, header_of, asked_on, within_limit, meaning_of};
+ghost use Rattle.zk_txn.specs.declared.sub.Sub.{Sub};
+ghost use Rattle.zk_txn.specs.declared.txn.Op.TheVariants as ops;
+ghost use Rattle.zk_prepare.specs.Requests.{alone, op_of, op_on, parts_on, opens, is_open, header_of, asked_on, within_limit, meaning_of};
 
-use crate::call::{Call, Request};
+use crate::call::{Call, Part, Request};
 use crate::create::create;
 use crate::delete::delete;
 use crate::multi::parts_on;
@@ -80,6 +82,28 @@ fn is_open(machine: &Machine, session: i64) -> bool
     timeout.is_some()
 }
 
+/// The operation that a part is which stands alone.
+fn alone(made: Result<Sub, Refusal>) -> Result<Op, Refusal>
+    ensures { (said : Result Sub ℤ) → Gives made said → Gives result (alone said) }
+{
+    Ok(op_of(made?))
+}
+
+/// The operation that the parts of a multi are, under this header.
+fn multi_on(
+    nodes: Overlay<'_>,
+    header: &Txn,
+    auths: &[Id],
+    parts: &[Part],
+) -> Result<Op, NoMemory>
+    ensures { IfOk result (λ op. op ≡ ops.Multi (parts_on header.now auths.now nodes.entry parts.now)) }
+{
+    let parts = parts_on(nodes, header, auths, parts)?;
+    Ok(Op::Multi {
+        parts: Subs::new(parts),
+    })
+}
+
 /// What a request comes to, under this header.
 fn op_on(
     alloc: Global,
@@ -98,24 +122,17 @@ fn op_on(
             content,
             acl,
             flags,
-        } => Ok(op_of(create(&nodes, auths, path.as_str(), content, acl, *flags)?)),
-        Request::Delete { path, version } => {
-            Ok(op_of(delete(&nodes, auths, path.as_str(), *version)?))
-        }
+        } => alone(create(&nodes, auths, path.as_str(), content, acl, *flags)),
+        Request::Delete { path, version } => alone(delete(&nodes, auths, path.as_str(), *version)),
         Request::SetData {
             path,
             content,
             version,
-        } => Ok(op_of(set_data(&nodes, auths, path.as_str(), content, *version)?)),
+        } => alone(set_data(&nodes, auths, path.as_str(), content, *version)),
         Request::SetAcl { path, acl, version } => {
             set_acl(&nodes, auths, path.as_str(), acl, *version)
         }
-        Request::Multi { parts } => {
-            let parts = parts_on(nodes, header, auths, parts.as_slice())?;
-            Ok(Op::Multi {
-                parts: Subs::new(parts),
-            })
-        }
+        Request::Multi { parts } => Ok(multi_on(nodes, header, auths, parts.as_slice())?),
         Request::OpenSession { timeout } => Ok(Op::OpenSession {
             timeout: clamp(*timeout),
         }),

@@ -1,16 +1,14 @@
 -- What a leader of an ensemble makes of calls: entries of its history, each on the tree of those before it.
 -- Junqueira, Reed, Serafini: Zab: High-performance broadcast for primary-backup systems (DSN 2011), the primary.
-use Rattle.std.specs.Prelude.{◌≡◌, ℕ, ℤ, Bool, true, false, cond, List, map, refl}
+use Rattle.std.specs.Prelude.{◌≡◌, ℕ, ℤ, Bool, true, false, cond, List, refl}
 use Rattle.zab_epoch.specs.declared.history.Entry.{Entry}
+use Rattle.zab_epoch.specs.Entries.{txns_of}
 use Rattle.zk_prepare.specs.declared.call.Call.{Call}
 use Rattle.zk_prepare.specs.Preparing.{PrepView, StandsFor}
 use Rattle.zk_prepare.specs.Requests.{meaning_of}
 use Rattle.zk_txn.specs.declared.txn.Txn.{Txn}
 use Rattle.zk_table.specs.Histories.{tree_of}
 use Rattle.zk_table.specs.States.{start_state}
-
-abbrev pub txns_of : List Entry → List Txn
-txns_of entries = map (λ entry. entry.txn) entries
 
 -- the entry that a call becomes at a zxid, behind a history: it has the call's tag
 abbrev pub entry_of : List Entry → Call → ℤ → Entry

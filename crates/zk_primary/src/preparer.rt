@@ -40,10 +40,7 @@ impl Primary for Preparer {
 
     fn start(alloc: Global, history: &Entries<'_>) -> Result<Preparer, NoMemory> {
         let machine = Machine::new(alloc)?;
-        let mut prep = Prep::start(alloc, &machine, &[])?;
-        for txn in history.txns() {
-            prep.taken(txn)?;
-        }
+        let prep = Prep::start(alloc, &machine, history.txns())?;
         Ok(Preparer { prep })
     }
 

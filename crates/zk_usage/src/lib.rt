@@ -45,24 +45,31 @@ impl fmt::Display for Refusal {
 ///
 /// The usage names the program `zk`, whatever the first word is.
 pub fn refusal_of<'a>(alloc: Global, words: &'a [&'a str]) -> Result<Refusal, AllocError> {
-    match command(alloc)?.try_get_matches_from(words) {
-        Err(error) => refusal_by(alloc, &error),
+    let error = match refused_by_clap(alloc, words)? {
+        Some(error) => error,
         // Of the words that clap takes, a ZXID and a second @ alone are refused.
-        Ok(_) => {
-            let error = if words.get(1) == Some(&"debug") {
-                debug_command(alloc)?.bin_name("zk debug")?.error(
-                    ErrorKind::ArgumentConflict,
-                    "FILE and SCRIPT cannot both be standard input",
-                )?
-            } else {
-                show_command(alloc)?.bin_name("zk show")?.error(
-                    ErrorKind::ValueValidation,
-                    "ZXID is neither sixteen lower-case hexadecimal digits nor `last`",
-                )?
-            };
-            refusal_by(alloc, &error)
-        }
+        None => value_fault(alloc, words.get(1) == Some(&"debug"))?,
+    };
+    refusal_by(alloc, &error)
+}
+
+/// What clap refuses, or shows.
+fn refused_by_clap<'a>(alloc: Global, words: &'a [&'a str]) -> Result<Option<Error>, AllocError> {
+    Ok(command(alloc)?.try_get_matches_from(words).err())
+}
+
+/// What is wrong with the values of an order, which clap takes.
+fn value_fault(alloc: Global, is_debug: bool) -> Result<Error, AllocError> {
+    if is_debug {
+        return debug_command(alloc)?.bin_name("zk debug")?.error(
+            ErrorKind::ArgumentConflict,
+            "FILE and SCRIPT cannot both be standard input",
+        );
     }
+    show_command(alloc)?.bin_name("zk show")?.error(
+        ErrorKind::ValueValidation,
+        "ZXID is neither sixteen lower-case hexadecimal digits nor `last`",
+    )
 }
 
 /// The refusal of a command line with a word that is not in UTF-8.
@@ -84,21 +91,37 @@ fn refusal_by(alloc: Global, error: &Error) -> Result<Refusal, AllocError> {
 
 /// The command line's grammar.
 fn command<'a>(alloc: Global) -> Result<Command<'a>, AllocError> {
-    let list = Command::new(alloc, "list")
-        .about("Lists the transactions of a log, one line for each")
-        .after_help(faults())
-        .arg(log_arg(alloc))?;
-    Command::new(alloc, "zk")
+    let command = with_order(program(alloc)?, show_command(alloc))?;
+    let command = with_order(command, list_command(alloc))?;
+    let command = with_order(command, asm_command(alloc))?;
+    let command = with_order(command, debug_command(alloc))?;
+    with_order(command, run_command(alloc))
+}
+
+/// A grammar with an order more.
+fn with_order<'a>(
+    command: Command<'a>,
+    order: Result<Command<'a>, AllocError>,
+) -> Result<Command<'a>, AllocError> {
+    command.subcommand(order?)
+}
+
+/// The grammar of the program, with no order.
+fn program<'a>(alloc: Global) -> Result<Command<'a>, AllocError> {
+    Ok(Command::new(alloc, "zk")
         .bin_name("zk")?
         .version("0.1.0")
         .about("Looks at transaction logs of ZooKeeper 3.4, and runs its servers")
         .after_help(faults())
-        .subcommand_required(true)
-        .subcommand(show_command(alloc)?)?
-        .subcommand(list)?
-        .subcommand(asm_command(alloc)?)?
-        .subcommand(debug_command(alloc)?)?
-        .subcommand(run_command(alloc)?)
+        .subcommand_required(true))
+}
+
+/// The grammar of `zk list`.
+fn list_command<'a>(alloc: Global) -> Result<Command<'a>, AllocError> {
+    Command::new(alloc, "list")
+        .about("Lists the transactions of a log, one line for each")
+        .after_help(faults())
+        .arg(log_arg(alloc))
 }
 
 /// The grammar of `zk show`.
