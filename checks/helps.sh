@@ -13,7 +13,7 @@ defining() {
 }
 
 debug_lines=$(defining 'command_text commands\.Step')
-run_lines=$(defining 'SpellsWorldEvent \(Lead|SpellsRequest \(requests\.Create')
+run_lines=$(defining 'SpellsWorldEvent \(Lead|SpellsRequest \(requests\.Create|abbrev pub SpellsWeights')
 fault_lines=$(defining 'line_of_log_fault log_faults\.Header')
 debug_numbers=$(defining 'fault_text faults\.AtEnd')
 run_numbers=$(defining 'fault_text \(faults\.Behind')

@@ -20,6 +20,13 @@ for script in "$scripts"/*.script; do
     "$zk" run @ <"$script" | cmp - "${script%.script}.answers"
 done
 
+# each script whose first line has no weights is answered the same where that gives each server the weight 1
+for script in "$scripts"/*.script; do
+    servers=$(sed -n '1s/^servers \([0-9]*\)$/\1/p' "$script")
+    [ -n "$servers" ] || continue
+    sed "1s/\$/ weights$(printf ' 1%.0s' $(seq "$servers"))/" "$script" | "$zk" run @ | cmp - "${script%.script}.answers"
+done
+
 # a last line without a newline counts
 printf %s "$(cat "$first.script")" | "$zk" run @ | cmp - "$first.answers"
 
@@ -34,8 +41,10 @@ for line in 'servers 3' 'lead 01' 'lead +1' 'lead' 'lead 1 2' 'tree 0' 'tree 4' 
     head -n 3 "$first.answers" | cmp - "$work/out"
 done
 
-# the first line tells the number of servers, and nothing else may stand there
-for line in '' 'servers' 'servers 1' 'servers 16' 'servers 03' 'servers 3 ' 'servers 3 weights 1 1 1' 'lead 1'; do
+# the first line tells the number of servers, and what each weighs, and nothing else may stand there
+for line in '' 'servers' 'servers 1' 'servers 16' 'servers 03' 'servers 3 ' 'servers 3 weights' 'servers 3 weights ' \
+    'servers 3 weights 1 1' 'servers 3 weights 1 1 1 1' 'servers 3 weights 1 1 1 ' 'servers 3 weights 0 0 0' 'servers 3 weights 1 1 01' \
+    'servers 3 weights 1 1 4294967296' 'servers 3  weights 1 1 1' 'servers 3 weight 1 1 1' 'servers 1 weights 1' 'lead 1'; do
     printf '%s\nlead 1\n' "$line" >"$work/bad"
     [ "$(ends "$zk" run "$work/bad")" = "1 zk: script 1" ]
     [ ! -s "$work/out" ]

@@ -4,7 +4,7 @@ use Rattle.std.specs.List.{AllByRecursion}
 use Rattle.zab_epoch.specs.declared.fault.RuleFault.{RuleFault}
 use Rattle.zab_epoch.specs.declared.history.Entry.{Entry}
 use Rattle.zab_epoch.specs.declared.message.Body.{Body}
-use Rattle.zab_epoch.specs.declared.message.Body.TheVariants.{CEpoch, NewEpoch, AckEpoch, NewLeader, AckLeader, Propose, Ack, Commit, Request}
+use Rattle.zab_epoch.specs.declared.message.Body.TheVariants.{CEpoch, NewEpoch, AckEpoch, NewLeader, AckLeader, Propose, Ack, Commit, Request, SyncAsk, SyncTell}
 use Rattle.zab_epoch.specs.declared.message.Message.{Message}
 use Rattle.zab_broadcast.specs.declared.state.State.{State}
 use Rattle.zab_broadcast.specs.Calls.{Setting, is_taken}
@@ -17,7 +17,7 @@ use Rattle.zab_move_laws.specs.Told.{laws_of, core_of, told_of, BodyFact, Messag
 use Rattle.zab_move_laws.proofs.Common.{by_test, stays}
 use Rattle.zab_move_laws.proofs.Telling.{all_append}
 use Rattle.zab_move_laws.proofs.Growing.{messages_grow, stands_after, stands_still}
-use Rattle.zab_move_laws.proofs.Hearing.{CarriesZxid, lead_owes, follow_owes, hears_c_epoch, hears_new_epoch, hears_ack_epoch, hears_new_leader, hears_ack_leader, hears_propose, hears_ack, hears_commit, hears_request, submit_owes}
+use Rattle.zab_move_laws.proofs.Hearing.{CarriesZxid, lead_owes, follow_owes, hears_c_epoch, hears_new_epoch, hears_ack_epoch, hears_new_leader, hears_ack_leader, hears_propose, hears_ack, hears_commit, hears_request, hears_sync_ask, hears_sync_tell, submit_owes}
 use Rattle.zab_tag_laws.proofs.TagFacts.{cases_eq, all_get, same_some}
 use Rattle.zab_runs.specs.declared.event.Event.{Event}
 use Rattle.zab_runs.specs.declared.event.Event.TheVariants.{Lead, Follow, Arrive, Submit, Expire, Crash, Restart}
@@ -178,6 +178,8 @@ receives_owe setting law share g from to (Propose epoch index entry) state here 
 receives_owe setting law share g from to (Ack epoch count) state here b f = hears_ack setting.passes g state from epoch count f b
 receives_owe setting law share g from to (Commit epoch count) state here b f = hears_commit (laws_of setting.passes) g state from epoch count f b
 receives_owe setting law share g from to (Request epoch call) state here b f = hears_request setting law g state epoch call f
+receives_owe setting law share g from to (SyncAsk epoch tag) state here b f = hears_sync_ask (laws_of setting.passes) g state from epoch tag share f
+receives_owe setting law share g from to (SyncTell epoch tag count) state here b f = hears_sync_tell (laws_of setting.passes) g state from epoch tag count f b
 
 abbrev pub MaybeFact : {C : Type 0} → laws.Setting Entry → laws.Ghost Entry → Option (Message C) → Type 0
 MaybeFact k g None = Unit {0}

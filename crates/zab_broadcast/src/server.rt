@@ -1,12 +1,14 @@
 use crate::counting::{commit_count, next_zxid};
 use crate::primary::Primary;
 use crate::state::State;
+use crate::syncs::{AskedSyncs, CaughtSyncs};
 use crate::tags::Tags;
 use std::alloc::Global;
 use std::marker::Model;
 use zab_epoch::{
     Body, Entries, Entry, History, Messages, Peer, Quorums, Role, RuleFault, Stable, Table, Vote,
 };
+use zab_shared::Shared;
 use zk_path::NoMemory;
 
 /// A server, with what makes entries while it leads.
@@ -34,7 +36,7 @@ impl<P: Primary> Model for Server<P> {
 }
 
 impl<P: Primary> Server<P> {
-    ghost use Rattle.std.specs.Prelude.{◌≡◌, ◌≢◌, ◌≤◌, ◌<◌, ◌<ℤ◌, ◌-◌, max, set, length, take, None, if◌then◌else◌, IfOk, OnOk, OnErr};
+    ghost use Rattle.std.specs.Prelude.{◌≡◌, ◌≢◌, ◌≤◌, ◌<◌, ◌<ℤ◌, ◌-◌, ◌++◌, max, set, length, take, None, if◌then◌else◌, IfOk, OnOk, OnErr};
     ghost use Rattle.zab_epoch.specs.declared.fault.RuleFault.TheVariants as faults;
     ghost use Rattle.zab_epoch.specs.Entries.{last_zxid};
     ghost use Rattle.zab_epoch.specs.Shortness.{IsShort};
@@ -44,6 +46,7 @@ impl<P: Primary> Server<P> {
     ghost use Rattle.zab_broadcast.specs.Rules.{new_leader, ack_leader, submit, request, propose, ack, commit};
     ghost use Rattle.zab_broadcast.specs.Rules.{begun, joined, counted, settles, raised, enters, catching_up, tells_news};
     ghost use Rattle.zab_broadcast.specs.Rules.{silent, took, appends, with_history};
+    ghost use Rattle.zab_broadcast.specs.Rules.{sync, sync_ask, sync_tell};
     ghost use Rattle.zab_epoch.specs.Tables.{marks_of};
     ghost use Rattle.zab_epoch.specs.Rules.{ack_epoch as peer_ack_epoch, new_leader as peer_new_leader};
 
@@ -59,6 +62,8 @@ impl<P: Primary> Server<P> {
                 top: 0,
                 made: 0,
                 taken: Tags::new(alloc),
+                asked: AskedSyncs::new(alloc),
+                caught: CaughtSyncs::new(alloc),
             },
             primary: None,
         }
@@ -112,7 +117,9 @@ impl<P: Primary> Server<P> {
         ensures err { OnErr result (self.new ≡ self.old) }
     {
         self.primary = None;
-        self.state.peer.lead(alloc)
+        let messages = self.state.peer.lead(alloc)?;
+        self.state.asked = AskedSyncs::new(alloc);
+        Ok(messages)
     }
 
     /// It begins to follow a leader, whatever it did before.
@@ -121,7 +128,9 @@ impl<P: Primary> Server<P> {
         ensures err { OnErr result (self.new ≡ self.old) }
     {
         self.primary = None;
-        self.state.peer.follow(alloc, leader)
+        let messages = self.state.peer.follow(alloc, leader)?;
+        self.state.asked = AskedSyncs::new(alloc);
+        Ok(messages)
     }
 
     /// A CEpoch comes.
@@ -384,7 +393,7 @@ impl<P: Primary> Server<P> {
     {
         let count = self.counted(alloc, quorums)?;
         if count <= self.state.top {
-            return self.state.tell(alloc, to, None, above, Some(count));
+            return self.state.tell(alloc, to, above, Some(count));
         }
         let messages = self.state.news(alloc, Some(to), above, Some(count))?;
         self.settle(count);
@@ -412,6 +421,7 @@ impl<P: Primary> Server<P> {
             } => {
                 let mut messages = Messages::new(alloc);
                 let epoch = self.state.peer.stable.current;
+                let call = Shared::new(alloc, call)?;
                 messages.send(self.state.peer.me, *leader, Body::Request { epoch, call })?;
                 Ok(messages)
             }
@@ -619,15 +629,110 @@ impl<P: Primary> Server<P> {
         from: usize,
         epoch: u32,
         length: u64,
-    ) -> Messages<P::Call>
-        ensures { (self.new, Ok result) ≡ commit self.old from epoch length }
+    ) -> Result<Messages<P::Call>, NoMemory>
+        ensures acts { IfOk result (λ messages. (self.new, Ok messages) ≡ commit self.old from epoch length) }
+        ensures err { OnErr result (self.new ≡ self.old) }
     {
         let peer = &self.state.peer;
         if peer.role.follows(from) && epoch == peer.stable.current {
-            let most = peer.stable.history.len();
-            self.deliver(most.min(length as usize));
+            let count = peer.stable.history.len().min(length as usize);
+            let delivered = self.state.delivered.max(count) as u64;
+            let left = self.state.asked.left(delivered)?;
+            let caught = self.state.asked.caught(delivered)?;
+            self.deliver_and_answer(count, left, caught)?;
         }
-        Messages::new(alloc)
+        Ok(Messages::new(alloc))
+    }
+
+    /// Delivers at least so many, and answers syncs with that: these are left.
+    fn deliver_and_answer(
+        &mut self,
+        count: usize,
+        left: AskedSyncs,
+        caught: CaughtSyncs,
+    ) -> Result<(), NoMemory>
+        requires { count ≤ length self.old.peer.stable.history }
+        ensures ok { OnOk result (self.new ≡ record self.old {
+          delivered = max self.old.delivered count;
+          asked = left;
+          caught = self.old.caught ++ caught;
+        }) }
+        ensures err { OnErr result (self.new ≡ self.old) }
+    {
+        self.state.caught.append(caught)?;
+        self.state.asked = left;
+        self.deliver(count);
+        Ok(())
+    }
+
+    /// A client asks to be brought up to its leader.
+    pub fn sync(&mut self, alloc: Global, tag: u64) -> Result<Messages<P::Call>, RuleFault>
+        ensures acts { result ≢ Err faults.NoMemory → (self.new, result) ≡ sync self.old tag }
+        ensures err { OnErr result (self.new ≡ self.old) }
+    {
+        let mut messages = Messages::new(alloc);
+        match &self.state.peer.role {
+            Role::Broadcast => self.state.caught.push(tag, self.state.delivered as u64)?,
+            Role::Following {
+                leader,
+                synced: true,
+            } => {
+                let epoch = self.state.peer.stable.current;
+                messages.send(self.state.peer.me, *leader, Body::SyncAsk { epoch, tag })?;
+                self.state.asked.ask(tag)?;
+            }
+            _ => return Err(RuleFault::NotServing),
+        }
+        Ok(messages)
+    }
+
+    /// A SyncAsk comes.
+    pub fn sync_ask(
+        &self,
+        alloc: Global,
+        from: usize,
+        epoch: u32,
+        tag: u64,
+    ) -> Result<Messages<P::Call>, NoMemory>
+        ensures { IfOk result (λ messages. (self.now, Ok messages) ≡ sync_ask self.now from epoch tag) }
+    {
+        let mut messages = Messages::new(alloc);
+        match &self.state.peer.role {
+            Role::Broadcast => {
+                if epoch == self.state.peer.stable.promised {
+                    let length = self.state.delivered as u64;
+                    let body = Body::SyncTell { epoch, tag, length };
+                    messages.send(self.state.peer.me, from, body)?;
+                }
+            }
+            _ => {}
+        }
+        Ok(messages)
+    }
+
+    /// A SyncTell comes.
+    pub fn sync_tell(
+        &mut self,
+        alloc: Global,
+        from: usize,
+        epoch: u32,
+        tag: u64,
+        length: u64,
+    ) -> Result<Messages<P::Call>, NoMemory>
+        ensures acts { IfOk result (λ messages. (self.new, Ok messages)
+            ≡ sync_tell self.old from epoch tag length) }
+        ensures err { OnErr result (self.new ≡ self.old) }
+    {
+        let peer = &self.state.peer;
+        if peer.role.follows(from) && epoch == peer.stable.current && self.state.asked.has(tag) {
+            let count = peer.stable.history.len().min(length as usize);
+            let delivered = self.state.delivered.max(count) as u64;
+            let asked = self.state.asked.told(tag, length)?;
+            let left = asked.left(delivered)?;
+            let caught = asked.caught(delivered)?;
+            self.deliver_and_answer(count, left, caught)?;
+        }
+        Ok(Messages::new(alloc))
     }
 }
 

@@ -4,12 +4,12 @@ ghost use Rattle.zab_epoch.specs.Tables.{marks_of};
 ghost use Rattle.zab_epoch.specs.declared.election.Election.TheVariants as elections;
 
 use crate::message::Messages;
-use crate::quorums::Quorums;
 use crate::sending::new_leaders;
 use crate::stable::Stable;
 use crate::table::Table;
 use crate::votes::{Vote, exceeds};
 use std::alloc::Global;
+use zab_quorums::Quorums;
 use zk_path::NoMemory;
 
 /// What the votes on a leader's history come to.

@@ -1,4 +1,4 @@
--- Propose and Commit at a follower.
+-- Propose, Commit and SyncTell at a follower.
 use Rattle.std.proofs.Common.{◌≡◌, ℕ, ◌+◌, ◌<◌, ◌≤◌, ◌==◌, ◌&&◌, min, inl, inr, true, List, [], ◌∷◌, ◌++◌, length, Some, Result, Ok, refl, sym, ap, subst, ◌∙◌, arith, length-append}
 use Rattle.std.proofs.lemmas.List.{take-append-le}
 use Rattle.zab_epoch.specs.declared.fault.RuleFault.{RuleFault}
@@ -8,7 +8,10 @@ use Rattle.zab_epoch.specs.declared.message.Body.TheVariants.{Ack}
 use Rattle.zab_epoch.specs.declared.role.Role.{Role}
 use Rattle.zab_epoch.specs.declared.role.Role.TheVariants.{Looking, Discover, Choose, Sync, Broadcast, Following}
 use Rattle.zab_broadcast.specs.declared.state.State.{State}
-use Rattle.zab_broadcast.specs.Rules.{commit, propose, is_next, is_above, with_history}
+use Rattle.zab_broadcast.specs.declared.syncs.Asked.{Asked}
+use Rattle.zab_broadcast.specs.declared.syncs.Caught.{Caught}
+use Rattle.zab_broadcast.specs.Rules.{silent, commit, delivers_to, sync_tell, propose, is_next, is_above, with_history}
+use Rattle.zab_broadcast.specs.Syncs.{is_asked, told, left_asked, newly_caught}
 use Rattle.zab_broadcast.proofs.Guards.{takes_the_next}
 use Rattle.zab_epoch.specs.Roles.{follows}
 use Rattle.zab_laws.specs.Prefixes.{IsPrefix}
@@ -42,11 +45,9 @@ follower k g state (Choose votes joiners) from e = absurd cc
 follower k g state Sync from e = absurd cc
 follower k g state Broadcast from e = absurd cc
 
-pub commit_owes : {C : Type 0} (k : laws.Setting Entry) (g : laws.Ghost Entry) (state : State) (from epoch count : ℕ) → laws.IsKept k g state.peer.me (core_of state) → state.delivered ≤ length state.peer.stable.history → RoleFact k g state state.peer.role → IsReached k g epoch count → OwesOf {C = C} k g state (commit state from epoch count)
-commit_owes {C} k g state from epoch count kept within role reached =
-    by_test (OwesOf {C = C} k g state) (follows state.peer.role from && (epoch == state.peer.stable.current)) _ _
-    (λ is. (let both = both_true (follows state.peer.role from) (epoch == state.peer.stable.current) is in
-    let same : epoch ≡ state.peer.stable.current = eq_is epoch state.peer.stable.current both.1 in
+-- what a quorum holds is delivered, whatever is asked and answered
+delivers_owes : {C : Type 0} (k : laws.Setting Entry) (g : laws.Ghost Entry) (state : State) (asked : List Asked) (caught : List Caught) (from epoch count : ℕ) → laws.IsKept k g state.peer.me (core_of state) → state.delivered ≤ length state.peer.stable.history → follows state.peer.role from ≡ true → epoch ≡ state.peer.stable.current → IsReached k g epoch count → OwesOf {C = C} k g state (silent (record (delivers_to state count) { asked = asked; caught = caught }))
+delivers_owes k g state asked caught from epoch count kept within following same reached =
     let r : IsReached k g state.peer.stable.current count = subst (λ e. IsReached k g e count) same reached in
     let above : 0 < state.peer.stable.current = begun_above k g (core_of state) state.peer.me kept state.peer.stable.current r.began r.is in
     let n : ℕ = min (length state.peer.stable.history) count in
@@ -55,13 +56,35 @@ commit_owes {C} k g state from epoch count kept within role reached =
       ghost = g;
       keeps = delivers_more k g state state.peer.me n kept above
           (λ more. chosen_of k g state.peer.me state.peer.stable.current count n state.peer.stable.history kept.facts r kept.sound.held_now above low);
-      role = follower k g _ state.peer.role from both.0;
+      role = follower k g _ state.peer.role from following;
       sent = tt;
       me = refl;
       within = omega arith;
       more = more_told state.delivered n state.peer.stable.history;
       begins = inl (λ e b is. is);
-    }))
+    }
+
+-- a count comes to a follower
+follower_of : (state : State) (from epoch : ℕ) → (follows state.peer.role from && (epoch == state.peer.stable.current)) ≡ true → (follows state.peer.role from ≡ true) × (epoch ≡ state.peer.stable.current)
+follower_of state from epoch is =
+    let both = both_true (follows state.peer.role from) (epoch == state.peer.stable.current) is in
+    (both.0, eq_is epoch state.peer.stable.current both.1)
+
+pub commit_owes : {C : Type 0} (k : laws.Setting Entry) (g : laws.Ghost Entry) (state : State) (from epoch count : ℕ) → laws.IsKept k g state.peer.me (core_of state) → state.delivered ≤ length state.peer.stable.history → RoleFact k g state state.peer.role → IsReached k g epoch count → OwesOf {C = C} k g state (commit state from epoch count)
+commit_owes {C} k g state from epoch count kept within role reached =
+    let next : State = delivers_to state count in
+    by_test (OwesOf {C = C} k g state) (follows state.peer.role from && (epoch == state.peer.stable.current)) _ _
+    (λ is. (let f = follower_of state from epoch is in
+    delivers_owes k g state (left_asked next.delivered state.asked) (state.caught ++ newly_caught next.delivered state.asked) from epoch count kept within f.0 f.1 reached))
+    (λ is. owes_nothing k g state (Ok []) kept within role tt)
+
+pub sync_tell_owes : {C : Type 0} (k : laws.Setting Entry) (g : laws.Ghost Entry) (state : State) (from epoch tag count : ℕ) → laws.IsKept k g state.peer.me (core_of state) → state.delivered ≤ length state.peer.stable.history → RoleFact k g state state.peer.role → IsReached k g epoch count → OwesOf {C = C} k g state (sync_tell state from epoch tag count)
+sync_tell_owes {C} k g state from epoch tag count kept within role reached =
+    let next : State = delivers_to state count in
+    let asked : List Asked = told tag count state.asked in
+    by_test (OwesOf {C = C} k g state) ((follows state.peer.role from && (epoch == state.peer.stable.current)) && is_asked tag state.asked) _ _
+    (λ is. (let f = follower_of state from epoch (both_true (follows state.peer.role from && (epoch == state.peer.stable.current)) (is_asked tag state.asked) is).0 in
+    delivers_owes k g state (left_asked next.delivered asked) (state.caught ++ newly_caught next.delivered asked) from epoch count kept within f.0 f.1 reached))
     (λ is. owes_nothing k g state (Ok []) kept within role tt)
 
 pub propose_owes : {C : Type 0} (k : laws.Setting Entry) (g : laws.Ghost Entry) (state : State) (from epoch index : ℕ) (entry : Entry) → 0 < state.peer.me → laws.Shares k → laws.IsKept k g state.peer.me (core_of state) → state.delivered ≤ length state.peer.stable.history → RoleFact k g state state.peer.role → IsProposed g from epoch index entry → OwesOf {C = C} k g state (propose state from epoch index entry)

@@ -3,7 +3,7 @@ use Rattle.std.proofs.Common.{◌≢◌, ℕ, ℤ, ◌+◌, ◌<◌, List, [], �
 use Rattle.std.specs.List.{AllByRecursion}
 use Rattle.zab_epoch.specs.declared.history.Entry.{Entry}
 use Rattle.zab_epoch.specs.declared.message.Body.{Body}
-use Rattle.zab_epoch.specs.declared.message.Body.TheVariants.{CEpoch, NewEpoch, AckEpoch, NewLeader, AckLeader, Propose, Ack, Commit, Request}
+use Rattle.zab_epoch.specs.declared.message.Body.TheVariants.{CEpoch, NewEpoch, AckEpoch, NewLeader, AckLeader, Propose, Ack, Commit, Request, SyncAsk, SyncTell}
 use Rattle.zab_epoch.specs.declared.message.Message.{Message}
 use Rattle.zab_epoch.specs.declared.role.Role.{Role}
 use Rattle.zab_epoch.specs.declared.role.Role.TheVariants.{Looking, Discover, Choose, Sync, Broadcast, Following}
@@ -94,6 +94,8 @@ body_grows k g y grows from to (Propose epoch index entry) f = proposed_grows g 
 body_grows k g y grows from to (Ack epoch count) f = (f.0, length_grows g y grows from epoch count f.1)
 body_grows k g y grows from to (Commit epoch count) f = reached_grows k g y grows epoch count f
 body_grows k g y grows from to (Request epoch call) f = tt
+body_grows k g y grows from to (SyncAsk epoch tag) f = tt
+body_grows k g y grows from to (SyncTell epoch tag count) f = reached_grows k g y grows epoch count f
 
 pub messages_grow : {C : Type 0} (k : laws.Setting Entry) (g y : laws.Ghost Entry) → laws.Grows g y → (messages : List (Message C)) → AllByRecursion (MessageFact k g) messages → AllByRecursion (MessageFact k y) messages
 messages_grow k g y grows [] f = tt

@@ -1,5 +1,5 @@
 -- What each rule owes at a server where all stands.
-use Rattle.std.proofs.Common.{◌≡◌, ℕ, ℤ, ◌+◌, ◌<◌, ◌≤◌, ◌==◌, ◌&&◌, nat_lt, max, min, not, inl, Bool, true, false, cond, List, [], ◌∷◌, length, take, Option, Some, None, Result, Ok, refl, sym, subst, arith}
+use Rattle.std.proofs.Common.{◌≡◌, ℕ, ℤ, ◌+◌, ◌<◌, ◌≤◌, ◌==◌, ◌&&◌, nat_lt, max, min, not, inl, Bool, true, false, cond, List, [], ◌∷◌, ◌++◌, length, take, Option, Some, None, Result, Ok, refl, sym, subst, ◌∙◌, arith}
 use Rattle.zab_epoch.specs.declared.fault.RuleFault.{RuleFault}
 use Rattle.zab_epoch.specs.declared.history.Entry.{Entry}
 use Rattle.zab_epoch.specs.declared.message.Body.TheVariants as say
@@ -13,9 +13,12 @@ use Rattle.zab_epoch.specs.Rules.{next_epoch, greatest}
 use Rattle.zab_epoch.specs.Tables.{silent_servers, put, marks_of}
 use Rattle.zab_epoch.proofs.Guards.{votes_once}
 use Rattle.zab_broadcast.specs.declared.state.State.{State}
+use Rattle.zab_broadcast.specs.declared.syncs.Asked.{Asked}
+use Rattle.zab_broadcast.specs.declared.syncs.Caught.{Caught}
 use Rattle.zab_broadcast.specs.Calls.{Setting, is_taken}
 use Rattle.zab_broadcast.specs.Rules as rules
 use Rattle.zab_broadcast.specs.Rules.{Acts, by_peer, begun, with_peer, next_zxid}
+use Rattle.zab_broadcast.specs.Syncs.{caught_at, with_asked}
 use Rattle.zab_laws.specs.Prefixes.{IsPrefix}
 use Rattle.zab_laws.specs.Cores as laws
 use Rattle.zab_laws.specs.Cores.Move.{Promise}
@@ -24,17 +27,31 @@ use Rattle.zab_laws.proofs.Keeping.{keeps_promise, two_now}
 use Rattle.zab_laws.proofs.Adopting.{begun_above}
 use Rattle.zab_move_laws.specs.Told.{laws_of, core_of, core_with, told_of, HasVote, GoesOn, Chooses, HasLength, IsReached, IsProposed, Leads, Broadcasts, VotesFact, RoleFact, SentFact, OwesOf, Stands}
 use Rattle.zab_move_laws.proofs.Common.{by_test, eq_is, stays}
-use Rattle.zab_move_laws.proofs.Following.{owes_nothing, follower, commit_owes, propose_owes}
+use Rattle.zab_move_laws.proofs.Following.{owes_nothing, follower, commit_owes, sync_tell_owes, propose_owes}
 use Rattle.zab_move_laws.proofs.Joining.{new_leader_owes}
 use Rattle.zab_move_laws.proofs.Beginning.{begins_owes}
 use Rattle.zab_move_laws.proofs.Choosing.{chooses_owes, put_voted}
 use Rattle.zab_move_laws.proofs.Electing.{elects, last_same}
 use Rattle.zab_move_laws.proofs.Splicing.{tells_it}
 use Rattle.zab_move_laws.proofs.Leading.{ack_owes, ack_leader_owes, appends_owes}
+use Rattle.zab_move_laws.proofs.Reaching.{leader_reached}
 
 -- nothing moves
 pub quiet : {C : Type 0} (k : laws.Setting Entry) (g : laws.Ghost Entry) (state : State) (out : Result (List (Message C)) RuleFault) → Stands k g state → SentFact k g out → OwesOf k g state (state, out)
 quiet k g state out f sent = owes_nothing k g state out f.kept f.within f.role sent
+
+-- another role, in which nothing is asked
+begins_anew : {C : Type 0} (k : laws.Setting Entry) (g : laws.Ghost Entry) (state : State) (role : Role) (out : Result (List (Message C)) RuleFault) → Stands k g state → RoleFact k g (record state { peer = record state.peer { role = role }; asked = [] }) role → SentFact k g out → OwesOf k g state (record state { peer = record state.peer { role = role }; asked = [] }, out)
+begins_anew k g state role out f said sent = record {
+  ghost = g;
+  keeps = stays k g state.peer.me (core_of state) f.kept;
+  role = said;
+  sent = sent;
+  me = refl;
+  within = f.within;
+  more = prefix_refl (told_of state);
+  begins = inl (λ e b is. is);
+}
 
 -- another role, of which nothing is said
 turns : {C : Type 0} (k : laws.Setting Entry) (g : laws.Ghost Entry) (state : State) (role : Role) (out : Result (List (Message C)) RuleFault) → Stands k g state → RoleFact k g (record state { peer = record state.peer { role = role } }) role → SentFact k g out → OwesOf k g state (record state { peer = record state.peer { role = role } }, out)
@@ -52,10 +69,10 @@ turns k g state role out f said sent = record {
 -- ---- 1
 
 pub lead_owes : {C : Type 0} (k : laws.Setting Entry) (g : laws.Ghost Entry) (state : State) → Stands k g state → OwesOf {C = C} k g state (rules.lead state)
-lead_owes k g state f = turns k g state (Discover (put (silent_servers state.peer.servers) state.peer.me state.peer.stable.promised)) (Ok []) f tt tt
+lead_owes k g state f = begins_anew k g state (Discover (put (silent_servers state.peer.servers) state.peer.me state.peer.stable.promised)) (Ok []) f tt tt
 
 pub follow_owes : {C : Type 0} (k : laws.Setting Entry) (g : laws.Ghost Entry) (state : State) (leader : ℕ) → Stands k g state → OwesOf {C = C} k g state (rules.follow state leader)
-follow_owes k g state leader f = turns k g state (Following leader false) (Ok (record { sender = state.peer.me; addressee = leader; body = say.CEpoch state.peer.stable.promised } ∷ [])) f tt (tt, tt)
+follow_owes k g state leader f = begins_anew k g state (Following leader false) (Ok (record { sender = state.peer.me; addressee = leader; body = say.CEpoch state.peer.stable.promised } ∷ [])) f tt (tt, tt)
 
 -- ---- 2
 
@@ -249,3 +266,64 @@ request_by setting law g state epoch call Sync f at b = quiet (laws_of setting.p
 
 pub hears_request : {C : Type 0} (setting : Setting C) → CarriesZxid setting → (g : laws.Ghost Entry) (state : State) (epoch : ℕ) (call : C) → Stands (laws_of setting.passes) g state → OwesOf (laws_of setting.passes) g state (rules.request setting state epoch call)
 hears_request setting law g state epoch call f = request_by setting law g state epoch call state.peer.role f refl f.role
+
+-- ---- 12 to 14
+
+-- other syncs are asked or answered
+syncs_move : {C : Type 0} (k : laws.Setting Entry) (g : laws.Ghost Entry) (state : State) (asked : List Asked) (caught : List Caught) (out : Result (List (Message C)) RuleFault) → Stands k g state → RoleFact k g (record state { asked = asked; caught = caught }) state.peer.role → SentFact k g out → OwesOf k g state (record state { asked = asked; caught = caught }, out)
+syncs_move k g state asked caught out f said sent = record {
+  ghost = g;
+  keeps = stays k g state.peer.me (core_of state) f.kept;
+  role = said;
+  sent = sent;
+  me = refl;
+  within = f.within;
+  more = prefix_refl (told_of state);
+  begins = inl (λ e b is. is);
+}
+
+-- a leader of the third phase stays one
+still_broadcasts : (k : laws.Setting Entry) (g : laws.Ghost Entry) (state : State) (caught : List Caught) → Broadcasts k g state → Broadcasts k g (record state { caught = caught })
+still_broadcasts k g state caught b = record {
+  leads = record { same = b.leads.same; began = b.leads.began; is = b.leads.is; leader = b.leads.leader; has = b.leads.has };
+  own = b.own;
+  history = b.history;
+  made = b.made;
+  chosen = b.chosen;
+}
+
+sync_by : {C : Type 0} (k : laws.Setting Entry) (g : laws.Ghost Entry) (state : State) (tag : ℕ) (role : Role) → Stands k g state → state.peer.role ≡ role → RoleFact k g state role → OwesOf {C = C} k g state (rules.sync_as state tag role)
+sync_by k g state tag Broadcast f at b =
+    let caught : List Caught = state.caught ++ caught_at tag state.delivered ∷ [] in
+    syncs_move k g state state.asked caught (Ok []) f
+    (subst (RoleFact k g (record state { caught = caught })) (sym at) (still_broadcasts k g state caught b)) tt
+sync_by {C} k g state tag (Following leader synced) f at b =
+    by_test (OwesOf {C = C} k g state) synced _ _
+    (λ e. syncs_move k g state (with_asked tag state.asked) state.caught _ f
+    (subst (RoleFact k g (record state { asked = with_asked tag state.asked })) (sym at) tt) (tt, tt))
+    (λ e. quiet k g state _ f tt)
+sync_by k g state tag Looking f at b = quiet k g state _ f tt
+sync_by k g state tag (Discover heard) f at b = quiet k g state _ f tt
+sync_by k g state tag (Choose votes joiners) f at b = quiet k g state _ f tt
+sync_by k g state tag Sync f at b = quiet k g state _ f tt
+
+pub sync_owes : {C : Type 0} (k : laws.Setting Entry) (g : laws.Ghost Entry) (state : State) (tag : ℕ) → Stands k g state → OwesOf {C = C} k g state (rules.sync state tag)
+sync_owes k g state tag f = sync_by k g state tag state.peer.role f refl f.role
+
+sync_ask_by : {C : Type 0} (k : laws.Setting Entry) (g : laws.Ghost Entry) (state : State) (from epoch tag : ℕ) (role : Role) → laws.Shares k → Stands k g state → RoleFact k g state role → OwesOf {C = C} k g state (rules.sync_ask_as state from epoch tag role)
+sync_ask_by {C} k g state from epoch tag Broadcast share f b =
+    by_test (OwesOf {C = C} k g state) (epoch == state.peer.stable.promised) _ _
+    (λ is. (let here : state.peer.stable.current ≡ epoch = sym (eq_is epoch state.peer.stable.promised is ∙ b.leads.same) in
+    quiet k g state _ f (subst (λ e. IsReached k g e state.delivered) here (leader_reached k g state share f.kept f.within b), tt)))
+    (λ other. quiet k g state _ f tt)
+sync_ask_by k g state from epoch tag Looking share f b = quiet k g state _ f tt
+sync_ask_by k g state from epoch tag (Discover heard) share f b = quiet k g state _ f tt
+sync_ask_by k g state from epoch tag (Choose votes joiners) share f b = quiet k g state _ f tt
+sync_ask_by k g state from epoch tag Sync share f b = quiet k g state _ f tt
+sync_ask_by k g state from epoch tag (Following leader synced) share f b = quiet k g state _ f tt
+
+pub hears_sync_ask : {C : Type 0} (k : laws.Setting Entry) (g : laws.Ghost Entry) (state : State) (from epoch tag : ℕ) → laws.Shares k → Stands k g state → OwesOf {C = C} k g state (rules.sync_ask state from epoch tag)
+hears_sync_ask k g state from epoch tag share f = sync_ask_by k g state from epoch tag state.peer.role share f f.role
+
+pub hears_sync_tell : {C : Type 0} (k : laws.Setting Entry) (g : laws.Ghost Entry) (state : State) (from epoch tag count : ℕ) → Stands k g state → IsReached k g epoch count → OwesOf {C = C} k g state (rules.sync_tell state from epoch tag count)
+hears_sync_tell k g state from epoch tag count f reached = sync_tell_owes k g state from epoch tag count f.kept f.within f.role reached

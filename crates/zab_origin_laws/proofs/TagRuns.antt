@@ -4,14 +4,14 @@ use Rattle.std.specs.List.{AllByRecursion}
 use Rattle.zab_epoch.specs.declared.fault.RuleFault.{RuleFault}
 use Rattle.zab_epoch.specs.declared.history.Entry.{Entry}
 use Rattle.zab_epoch.specs.declared.message.Body.{Body}
-use Rattle.zab_epoch.specs.declared.message.Body.TheVariants.{CEpoch, NewEpoch, AckEpoch, NewLeader, AckLeader, Propose, Ack, Commit, Request}
+use Rattle.zab_epoch.specs.declared.message.Body.TheVariants.{CEpoch, NewEpoch, AckEpoch, NewLeader, AckLeader, Propose, Ack, Commit, Request, SyncAsk, SyncTell}
 use Rattle.zab_epoch.specs.declared.message.Message.{Message}
 use Rattle.zab_epoch.specs.declared.role.Role.TheVariants.{Looking}
 use Rattle.zab_broadcast.specs.declared.state.State.{State}
 use Rattle.zab_broadcast.specs.Calls.{Setting, is_taken}
 use Rattle.zab_broadcast.specs.Rules as rules
 use Rattle.zab_tag_laws.proofs.TagFacts.{Owners, nobody, BodyFact, MessageFact, SentFact, ServerFact, ActsFact, Grows, grows_refl, messages_grow, idles, by_test, cases_eq, all_append, all_get, same_some, taken_last}
-use Rattle.zab_tag_laws.proofs.TagRules.{lead_fact, follow_fact, hears_c_epoch, hears_new_epoch, hears_ack_epoch, hears_new_leader, hears_ack_leader, hears_propose, hears_ack, hears_commit}
+use Rattle.zab_tag_laws.proofs.TagRules.{lead_fact, follow_fact, hears_c_epoch, hears_new_epoch, hears_ack_epoch, hears_new_leader, hears_ack_leader, hears_propose, hears_ack, hears_commit, hears_sync_ask, hears_sync_tell}
 use Rattle.zab_tag_laws.proofs.TagCalls.{CarriesTag, Spent, SpentBy, IsSpentIn, spent_more, Adds, AddsBy, Owes, owes_nothing, submit_owes, request_owes}
 use Rattle.zab_runs.specs.declared.event.Event.{Event}
 use Rattle.zab_runs.specs.declared.event.Event.TheVariants.{Lead, Follow, Arrive, Submit, Expire, Crash, Restart}
@@ -222,6 +222,8 @@ asked_in setting g to (AckLeader epoch count) call b is = no_call call is
 asked_in setting g to (Propose epoch index entry) call b is = no_call call is
 asked_in setting g to (Ack epoch count) call b is = no_call call is
 asked_in setting g to (Commit epoch count) call b is = no_call call is
+asked_in setting g to (SyncAsk epoch tag) call b is = no_call call is
+asked_in setting g to (SyncTell epoch tag count) call b is = no_call call is
 asked_in setting g to (Request epoch sent) call b is =
     subst (IsAsked setting.tag g) (same_some sent call is) (record { leader = to; epoch = epoch; is = b })
 
@@ -234,6 +236,8 @@ receives_owe setting law g n from (AckLeader epoch count) tags state spent b f =
 receives_owe setting law g n from (Propose epoch index entry) tags state spent b f = quietly setting g n tags state.peer.stable.history _ spent (hears_propose setting.tag g n state from epoch index entry f b)
 receives_owe setting law g n from (Ack epoch count) tags state spent b f = quietly setting g n tags state.peer.stable.history _ spent (hears_ack setting.tag setting.passes g n state from epoch count f)
 receives_owe setting law g n from (Commit epoch count) tags state spent b f = quietly setting g n tags state.peer.stable.history _ spent (hears_commit setting.tag g n state from epoch count f)
+receives_owe setting law g n from (SyncAsk epoch tag) tags state spent b f = quietly setting g n tags state.peer.stable.history _ spent (hears_sync_ask setting.tag g n state from epoch tag f)
+receives_owe setting law g n from (SyncTell epoch tag count) tags state spent b f = quietly setting g n tags state.peer.stable.history _ spent (hears_sync_tell setting.tag g n state from epoch tag count f)
 receives_owe setting law g n from (Request epoch call) tags state spent b f =
     let o = request_owes setting law g n state epoch call state.peer.role refl f b in (
       o,

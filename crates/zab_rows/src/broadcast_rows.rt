@@ -89,7 +89,7 @@ fn told(alloc: Global, server: &mut Server<Echo>, heard: Heard) -> Option<Messag
             proposes(alloc, server, (from, epoch, index), &entry)
         }
         Heard::Ack(from, epoch, length) => server.ack(alloc, &THREE, from, epoch, length).ok(),
-        Heard::Commit(from, epoch, length) => Some(server.commit(alloc, from, epoch, length)),
+        Heard::Commit(from, epoch, length) => server.commit(alloc, from, epoch, length).ok(),
         heard => discovers(alloc, server, heard),
     }
 }

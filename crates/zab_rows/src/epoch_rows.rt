@@ -6,6 +6,7 @@ use zab_epoch::{
     Body, Entry, History, Majority, Messages, Peer, Quorums, Role, RuleFault, Stable, Table, Vote,
     next_epoch,
 };
+use zab_shared::Shared;
 use zk_path::NoMemory;
 use zk_table::{Op, Txn};
 
@@ -388,7 +389,8 @@ fn histories_are_kept_in_order(rt: HostRuntime) {
 
 /// Sends a request and an acknowledgement, the second by appending.
 fn send(alloc: Global, messages: &mut Messages<u64>) -> Result<(), NoMemory> {
-    messages.send(1, 2, Body::Request { epoch: 3, call: 4 })?;
+    let call = Shared::new(alloc, 4)?;
+    messages.send(1, 2, Body::Request { epoch: 3, call })?;
     let mut more = Messages::new(alloc);
     more.send(
         2,

@@ -1,7 +1,7 @@
-//! How the faults of the rules are shown.
+//! How the faults of the rules, and of weights, are shown.
 
 use std::alloc::Global;
-use zab_epoch::RuleFault;
+use zab_epoch::{RuleFault, WeightFault};
 use zk_path::NoMemory;
 
 /// Each fault, and its number: that of a world's fault.
@@ -9,6 +9,13 @@ static FAULTS: [(RuleFault, &str); 3] = [
     (RuleFault::NotServing, "Z5"),
     (RuleFault::EpochFull, "Z7"),
     (RuleFault::NoMemory, "Z8"),
+];
+
+/// Each fault of weights, and its number.
+static WEIGHT_FAULTS: [(WeightFault, &str); 3] = [
+    (WeightFault::Count, "Q1"),
+    (WeightFault::NoWeight, "Q2"),
+    (WeightFault::NoMemory, "Q3"),
 ];
 
 /// Whether a fault is shown so.
@@ -20,5 +27,21 @@ fn is_shown_as(alloc: Global, fault: RuleFault, shown: &str) -> Result<bool, NoM
 fn faults_are_shown_by_their_numbers(rt: HostRuntime) {
     for (fault, shown) in &FAULTS {
         assert_eq!(rt; is_shown_as(rt.alloc(), *fault, shown), Ok(true), "{shown}");
+    }
+}
+
+/// Whether a fault of weights is shown so.
+fn weights_show(alloc: Global, fault: WeightFault, shown: &str) -> Result<bool, NoMemory> {
+    Ok(format!(in alloc; "{fault}")?.as_str() == shown)
+}
+
+#[test]
+fn faults_of_weights_are_shown_by_their_numbers(rt: HostRuntime) {
+    for (fault, shown) in &WEIGHT_FAULTS {
+        assert_eq!(rt;
+            weights_show(rt.alloc(), *fault, shown),
+            Ok(true),
+            "{shown}"
+        );
     }
 }

@@ -14,4 +14,8 @@ mod fault_rows;
 #[cfg(test)]
 mod refusal_rows;
 #[cfg(test)]
+mod sync_rows;
+#[cfg(test)]
 mod term_rows;
+#[cfg(test)]
+mod weight_rows;

@@ -1,5 +1,5 @@
 -- Each rule but those of calls keeps what is known of tags.
-use Rattle.std.proofs.Common.{◌≡◌, ℕ, ℤ, int_lt, ◌+◌, ◌<◌, ◌==◌, ◌&&◌, nat_lt, max, min, not, inl, inr, Bool, true, false, cond, List, [], ◌∷◌, length, drop, Option, Some, None, refl, arith}
+use Rattle.std.proofs.Common.{◌≡◌, ℕ, ℤ, int_lt, ◌+◌, ◌<◌, ◌==◌, ◌&&◌, nat_lt, max, min, not, inl, inr, Bool, true, false, cond, List, [], ◌∷◌, ◌++◌, length, drop, Option, Some, None, refl, arith}
 use Rattle.std.proofs.lemmas.Bool.Decides.{nat_tests}
 use Rattle.std.specs.List.{AllByRecursion}
 use Rattle.zab_epoch.specs.declared.history.Entry.{Entry}
@@ -16,9 +16,12 @@ use Rattle.zab_epoch.specs.Rules.{next_epoch, greatest, vote_of, with_promise, i
 use Rattle.zab_epoch.specs.Sending.{message, to_others}
 use Rattle.zab_epoch.specs.Tables.{silent_servers, put, marks_of}
 use Rattle.zab_broadcast.specs.declared.state.State.{State}
+use Rattle.zab_broadcast.specs.declared.syncs.Asked.{Asked}
+use Rattle.zab_broadcast.specs.declared.syncs.Caught.{Caught}
 use Rattle.zab_broadcast.specs.News.{proposals, commits, tells_all, entries_for, news}
 use Rattle.zab_broadcast.specs.Rules as rules
 use Rattle.zab_broadcast.specs.Rules.{Settled, settles, counted, raised, entered, is_next, is_above}
+use Rattle.zab_broadcast.specs.Syncs.{is_asked, told, left_asked, newly_caught}
 use Rattle.zab_tag_laws.proofs.TagFacts.{Owners, AreOwned, IsOwned, BodyFact, MessageFact, SentFact, IsPast, Holds, ServerFact, ActsFact, idles, rises, by_test, all_append, all_drop}
 
 -- ---- messages
@@ -327,8 +330,45 @@ ack_as_fact tag passes g n state from epoch count (Following leader synced) f = 
 pub hears_ack : {C : Type 0} (tag : C → ℕ) (passes : List Bool → Bool) (g : Owners C) (n : ℕ) (state : State) (from epoch count : ℕ) → ServerFact g n state → ActsFact tag g n (rules.ack {C = C} passes state from epoch count)
 hears_ack tag passes g n state from epoch count f = ack_as_fact tag passes g n state from epoch count state.peer.role f
 
+-- what is delivered, asked and answered says nothing of tags of calls
+still_with : {C : Type 0} (tag : C → ℕ) (g : Owners C) (n : ℕ) (state : State) (delivered : ℕ) (asked : List Asked) (caught : List Caught) → ServerFact g n state → ActsFact tag g n (rules.silent {C = C} (record state { delivered = delivered; asked = asked; caught = caught }))
+still_with tag g n state delivered asked caught f = record { server = f; sent = tt }
+
 pub hears_commit : {C : Type 0} (tag : C → ℕ) (g : Owners C) (n : ℕ) (state : State) (from epoch count : ℕ) → ServerFact g n state → ActsFact tag g n (rules.commit {C = C} state from epoch count)
 hears_commit tag g n state from epoch count f =
+    let delivered : ℕ = max state.delivered (min (length state.peer.stable.history) count) in
     by_test (ActsFact tag g n) (follows state.peer.role from && (epoch == state.peer.stable.current)) _ _
-    (λ e. still tag g n (record state { delivered = max state.delivered (min (length state.peer.stable.history) count) }) f)
+    (λ e. still_with tag g n state delivered (left_asked delivered state.asked) (state.caught ++ newly_caught delivered state.asked) f)
+    (λ e. still tag g n state f)
+
+sync_fact_as : {C : Type 0} (tag : C → ℕ) (g : Owners C) (n : ℕ) (state : State) (sync : ℕ) (role : Role) → ServerFact g n state → ActsFact tag g n (rules.sync_as {C = C} state sync role)
+sync_fact_as tag g n state sync Broadcast f = record { server = f; sent = tt }
+sync_fact_as tag g n state sync (Following leader synced) f =
+    by_test (ActsFact tag g n) synced _ _ (λ e. record { server = f; sent = (tt, tt) }) (λ e. record { server = f; sent = tt })
+sync_fact_as tag g n state sync Looking f = record { server = f; sent = tt }
+sync_fact_as tag g n state sync (Discover heard) f = record { server = f; sent = tt }
+sync_fact_as tag g n state sync (Choose votes joiners) f = record { server = f; sent = tt }
+sync_fact_as tag g n state sync Sync f = record { server = f; sent = tt }
+
+pub sync_fact : {C : Type 0} (tag : C → ℕ) (g : Owners C) (n : ℕ) (state : State) (sync : ℕ) → ServerFact g n state → ActsFact tag g n (rules.sync {C = C} state sync)
+sync_fact tag g n state sync f = sync_fact_as tag g n state sync state.peer.role f
+
+sync_ask_fact_as : {C : Type 0} (tag : C → ℕ) (g : Owners C) (n : ℕ) (state : State) (from epoch sync : ℕ) (role : Role) → ServerFact g n state → ActsFact tag g n (rules.sync_ask_as {C = C} state from epoch sync role)
+sync_ask_fact_as tag g n state from epoch sync Broadcast f =
+    by_test (ActsFact tag g n) (epoch == state.peer.stable.promised) _ _ (λ e. record { server = f; sent = (tt, tt) }) (λ e. still tag g n state f)
+sync_ask_fact_as tag g n state from epoch sync Looking f = still tag g n state f
+sync_ask_fact_as tag g n state from epoch sync (Discover heard) f = still tag g n state f
+sync_ask_fact_as tag g n state from epoch sync (Choose votes joiners) f = still tag g n state f
+sync_ask_fact_as tag g n state from epoch sync Sync f = still tag g n state f
+sync_ask_fact_as tag g n state from epoch sync (Following leader synced) f = still tag g n state f
+
+pub hears_sync_ask : {C : Type 0} (tag : C → ℕ) (g : Owners C) (n : ℕ) (state : State) (from epoch sync : ℕ) → ServerFact g n state → ActsFact tag g n (rules.sync_ask {C = C} state from epoch sync)
+hears_sync_ask tag g n state from epoch sync f = sync_ask_fact_as tag g n state from epoch sync state.peer.role f
+
+pub hears_sync_tell : {C : Type 0} (tag : C → ℕ) (g : Owners C) (n : ℕ) (state : State) (from epoch sync count : ℕ) → ServerFact g n state → ActsFact tag g n (rules.sync_tell {C = C} state from epoch sync count)
+hears_sync_tell tag g n state from epoch sync count f =
+    let delivered : ℕ = max state.delivered (min (length state.peer.stable.history) count) in
+    let asked : List Asked = told sync count state.asked in
+    by_test (ActsFact tag g n) ((follows state.peer.role from && (epoch == state.peer.stable.current)) && is_asked sync state.asked) _ _
+    (λ e. still_with tag g n state delivered (left_asked delivered asked) (state.caught ++ newly_caught delivered asked) f)
     (λ e. still tag g n state f)

@@ -11,4 +11,6 @@ mod fault_rows;
 #[cfg(test)]
 mod scripts;
 #[cfg(test)]
+mod weight_rows;
+#[cfg(test)]
 mod world_rows;

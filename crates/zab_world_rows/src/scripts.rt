@@ -4,7 +4,7 @@ ghost use Rattle.std.specs.Prelude.{◌≡◌, false, OnOk};
 
 use std::test::Fail;
 use zab_broadcast::{Echo, EchoCall};
-use zab_epoch::{Entries, Majority};
+use zab_epoch::{Entries, Majority, Quorums};
 use zab_world::{Event, Moved, World, WorldFault};
 
 /// A world of echoes.
@@ -66,7 +66,7 @@ pub fn restart(server: usize) -> Row {
 }
 
 /// Takes each event, and compares its answer.
-pub fn walk(world: &mut EchoWorld, rows: Vec<Row>) -> Result<(), Fail>
+pub fn walk<Q: Quorums + Drop>(world: &mut World<Echo, Q>, rows: Vec<Row>) -> Result<(), Fail>
     ensures { OnOk result (world.new.failed ≡ false) }
 {
     for row in rows {

@@ -1,9 +1,8 @@
 -- The code's ensembles are those of runs.
 use Rattle.std.proofs.Common.{◌≡◌, ◌≢◌, ℕ, ◌≤◌, Bool, true, false, List, [], ◌∷◌, ◌++◌, length, Some, Result, Ok, Err, OnOk, OnErr, refl, sym, ap, subst, ◌∙◌, arith}
 use Rattle.std.specs.Result.{is_err}
-use Rattle.zab_epoch.specs.declared.quorums.Majority.{Majority}
-use Rattle.zab_epoch.specs.Majorities.{majorities_share}
-use Rattle.zab_epoch.specs.Quorums.{is_majority}
+use Rattle.zab_quorums.specs.Shares.{heavy_share}
+use Rattle.zab_quorums.specs.Quorums.{is_heavy}
 use Rattle.std.proofs.lemmas.List.{length-append}
 use Rattle.zab_laws.specs.Prefixes.{IsPrefix}
 use Rattle.zab_runs.specs.declared.event.Event.{Event as WorldEvent}
@@ -37,27 +36,27 @@ use Rattle.zk_ensemble.specs.Views.{ReplicaView, EnsembleView, state_of, shown_b
 
 -- ---- how it stands
 
-stands : (below : Sight Majority Call) (rs : List ReplicaView) → IsOfRun below rs → Stands (profile_in below) below.servers (ensemble below.world (shown_by rs))
+stands : (below : Sight (List ℕ) Call) (rs : List ReplicaView) → IsOfRun below rs → Stands (profile_in below) below.servers (ensemble below.world (shown_by rs))
 stands below rs r =
     subst (Stands (profile_in below) below.servers) (sym r.reached)
-    (stands_in_run (profile_in below) entry_zxid (majorities_share below.quorums.servers) below.servers r.events)
+    (stands_in_run (profile_in below) entry_zxid (heavy_share below.quorums) below.servers r.events)
 
-record IsShownAs (below : Sight Majority Call) (shown : List Shown) (number : ℕ) : Type 0 where
+record IsShownAs (below : Sight (List ℕ) Call) (shown : List Shown) (number : ℕ) : Type 0 where
   pub it : Shown
   pub is : shown_at shown number ≡ Some it
   pub shows : Shows (delivered_of below.world number) it
 
-shown_as : (below : Sight Majority Call) (rs : List ReplicaView) (number : ℕ) → IsOfRun below rs → is_server below.servers number ≡ true → IsShownAs below (shown_by rs) number
+shown_as : (below : Sight (List ℕ) Call) (rs : List ReplicaView) (number : ℕ) → IsOfRun below rs → is_server below.servers number ≡ true → IsShownAs below (shown_by rs) number
 shown_as below rs number r one =
     let s = stands below rs r in
     let there = is_there (shown_by rs) number (ap (λ n. is_server n number) s.count ∙ one) in
     record { it = there.it; is = there.is; shows = s.shows number there.it there.is }
 
 -- what is answered and the tree are the table's over the delivered list
-pub answers_of_table : (below : Sight Majority Call) (rs : List ReplicaView) (number : ℕ) → IsOfRun below rs → is_server below.servers number ≡ true → answers_in (shown_at (shown_by rs) number) ≡ answered_of (delivered_of below.world number)
+pub answers_of_table : (below : Sight (List ℕ) Call) (rs : List ReplicaView) (number : ℕ) → IsOfRun below rs → is_server below.servers number ≡ true → answers_in (shown_at (shown_by rs) number) ≡ answered_of (delivered_of below.world number)
 answers_of_table below rs number r one = let s = shown_as below rs number r one in ap answers_in s.is ∙ s.shows.answers
 
-pub tree_of_table : (below : Sight Majority Call) (rs : List ReplicaView) (number : ℕ) → IsOfRun below rs → is_server below.servers number ≡ true → tree_in (shown_at (shown_by rs) number) ≡ tree_of (txns_of (delivered_of below.world number))
+pub tree_of_table : (below : Sight (List ℕ) Call) (rs : List ReplicaView) (number : ℕ) → IsOfRun below rs → is_server below.servers number ≡ true → tree_in (shown_at (shown_by rs) number) ≡ tree_of (txns_of (delivered_of below.world number))
 tree_of_table below rs number r one = let s = shown_as below rs number r one in ap tree_in s.is ∙ s.shows.tree
 
 -- ---- an event more
@@ -66,11 +65,11 @@ prefix_length : {X : Type 0} (a b : List X) → IsPrefix a b → length a ≤ le
 prefix_length a b p = grind (arith, length-append a p.rest, p.is)
 
 -- a server that runs has delivered at least what it had
-pub no_shorter : (below : Sight Majority Call) (rs : List ReplicaView) (event : WorldEvent Call) (next : World Call) (answer : Result Moved WorldFault) (number : ℕ) → IsOfRun below rs → (next, answer) ≡ zab.happens (profile_in below) below.world event → is_running next number ≡ true → length (delivered_of below.world number) ≤ length (delivered_of next number)
+pub no_shorter : (below : Sight (List ℕ) Call) (rs : List ReplicaView) (event : WorldEvent Call) (next : World Call) (answer : Result Moved WorldFault) (number : ℕ) → IsOfRun below rs → (next, answer) ≡ zab.happens (profile_in below) below.world event → is_running next number ≡ true → length (delivered_of below.world number) ≤ length (delivered_of next number)
 no_shorter below rs event next answer number r is runs =
     let s = stands below rs r in
     let same : next ≡ (zab.happens (profile_in below) below.world event).0 = ap (λ (p : World Call × Result Moved WorldFault). p.0) is in
-    let more = grows (profile_in below) entry_zxid (majorities_share below.quorums.servers) below.servers s.es event below.world number s.world (ap (λ w. is_running w number) (sym same) ∙ runs) in
+    let more = grows (profile_in below) entry_zxid (heavy_share below.quorums) below.servers s.es event below.world number s.world (ap (λ w. is_running w number) (sym same) ∙ runs) in
     prefix_length (delivered_of below.world number) (delivered_of next number) (subst (λ w. IsPrefix (delivered_of below.world number) (delivered_of w number)) (sym same) more)
 
 -- what the code does is what happens
@@ -90,29 +89,29 @@ pub record IsViewOfRun (v : EnsembleView) : Type 0 where
   pub fit : FitEvents some
   pub reached : state_of v ≡ (run (profile_in v.below) v.below.servers some).0
 
-pub view_of_run : (below : Sight Majority Call) (rs : List ReplicaView) (failed : Bool) → IsOfRun below rs → IsViewOfRun (record { below = below; shown = shown_by rs; failed = failed })
+pub view_of_run : (below : Sight (List ℕ) Call) (rs : List ReplicaView) (failed : Bool) → IsOfRun below rs → IsViewOfRun (record { below = below; shown = shown_by rs; failed = failed })
 view_of_run below rs failed r = record { some = r.events; fit = r.fit; reached = r.reached }
 
 pub next_in_run : (v : EnsembleView) (event : Event) (y : Ensemble) (told : Told) → IsViewOfRun v → FitsEvent event → (y, told) ≡ happens (profile_in v.below) (state_of v) event → IsNextInRun (profile_in v.below) v.below.servers (state_of v) event y
 next_in_run v event y told r fits is =
-    follows (is_majority v.below.quorums.servers) (majorities_share v.below.quorums.servers) v.below.servers r.some (state_of v) event y r.reached
+    follows (is_heavy v.below.quorums) (heavy_share v.below.quorums) v.below.servers r.some (state_of v) event y r.reached
     (one_more (profile_in v.below) v.below.servers (state_of v) y told r.some event r.reached is)
     (fit_more r.some event r.fit fits)
 
 -- and so it is that of a run again
-pub of_run : (below next : Sight Majority Call) (rs news : List ReplicaView) (event : Event) (told : Told) → IsOfRun below rs → FitsEvent event → next.quorums ≡ below.quorums → next.servers ≡ below.servers → next.failed ≡ false → AreRunning news → (ensemble next.world (shown_by news), told) ≡ happens (profile_in below) (ensemble below.world (shown_by rs)) event → IsOfRun next news
+pub of_run : (below next : Sight (List ℕ) Call) (rs news : List ReplicaView) (event : Event) (told : Told) → IsOfRun below rs → FitsEvent event → next.quorums ≡ below.quorums → next.servers ≡ below.servers → next.failed ≡ false → AreRunning news → (ensemble next.world (shown_by news), told) ≡ happens (profile_in below) (ensemble below.world (shown_by rs)) event → IsOfRun next news
 of_run below next rs news event told r fits quorums servers fine running is = record {
   fine = fine;
   running = running;
   events = r.events ++ event ∷ [];
   fit = fit_more r.events event r.fit fits;
   reached = one_more (profile_in below) below.servers (ensemble below.world (shown_by rs)) (ensemble next.world (shown_by news)) told r.events event r.reached is
-      ∙ ap (λ (q : Majority). (run (profile_by (is_majority q.servers)) below.servers (r.events ++ event ∷ [])).0) (sym quorums)
+      ∙ ap (λ (q : List ℕ). (run (profile_by (is_heavy q)) below.servers (r.events ++ event ∷ [])).0) (sym quorums)
       ∙ ap (λ n. (run (profile_in next) n (r.events ++ event ∷ [])).0) (sym servers);
 }
 
 -- a new one
-pub new_of_run : (below : Sight Majority Call) (rs : List ReplicaView) → below.failed ≡ false → AreRunning rs → ensemble below.world (shown_by rs) ≡ new_ensemble below.servers → IsOfRun below rs
+pub new_of_run : (below : Sight (List ℕ) Call) (rs : List ReplicaView) → below.failed ≡ false → AreRunning rs → ensemble below.world (shown_by rs) ≡ new_ensemble below.servers → IsOfRun below rs
 new_of_run below rs fine running is = record { fine = fine; running = running; events = []; fit = tt; reached = is }
 
 -- ---- what the code does is what happens
@@ -121,7 +120,7 @@ pub ok_of : {T E P : Type 0} (r : Result T E) → OnOk r P → is_err r ≡ fals
 ok_of (Ok x) p is = p
 ok_of (Err e) p is = absurd cc
 
-pub went_on : (below next : Sight Majority Call) (rs given news : List ReplicaView) (event : WorldEvent Call) (answer : Result Moved WorldFault) (messages : List (Message Call)) (before number : ℕ) → given ≡ rs → messages ≡ below.world.messages → number ≡ mover (world below.world.servers messages below.world.tags) event → before ≡ length (delivered_of below.world number) → (next.world, answer) ≡ zab.happens (profile_in below) below.world event → shown_by news ≡ at_server (shown_then (is_running next.world number) before (delivered_of next.world number)) (shown_by given) number → (ensemble next.world (shown_by news), of_world answer) ≡ happens (profile_in below) (ensemble below.world (shown_by rs)) (events.World event)
+pub went_on : (below next : Sight (List ℕ) Call) (rs given news : List ReplicaView) (event : WorldEvent Call) (answer : Result Moved WorldFault) (messages : List (Message Call)) (before number : ℕ) → given ≡ rs → messages ≡ below.world.messages → number ≡ mover (world below.world.servers messages below.world.tags) event → before ≡ length (delivered_of below.world number) → (next.world, answer) ≡ zab.happens (profile_in below) below.world event → shown_by news ≡ at_server (shown_then (is_running next.world number) before (delivered_of next.world number)) (shown_by given) number → (ensemble next.world (shown_by news), of_world answer) ≡ happens (profile_in below) (ensemble below.world (shown_by rs)) (events.World event)
 went_on below next rs given news event answer messages before number all same at had is shows =
     moved (profile_in below) below.world (shown_by rs) (shown_by news) event next.world answer number
     (at ∙ ap (λ m. mover (world below.world.servers m below.world.tags) event) same) is
@@ -130,7 +129,7 @@ went_on below next rs given news event answer messages before number all same at
     ∙ ap (λ n. at_server (shown_then (is_running next.world number) n (delivered_of next.world number)) (shown_by rs) number) had)
 
 -- and it is told so
-pub went_on_so : (below next : Sight Majority Call) (rs given news : List ReplicaView) (event : WorldEvent Call) (answer : Result Moved WorldFault) (messages : List (Message Call)) (before number : ℕ) (items : List ReplicaView) (said : Told) → given ≡ rs → messages ≡ below.world.messages → number ≡ mover (world below.world.servers messages below.world.tags) event → before ≡ length (delivered_of below.world number) → (next.world, answer) ≡ zab.happens (profile_in below) below.world event → shown_by news ≡ at_server (shown_then (is_running next.world number) before (delivered_of next.world number)) (shown_by given) number → items ≡ news → said ≡ of_world answer → (ensemble next.world (shown_by items), said) ≡ happens (profile_in below) (ensemble below.world (shown_by rs)) (events.World event)
+pub went_on_so : (below next : Sight (List ℕ) Call) (rs given news : List ReplicaView) (event : WorldEvent Call) (answer : Result Moved WorldFault) (messages : List (Message Call)) (before number : ℕ) (items : List ReplicaView) (said : Told) → given ≡ rs → messages ≡ below.world.messages → number ≡ mover (world below.world.servers messages below.world.tags) event → before ≡ length (delivered_of below.world number) → (next.world, answer) ≡ zab.happens (profile_in below) below.world event → shown_by news ≡ at_server (shown_then (is_running next.world number) before (delivered_of next.world number)) (shown_by given) number → items ≡ news → said ≡ of_world answer → (ensemble next.world (shown_by items), said) ≡ happens (profile_in below) (ensemble below.world (shown_by rs)) (events.World event)
 went_on_so below next rs given news event answer messages before number items said all same at had is shows keeps tells =
     ap (λ l. (ensemble next.world (shown_by l), said)) keeps
     ∙ ap (λ t. (ensemble next.world (shown_by news), t)) tells
@@ -155,7 +154,7 @@ peeked w rs given question told said all was runs is =
     ∙ ap (λ (p : Ensemble × Told). p.1) (sym (reads_running (ensemble w (shown_by rs)) question (running w.servers question.server) (sym was ∙ runs)))
 
 -- after a read it is still that of a run
-pub read_of_run : (below : Sight Majority Call) (rs given news : List ReplicaView) (question : Question) (told : Told) → IsOfRun below rs → given ≡ rs → AreRunning news → OnErr told (news ≡ given) → (told ≢ Err faults.NoMemory → (ensemble below.world (shown_by news), told) ≡ reads (ensemble below.world (shown_by rs)) question (running below.world.servers question.server)) → IsOfRun below news
+pub read_of_run : (below : Sight (List ℕ) Call) (rs given news : List ReplicaView) (question : Question) (told : Told) → IsOfRun below rs → given ≡ rs → AreRunning news → OnErr told (news ≡ given) → (told ≢ Err faults.NoMemory → (ensemble below.world (shown_by news), told) ≡ reads (ensemble below.world (shown_by rs)) question (running below.world.servers question.server)) → IsOfRun below news
 read_of_run below rs given news question (Err fault) r all run same acts = subst (IsOfRun below) (sym (same ∙ all)) r
 read_of_run below rs given news question (Ok answer) r all run same acts =
     of_run below below rs news (events.Read question) (Ok answer) r tt refl refl r.fine run (acts (λ e. absurd cc))

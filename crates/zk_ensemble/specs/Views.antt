@@ -2,8 +2,7 @@
 use Rattle.std.specs.Prelude.{◌≡◌, ℕ, Bool, true, false, List, [], Option, Some, None, map, refl}
 use Rattle.std.specs.Coded.{Coded, code_by, coded×, coded_list, coded_bool, coded_ℕ}
 use Rattle.std.specs.List.{AllByRecursion}
-use Rattle.zab_epoch.specs.declared.quorums.Majority.{Majority}
-use Rattle.zab_epoch.specs.Quorums.{is_majority}
+use Rattle.zab_quorums.specs.Quorums.{is_heavy}
 use Rattle.zab_epoch.specs.declared.message.Message.{Message}
 use Rattle.zab_broadcast.specs.declared.state.State.{State as ServerState}
 use Rattle.zab_runs.specs.Movers.{mover}
@@ -54,7 +53,7 @@ shown_in (Some it) = Some it.shown
 
 -- the world under it, what its servers show, and whether it was refused memory
 pub record EnsembleView : Type 0 where
-  pub below : Sight Majority Call
+  pub below : Sight (List ℕ) Call
   pub shown : List Shown
   pub failed : Bool
 
@@ -65,23 +64,23 @@ abbrev pub world_code : Coded ServerState → Coded (Message Call) → Coded (Wo
 world_code state message =
     code_by (List Standing × (List (Message Call) × List ℕ)) (coded× (coded_list (standing_code state)) (coded× (coded_list message) (coded_list coded_ℕ))) (λ w. (w.servers, (w.messages, w.tags))) (λ p. record { servers = p.0; messages = p.1.0; tags = p.1.1 }) (λ _. refl)
 
-abbrev pub below_code : Coded Majority → Coded (World Call) → Coded (Sight Majority Call)
-below_code quorums world =
-    code_by (Majority × (ℕ × (Bool × World Call))) (coded× quorums (coded× coded_ℕ (coded× coded_bool world))) (λ s. (s.quorums, (s.servers, (s.failed, s.world)))) (λ p. record { quorums = p.0; servers = p.1.0; failed = p.1.1.0; world = p.1.1.1 }) (λ _. refl)
+abbrev pub below_code : Coded (World Call) → Coded (Sight (List ℕ) Call)
+below_code world =
+    code_by (List ℕ × (ℕ × (Bool × World Call))) (coded× (coded_list coded_ℕ) (coded× coded_ℕ (coded× coded_bool world))) (λ s. (s.quorums, (s.servers, (s.failed, s.world)))) (λ p. record { quorums = p.0; servers = p.1.0; failed = p.1.1.0; world = p.1.1.1 }) (λ _. refl)
 
-abbrev pub ensemble_code : Coded (Sight Majority Call) → Coded Shown → Coded EnsembleView
+abbrev pub ensemble_code : Coded (Sight (List ℕ) Call) → Coded Shown → Coded EnsembleView
 ensemble_code below shown =
-    code_by (Sight Majority Call × (List Shown × Bool)) (coded× below (coded× (coded_list shown) coded_bool)) (λ e. (e.below, (e.shown, e.failed))) (λ p. record { below = p.0; shown = p.1.0; failed = p.1.1 }) (λ _. refl)
+    code_by (Sight (List ℕ) Call × (List Shown × Bool)) (coded× below (coded× (coded_list shown) coded_bool)) (λ e. (e.below, (e.shown, e.failed))) (λ p. record { below = p.0; shown = p.1.0; failed = p.1.1 }) (λ _. refl)
 
 abbrev pub state_of : EnsembleView → Ensemble
 state_of it = ensemble it.below.world it.shown
 
--- its quorums are the majorities
-abbrev pub profile_in : Sight Majority Call → Profile Call
-profile_in below = profile_by (is_majority below.quorums.servers)
+-- its quorums are the sets of servers with more than half of the weight
+abbrev pub profile_in : Sight (List ℕ) Call → Profile Call
+profile_in below = profile_by (is_heavy below.quorums)
 
 -- one that has not failed is that of a run, of events whose sessions are numbers of 64 bits
-pub record IsOfRun (below : Sight Majority Call) (replicas : List ReplicaView) : Type 0 where
+pub record IsOfRun (below : Sight (List ℕ) Call) (replicas : List ReplicaView) : Type 0 where
   pub fine : below.failed ≡ false
   pub running : AreRunning replicas
   pub events : List Event

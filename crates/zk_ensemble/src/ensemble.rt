@@ -7,7 +7,7 @@ use crate::moving::{catch_up, find, look, mover, peek};
 use crate::replica::Replica;
 use std::alloc::Global;
 use std::marker::Model;
-use zab_epoch::{Entries, Majority, Message};
+use zab_epoch::{Entries, Message, Weighted};
 use zab_runs::Moved;
 use zab_world::{World, WorldFault};
 use zk_log::Journal;
@@ -26,13 +26,12 @@ use zk_watch::Fired;
 pub struct Ensemble {
     alloc: Global,
     failed: bool,
-    world: World<Preparer, Majority>,
+    world: World<Preparer, Weighted>,
     replicas: Vec<Replica>,
 }
 
 impl Model for Ensemble {
     ghost use Rattle.std.specs.Prelude.{◌≡◌, false};
-    ghost use Rattle.zab_epoch.specs.contracts.quorums.Majority as majority;
     ghost use Rattle.zab_epoch.specs.contracts.message.Message as message;
     ghost use Rattle.zab_broadcast.specs.contracts.state.State as state;
     ghost use Rattle.zk_prepare.specs.contracts.call.Call as call;
@@ -45,7 +44,7 @@ impl Model for Ensemble {
     ghost Value = { EnsembleView };
 
     ghost coded = { ensemble_code
-        (below_code majority.the_row.coded (world_code state.the_row.coded (message.the_row call.the_row).coded))
+        (below_code (world_code state.the_row.coded (message.the_row call.the_row).coded))
         (shown_code node.the_row.coded answered.the_row.coded watch.the_row.coded fired.the_row.coded) };
 
     ghost view = { λ it. record { below = it.world; shown = shown_by it.replicas.items; failed = it.failed } };
@@ -54,7 +53,7 @@ impl Model for Ensemble {
 }
 
 impl Ensemble {
-    ghost use Rattle.std.specs.Prelude.{◌≡◌, ◌≢◌, replicate, true, false, IfOk, Err};
+    ghost use Rattle.std.specs.Prelude.{◌≡◌, ◌≢◌, replicate, length, true, false, IfOk, Err};
     ghost use Rattle.std.specs.Option.{option_copied, option_map};
     ghost use Rattle.zab_runs.specs.Runs.{delivered_of, stable_of};
     ghost use Rattle.zab_runs.specs.Worlds.{new_world, is_server};
@@ -67,11 +66,11 @@ impl Ensemble {
     ghost use Rattle.zk_table.specs.Histories.{tree_of};
     ghost use Rattle.zk_ensemble.specs.Views.{state_of, profile_in, server_of, IsRefused, answers_in, events_in, tree_in};
 
-    /// A new ensemble of so many servers, all of them up, in which the quorums are the majorities.
+    /// A new ensemble of so many servers, all of them up, each of weight 1: the quorums are the majorities.
     pub fn new(alloc: Global, servers: usize) -> Result<Ensemble, NoMemory>
         ensures { IfOk result (λ it. it ≡ record {
           below = record {
-            quorums = record { servers = servers };
+            quorums = replicate servers 1;
             servers = servers;
             failed = false;
             world = new_world servers;
@@ -80,7 +79,25 @@ impl Ensemble {
           failed = false;
         }) }
     {
-        let world = World::new(alloc, servers)?;
+        Ensemble::with(alloc, Weighted::even(alloc, servers)?)
+    }
+
+    /// A new ensemble of a server for each weight, all of them up, in which the quorums are the sets with more than half of
+    /// the weight. The weights never change.
+    pub fn with(alloc: Global, weights: Weighted) -> Result<Ensemble, NoMemory>
+        ensures { IfOk result (λ it. it ≡ record {
+          below = record {
+            quorums = weights;
+            servers = length weights;
+            failed = false;
+            world = new_world (length weights);
+          };
+          shown = replicate (length weights) fresh;
+          failed = false;
+        }) }
+    {
+        let servers = weights.servers();
+        let world = World::with(alloc, servers, weights)?;
         let mut replicas = Vec::new(alloc);
         for _ in 0..servers {
             replicas.push(Replica::new(alloc)?)?;

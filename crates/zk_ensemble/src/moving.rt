@@ -14,7 +14,7 @@ ghost use Rattle.std.specs.Option.{option_copied};
 
 use crate::replica::Replica;
 use std::alloc::Global;
-use zab_epoch::{Majority, Message};
+use zab_epoch::{Message, Weighted};
 use zab_world::World;
 use zk_path::NoMemory;
 use zk_prepare::Call;
@@ -63,7 +63,7 @@ pub(crate) fn find(replicas: &[Replica], number: usize) -> Option<&Replica>
 /// The server delivers what it had not delivered before; one that is down shows what a new one does.
 pub(crate) fn catch_up(
     alloc: Global,
-    world: &World<Preparer, Majority>,
+    world: &World<Preparer, Weighted>,
     replicas: &mut [Replica],
     number: usize,
     before: usize,

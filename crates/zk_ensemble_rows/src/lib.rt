@@ -18,3 +18,5 @@ mod read_rows;
 mod reports;
 #[cfg(test)]
 mod scripts;
+#[cfg(test)]
+mod weight_rows;

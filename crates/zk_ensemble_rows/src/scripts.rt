@@ -47,9 +47,17 @@ fn walk(alloc: Global, ensemble: &mut Ensemble, rows: &[Row]) -> Result<Option<u
     Ok(None)
 }
 
-/// Plays scripts one after the other. The places, script and row, of the first row that differs.
+/// Plays scripts one after the other, with three servers. The places, script and row, of the first row that differs.
 pub fn play(alloc: Global, scripts: &[&[Row]]) -> Result<Option<(usize, usize)>, Fail> {
-    let mut ensemble = Ensemble::new(alloc, 3)?;
+    play_in(alloc, Ensemble::new(alloc, 3)?, scripts)
+}
+
+/// The same in this ensemble.
+pub fn play_in(
+    alloc: Global,
+    mut ensemble: Ensemble,
+    scripts: &[&[Row]],
+) -> Result<Option<(usize, usize)>, Fail> {
     for (number, script) in scripts.iter().enumerate() {
         if let Some(place) = walk(alloc, &mut ensemble, script)? {
             return Ok(Some((number, place)));

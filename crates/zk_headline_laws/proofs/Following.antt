@@ -1,6 +1,6 @@
 -- One ensemble follows another in a run.
 use Rattle.std.proofs.Common.{◌≡◌, ℕ, Bool, List, [], ◌∷◌, ◌++◌, refl}
-use Rattle.zab_epoch.specs.Quorums.{IsQuorumSystem}
+use Rattle.zab_quorums.specs.Quorums.{IsQuorumSystem}
 use Rattle.zab_move_laws.proofs.Telling.{all_append}
 use Rattle.zab_origin_laws.proofs.Origins.{tagged_once}
 use Rattle.zab_agreement_laws.proofs.AgreeRuns.{runs_agree}

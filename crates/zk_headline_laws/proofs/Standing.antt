@@ -1,7 +1,7 @@
 -- How ensembles stand in a run: the world is that of the world's events, and each server shows what it has delivered.
 use Rattle.std.proofs.Common.{◌≡◌, ℕ, inl, inr, Bool, true, false, cond, List, [], ◌∷◌, ◌++◌, length, Option, Some, None, Result, Ok, Err, refl, sym, ap, subst, ◌∙◌, int_lt}
 use Rattle.zab_epoch.specs.declared.history.Entry.{Entry}
-use Rattle.zab_epoch.specs.Quorums.{IsQuorumSystem}
+use Rattle.zab_quorums.specs.Quorums.{IsQuorumSystem}
 use Rattle.zab_laws.specs.Prefixes.{IsPrefix}
 use Rattle.zab_move_laws.proofs.Hearing.{CarriesZxid}
 use Rattle.zab_runs.specs.declared.event.Event.{Event as WorldEvent}

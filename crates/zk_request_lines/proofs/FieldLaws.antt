@@ -120,7 +120,7 @@ digest_exact =
 ids_begin : BeginsWithEnd id_text
 ids_begin id rest = refl
 
-many_takes : {X : Type 0} (spell : X → List ℕ) (Fits : X → Type 0) (at : List ℕ → Option (X × List ℕ)) → IsExact spell Fits at → (n : ℕ) (bytes : List ℕ) (xs : List X) (rest : List ℕ) → many_at at n bytes ≡ Some (xs, rest) → (length xs ≡ n) × AreTaken spell Fits bytes xs rest
+pub many_takes : {X : Type 0} (spell : X → List ℕ) (Fits : X → Type 0) (at : List ℕ → Option (X × List ℕ)) → IsExact spell Fits at → (n : ℕ) (bytes : List ℕ) (xs : List X) (rest : List ℕ) → many_at at n bytes ≡ Some (xs, rest) → (length xs ≡ n) × AreTaken spell Fits bytes xs rest
 unfolding many_at
 many_takes {X} spell Fits at f zero bytes xs rest h =
     let same : [] ≡ xs = first_is {A = List X} {B = List ℕ} ([], bytes) (xs, rest) h in
@@ -132,7 +132,7 @@ many_takes {X} spell Fits at f (suc n) bytes xs rest h =
     let others = many_takes spell Fits at f n p.0.1 y.0.0 y.0.1 y.1 in
     (sym (ap length y.2) ∙ ap suc others.0, taken_first spell Fits bytes p.0.1 p.0.0 y.0 xs rest one.0 one.1 others.1 y.2 y.3)
 
-many_again : {X : Type 0} (spell : X → List ℕ) (Fits : X → Type 0) (at : List ℕ → Option (X × List ℕ)) → IsExact spell Fits at → BeginsWithEnd spell → (xs : List X) (rest : List ℕ) → AllByRecursion Fits xs → IsEnd rest → many_at at (length xs) (flat_map spell xs ++ rest) ≡ Some (xs, rest)
+pub many_again : {X : Type 0} (spell : X → List ℕ) (Fits : X → Type 0) (at : List ℕ → Option (X × List ℕ)) → IsExact spell Fits at → BeginsWithEnd spell → (xs : List X) (rest : List ℕ) → AllByRecursion Fits xs → IsEnd rest → many_at at (length xs) (flat_map spell xs ++ rest) ≡ Some (xs, rest)
 unfolding many_at
 many_again spell Fits at f ends [] rest fits e = refl
 many_again {X} spell Fits at f ends (x ∷ xs) rest fits e =

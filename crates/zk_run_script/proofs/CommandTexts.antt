@@ -29,8 +29,8 @@ use Rattle.zk_run_script.specs.declared.command.Command.{Command}
 use Rattle.zk_run_script.specs.declared.command.Command.TheVariants as commands
 use Rattle.zk_run_script.specs.declared.command.Report.{Report}
 use Rattle.zk_run_script.specs.declared.command.Report.TheVariants as reports
-use Rattle.zk_run_script.specs.Commands.{IsNumber, SpellsNumber, SpellsSubmit, SpellsExpire, SpellsRead, report_word, SpellsCommand, IsAmong, Says, SaysNothing, ReadsCommand, SaysServers, ReadsServers}
-use Rattle.zk_run_script.specs.Reading.{two_at, SubmitFields, submit_at, submitted, ExpireFields, expire_at, expired, ReadFields, read_at, read_by, reported_at, command_words, command_at, is_among, is_left_alone, among_result, is_count, is_counted, counted_result, servers_at}
+use Rattle.zk_run_script.specs.Commands.{IsNumber, SpellsNumber, SpellsSubmit, SpellsExpire, SpellsRead, report_word, SpellsCommand, IsAmong, Says, SaysNothing, ReadsCommand}
+use Rattle.zk_run_script.specs.Reading.{two_at, SubmitFields, submit_at, submitted, ExpireFields, expire_at, expired, ReadFields, read_at, read_by, reported_at, command_words, command_at, is_among, is_left_alone, among_result}
 use Rattle.zk_run_script.proofs.Wholes.{whole_last, whole_next, next_is, last_is, begins, behind_whole, mapped_whole, IsTested, tested_is, tested_only, tested_none, untold, and_both}
 
 -- ---- fields
@@ -364,51 +364,3 @@ module _ (servers : ℕ) where
   reads_command line left (Err causes.Word) read = no_command line read
   reads_command line left (Err causes.Path) read = no_command line read
   reads_command line left (Err causes.NoNewline) read = no_command line read
-
--- ---- the first line
-
-whole_servers : ReadsWhole (SpellsNumber (codes "servers")) servers_at
-unfolding servers_at front_of back_of
-whole_servers = record {
-  takes = λ bytes x rest h.
-      by_word_takes (SpellsNumber (codes "servers")) ((codes "servers", spaced number_at) ∷ []) (behind_number, tt) bytes x rest h;
-  again = λ x text s. ap servers_at s.1 ∙ number_read x s.0;
-}
-  where
-    behind_number : TakesBehind (SpellsNumber (codes "servers")) (codes "servers") (spaced number_at)
-    behind_number = λ bytes x rest h.
-        let t = whole_number.takes bytes x rest h in
-        (codes "servers" ++ t.0, number_made (codes "servers") x t.0 t.1, ap (λ (b : List ℕ). codes "servers" ++ b) t.2)
-
-counted_so : (line : List ℕ) (n : ℕ) → SaysServers line n → IsTested (SpellsNumber (codes "servers")) is_count n line
-counted_so line n s =
-    let few : IsNumber n = omega (arith, s.most) in
-    let least = s.least in
-    let most = s.most in
-    let passes : is_count n ≡ true = grind (arith, nat_tests) in
-    record { spells = (few, s.spelled); passes = passes }
-
-found_servers : (line left : List ℕ) (n : ℕ) (passes : Bool) → is_counted left n ≡ passes → servers_at line ≡ Some (n, left) → ReadsServers line (cond passes (Ok n) (Err causes.Fields))
-found_servers line left n true passed read =
-    let t = tested_is (SpellsNumber (codes "servers")) servers_at whole_servers is_count line n left read passed in
-    let both_ends = and_both (nat_le 2 n) (nat_le n 15) t.passes in
-    let one = both_ends.0 in
-    let two = both_ends.1 in
-    let least : 2 ≤ n = grind (arith, nat_tests) in
-    let most : n ≤ 15 = grind (arith, nat_tests) in
-    (record { least = least; most = most; spelled = t.spells.1 }, λ other s. tested_only (SpellsNumber (codes "servers")) servers_at whole_servers is_count line n other left read (counted_so line other s))
-found_servers line left n false failed read = λ other s. tested_none (SpellsNumber (codes "servers")) servers_at whole_servers is_count line n other left read failed (counted_so line other s)
-
-no_servers : (line : List ℕ) → servers_at line ≡ None → (servers : ℕ) → SaysServers line servers → ⊥
-no_servers line none servers s = untold (SpellsNumber (codes "servers")) servers_at whole_servers is_count line servers none (counted_so line servers s)
-
-pub reads_servers : (line left : List ℕ) (r : Result ℕ ListCause) → IfErr r (λ cause. cause ≢ causes.NoMemory) → Takes r left (servers_at line) → ReadsServers line (counted_result left r)
-reads_servers line left (Ok n) memory read = found_servers line left n (is_counted left n) refl read
-reads_servers line left (Err causes.NoMemory) memory read = absurd (memory refl)
-reads_servers line left (Err causes.Fields) memory read = no_servers line read
-reads_servers line left (Err causes.Number) memory read = no_servers line read
-reads_servers line left (Err causes.Quote) memory read = no_servers line read
-reads_servers line left (Err causes.Hex) memory read = no_servers line read
-reads_servers line left (Err causes.Word) memory read = no_servers line read
-reads_servers line left (Err causes.Path) memory read = no_servers line read
-reads_servers line left (Err causes.NoNewline) memory read = no_servers line read

@@ -5,6 +5,7 @@ use Rattle.zk_ensemble.specs.Views.{EnsembleView}
 use Rattle.zk_listing.specs.declared.fault.ListCause.{ListCause}
 use Rattle.zk_listing.specs.declared.fault.ListCause.TheVariants as causes
 use Rattle.zk_path.specs.declared.memory.NoMemory.{NoMemory}
+use Rattle.zk_first_line.specs.FirstLines.{SaysServers, ReadsServers}
 use Rattle.zk_run_script.specs.Commands.{Says, SaysNothing, ReadsCommand}
 use Rattle.zk_run_script.specs.declared.command.Command.{Command}
 use Rattle.zk_reports.specs.Lines.{lines_of}
@@ -118,3 +119,13 @@ says_nothing servers line causes.Hex other read = read
 says_nothing servers line causes.Word other read = read
 says_nothing servers line causes.Path other read = read
 says_nothing servers line causes.NoNewline other read = read
+
+pub says_no_servers : (line : List ℕ) (cause : ListCause) → (cause ≡ causes.NoMemory → ⊥) → ReadsServers line (Err cause) → (weights : List ℕ) → SaysServers line weights → ⊥
+says_no_servers line causes.NoMemory other read = absurd (other refl)
+says_no_servers line causes.Fields other read = read
+says_no_servers line causes.Number other read = read
+says_no_servers line causes.Quote other read = read
+says_no_servers line causes.Hex other read = read
+says_no_servers line causes.Word other read = read
+says_no_servers line causes.Path other read = read
+says_no_servers line causes.NoNewline other read = read

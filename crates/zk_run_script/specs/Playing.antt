@@ -1,5 +1,5 @@
 -- What an ensemble answers a command of a run script. This project's own.
-use Rattle.std.specs.Prelude.{◌≡◌, ◌≢◌, ◌++◌, ℕ, List, replicate, Bool, true, false, if◌then◌else◌, Result, Ok, Err, OnOk}
+use Rattle.std.specs.Prelude.{◌≡◌, ◌≢◌, ◌++◌, ℕ, List, length, replicate, Bool, true, false, if◌then◌else◌, Result, Ok, Err, OnOk}
 use Rattle.zab_epoch.specs.Entries.{txns_of}
 use Rattle.zab_runs.specs.Runs.{delivered_of, history_of}
 use Rattle.zab_runs.specs.Worlds.{new_world}
@@ -17,11 +17,11 @@ use Rattle.zk_runs.specs.Ensembles.{Told, fresh, happens, shown_at}
 use Rattle.zk_reports.specs.Reports.{line}
 use Rattle.zk_txn.specs.Codes.{bad_arguments}
 
--- a new ensemble of so many servers
-abbrev pub started : ℕ → EnsembleView
-started servers = record {
-  below = record { quorums = record { servers = servers }; servers = servers; failed = false; world = new_world servers };
-  shown = replicate servers fresh;
+-- a new ensemble of a server for each weight
+abbrev pub started : List ℕ → EnsembleView
+started weights = record {
+  below = record { quorums = weights; servers = length weights; failed = false; world = new_world (length weights) };
+  shown = replicate (length weights) fresh;
   failed = false;
 }
 

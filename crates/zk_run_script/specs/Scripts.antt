@@ -1,7 +1,8 @@
 -- What a run script is answered. This project's own.
 use Rattle.std.specs.Prelude.{◌≡◌, ◌+◌, ◌⊎◌, ℕ, List, [], ◌∷◌, ◌++◌, length, Result, Ok, Err, codes}
 use Rattle.zk_ensemble.specs.Views.{EnsembleView}
-use Rattle.zk_run_script.specs.Commands.{Says, SaysNothing, SaysServers}
+use Rattle.zk_first_line.specs.FirstLines.{SaysServers}
+use Rattle.zk_run_script.specs.Commands.{Says, SaysNothing}
 use Rattle.zk_run_script.specs.declared.command.Command.{Command}
 use Rattle.zk_reports.specs.Lines.{lines_of}
 use Rattle.zk_reports.specs.declared.fault.ScriptFault.{ScriptFault}
@@ -42,28 +43,28 @@ pub record Plays (servers : ℕ) (old : EnsembleView) (text before : List ℕ) (
   pub told : after ≡ before ++ answers
   pub ends : EndsScript servers (length commands) left between result new
 
--- the servers start, and what follows is played by them
-pub record Begins (servers : ℕ) (text before : List ℕ) (result : Result (Unit {0}) ScriptFault) (after : List ℕ) : Type 0 where
+-- servers of these weights start, and what follows is played by them
+pub record Begins (weights text before : List ℕ) (result : Result (Unit {0}) ScriptFault) (after : List ℕ) : Type 0 where
   pub new : EnsembleView
-  pub plays : Plays servers (started servers) text (before ++ codes "ok\n") result after new
+  pub plays : Plays (length weights) (started weights) text (before ++ codes "ok\n") result after new
 
 -- or memory for them is refused
-abbrev pub BeginsOrNot : ℕ → List ℕ → List ℕ → Result (Unit {0}) ScriptFault → List ℕ → Type 0
-BeginsOrNot servers text before result after = Begins servers text before result after ⊎ ((result ≡ Err faults.NoMemory) × (after ≡ before))
+abbrev pub BeginsOrNot : List ℕ → List ℕ → List ℕ → Result (Unit {0}) ScriptFault → List ℕ → Type 0
+BeginsOrNot weights text before result after = Begins weights text before result after ⊎ ((result ≡ Err faults.NoMemory) × (after ≡ before))
 
--- no line that tells the number of servers stands first
+-- no line that tells the number of servers, and their weights, stands first
 abbrev pub BeginsWithNone : List (List ℕ) → Type 0
 BeginsWithNone [] = Unit {0}
-BeginsWithNone (first ∷ lines) = (servers : ℕ) → SaysServers first servers → ⊥
+BeginsWithNone (first ∷ lines) = (weights : List ℕ) → SaysServers first weights → ⊥
 
--- a script begins with the number of its servers
+-- a script begins with the number of its servers, and their weights
 pub record BeginsWell (script before : List ℕ) (result : Result (Unit {0}) ScriptFault) (after : List ℕ) : Type 0 where
   pub first : List ℕ
   pub text : List ℕ
   pub lines : lines_of script ≡ first ∷ lines_of text
-  pub servers : ℕ
-  pub counted : SaysServers first servers
-  pub begins : BeginsOrNot servers text before result after
+  pub weights : List ℕ
+  pub counted : SaysServers first weights
+  pub begins : BeginsOrNot weights text before result after
 
 -- what a script is answered: a refusal of its first line changes nothing
 abbrev pub RunsScript : List ℕ → List ℕ → Result (Unit {0}) ScriptFault → List ℕ → Type 0

@@ -13,7 +13,7 @@ mod told;
 
 pub use command::{Command, Report};
 pub use playing::run_command;
-pub use reading::{read_command, read_servers};
+pub use reading::read_command;
 pub use reports::{push_answers, push_counted_tree, push_events, push_listing};
 pub use script::run_script;
 pub use told::push_told;

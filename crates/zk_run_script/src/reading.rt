@@ -2,8 +2,8 @@
 ghost use Rattle.std.specs.Prelude.{◌≡◌, ◌≢◌, IfErr};
 ghost use Rattle.zk_listing.specs.Reading.{Takes, spaced, mapped};
 ghost use Rattle.zk_request_lines.specs.Reading.{number_at};
-ghost use Rattle.zk_run_script.specs.Commands.{ReadsCommand, ReadsServers};
-ghost use Rattle.zk_run_script.specs.Reading.{two_at, submit_at, expire_at, read_at, submitted, expired, read_by, reported_at, command_at, is_among, among_result, servers_at, counted_result};
+ghost use Rattle.zk_run_script.specs.Commands.{ReadsCommand};
+ghost use Rattle.zk_run_script.specs.Reading.{two_at, submit_at, expire_at, read_at, submitted, expired, read_by, reported_at, command_at, is_among, among_result};
 ghost use Rattle.zk_run_script.specs.declared.command.Command.TheVariants as commands;
 ghost use Rattle.zk_runs.specs.declared.event.Event.TheVariants as events;
 ghost use Rattle.zab_runs.specs.declared.event.Event.TheVariants.{Follow as WorldFollow};
@@ -167,37 +167,4 @@ fn place(input: &mut &str) -> Result<usize, ListCause>
 {
     let number = spaced_number(input)?;
     Ok(number as usize)
-}
-
-/// The number of servers, from 2 to 15, that a script's first line says: `servers N`. It takes no memory.
-pub fn read_servers(line: &str) -> Result<usize, ListCause>
-    ensures reads { ReadsServers line.now result }
-    ensures memory { IfErr result (λ cause. cause ≢ ListCause.NoMemory) }
-{
-    let mut rest = line;
-    let read = servers(&mut rest);
-    counted(read, rest)
-}
-
-/// What was read, if nothing is left behind it and it is from 2 to 15.
-fn counted(read: Result<usize, ListCause>, left: &str) -> Result<usize, ListCause>
-    ensures counted { result ≡ counted_result left.now read }
-    ensures memory { IfErr read (λ cause. cause ≢ ListCause.NoMemory) → IfErr result (λ cause. cause ≢ ListCause.NoMemory) }
-{
-    let servers = read?;
-    if left.is_empty() && 2 <= servers && servers <= 15 {
-        return Ok(servers);
-    }
-    Err(ListCause::Fields)
-}
-
-#[tactic(auto, unfolding(crate::specs::Reading::servers_at))]
-fn servers(input: &mut &str) -> Result<usize, ListCause>
-    ensures taken { Takes result input.new.now (servers_at input.old.now) }
-    ensures memory { IfErr result (λ cause. cause ≢ ListCause.NoMemory) }
-{
-    match take_word(input) {
-        "servers" => place(input),
-        _ => Err(ListCause::Word),
-    }
 }

@@ -4,13 +4,15 @@ ghost use Rattle.std.specs.String.{string_bytes};
 ghost use Rattle.zk_run_script.specs.Scripts.{RunsScript, BeginsOrNot, Plays};
 
 use crate::playing::run_command;
-use crate::reading::{read_command, read_servers};
+use crate::reading::read_command;
 use std::alloc::Global;
+use zab_epoch::Weighted;
 use zk_ensemble::Ensemble;
+use zk_first_line::read_servers;
 use zk_listing::ListCause;
 use zk_reports::{ScriptFault, next_line};
 
-/// Does what the lines of a script say, one after the other, with an ensemble of as many servers as the first line says, and
+/// Does what the lines of a script say, one after the other, with an ensemble of the servers that the first line says, and
 /// appends what is answered to them, up to the first that says no command. A newline ends each line; the last one may have
 /// none. A script without lines is refused at line 1.
 pub fn run_script(alloc: Global, script: &str, answers: &mut String) -> Result<(), ScriptFault>
@@ -21,17 +23,24 @@ pub fn run_script(alloc: Global, script: &str, answers: &mut String) -> Result<(
     }
     let mut text = script;
     let first = next_line(&mut text);
-    match read_servers(first) {
-        Ok(servers) => begin(alloc, servers, text, answers),
+    match read_servers(alloc, first) {
+        Ok(weights) => begin(alloc, weights, text, answers),
+        Err(ListCause::NoMemory) => Err(ScriptFault::NoMemory),
         Err(_) => Err(ScriptFault::Malformed(1)),
     }
 }
 
-/// Starts so many servers, and does with them what the lines say.
-fn begin(alloc: Global, servers: usize, text: &str, answers: &mut String) -> Result<(), ScriptFault>
-    ensures { BeginsOrNot servers text.now (string_bytes answers.old) result (string_bytes answers.new) }
+/// Starts a server for each weight, and does with them what the lines say.
+fn begin(
+    alloc: Global,
+    weights: Weighted,
+    text: &str,
+    answers: &mut String,
+) -> Result<(), ScriptFault>
+    ensures { BeginsOrNot weights text.now (string_bytes answers.old) result (string_bytes answers.new) }
 {
-    let Ok(mut ensemble) = Ensemble::new(alloc, servers) else {
+    let servers = weights.servers();
+    let Ok(mut ensemble) = Ensemble::with(alloc, weights) else {
         return Err(ScriptFault::NoMemory);
     };
     if answers.push_str("ok\n").is_err() {

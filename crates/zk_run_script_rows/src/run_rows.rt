@@ -1,8 +1,11 @@
 //! Lines of run scripts, and what scripts are answered. Longer scripts stand under `examples/runs`.
 use std::alloc::Global;
+use std::test::Fail;
+use zab_epoch::Quorums;
 use zk_ensemble::Ensemble;
+use zk_first_line::read_servers;
 use zk_listing::ListCause;
-use zk_run_script::{Command, ScriptFault, read_command, read_servers, run_command, run_script};
+use zk_run_script::{Command, ScriptFault, read_command, run_command, run_script};
 
 /// Lines that each say a command, and what they are answered in turn by two new servers.
 static COMMANDS: [(&str, &str); 25] = [
@@ -131,23 +134,57 @@ fn other_lines_say_nothing(rt: HostRuntime) {
     }
 }
 
-/// Lines that tell no number of servers.
-static NO_SERVERS: [&str; 7] = [
+/// Lines that tell no servers, or weights that are not taken.
+static NO_SERVERS: [&str; 16] = [
     "",
     "servers",
     "servers 1",
     "servers 16",
     "servers 02",
     "servers 3 ",
+    "servers 3 weights",
+    "servers 3 weights 1 1",
+    "servers 3 weights 1 1 1 1",
+    "servers 3 weights 0 0 0",
+    "servers 3 weights 1 1 01",
+    "servers 3 weights 1 1 4294967296",
+    "servers 3  weights 1 1 1",
+    "servers 3 weight 1 1 1",
+    "servers 1 weights 1",
     "lead 1",
 ];
 
-#[test]
-fn first_lines_tell_the_number_of_servers(rt: HostRuntime) {
-    assert!(rt; read_servers("servers 2") == Ok(2) && read_servers("servers 15") == Ok(15));
-    for line in &NO_SERVERS {
-        assert!(rt; read_servers(line).is_err(), "{line}");
+/// First lines, how many servers they tell, and whether servers 1 and 2 are a quorum.
+static SERVERS: [(&str, usize, bool); 6] = [
+    ("servers 2", 2, true),
+    ("servers 15", 15, false),
+    ("servers 3 weights 1 1 1", 3, true),
+    ("servers 3 weights 1 1 3", 3, false),
+    ("servers 3 weights 0 4294967295 4294967294", 3, true),
+    ("servers 2 weights 1 0", 2, true),
+];
+
+/// Whether a first line tells so many servers, of which the first two are a quorum, or none.
+fn tells(alloc: Global, line: &str, servers: usize, is_quorum: bool) -> Result<bool, Fail> {
+    let Ok(weights) = read_servers(alloc, line) else {
+        return Ok(false);
+    };
+    let mut marks = Vec::new(alloc);
+    for number in 0..servers {
+        marks.push(number < 2)?;
     }
+    Ok(weights.servers() == servers && weights.is_quorum(&marks) == is_quorum)
+}
+
+#[test]
+fn first_lines_tell_the_servers(rt: HostRuntime) -> Result<(), Fail> {
+    for (line, servers, is_quorum) in &SERVERS {
+        assert!(rt; tells(rt.alloc(), line, *servers, *is_quorum)?, "{line}");
+    }
+    for line in &NO_SERVERS {
+        assert!(rt; read_servers(rt.alloc(), line).is_err(), "{line}");
+    }
+    Ok(())
 }
 
 /// Scripts, how they end, and what they are answered.

@@ -46,6 +46,8 @@ what helps."#
 pub(crate) fn run_lines() -> &'static str {
     r#"Lines of a run script, one command each:
   servers N           the first line, and no other: so many servers start, 2 to 15
+  servers N weights W1 .. WN
+                      the same, and each has its weight; else each weighs 1
   lead P              server P is told to lead
   follow P Q          server P is told to follow Q
   arrive K            message K comes to its addressee

@@ -1,0 +1,2 @@
+pub mod Evens
+pub mod Weighing

@@ -1,0 +1,14 @@
+//! Quorums: which sets of servers decide. Any two of them share a server, which is all that Zab asks.
+//!
+//! ZooKeeper Internals, "Quorums"; ZooKeeper Administrator's Guide, "Cluster Options".
+#![tactic(auto)]
+
+mod fault;
+mod laws;
+mod quorums;
+mod weighted;
+
+pub use fault::WeightFault;
+pub use laws::even_weights_are_majorities;
+pub use quorums::{Majority, Quorums};
+pub use weighted::Weighted;

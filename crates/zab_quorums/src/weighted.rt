@@ -1,0 +1,119 @@
+ghost use Rattle.std.specs.Prelude.{◌≡◌, ◌≤◌, ◌*◌, length, IfOk};
+ghost use Rattle.std.specs.List.{sum};
+ghost use Rattle.zab_quorums.specs.Quorums.{is_heavy, weight_of};
+ghost use Rattle.zab_quorums.specs.Shares.{heavy_share};
+
+use crate::fault::WeightFault;
+use crate::quorums::Quorums;
+use std::alloc::Global;
+use std::marker::Model;
+use zk_path::NoMemory;
+
+/// The quorums are the sets of servers with more than half of the weight of all.
+///
+/// Each server has a weight, from server 1 on. A server of weight 0 is in no quorum's way: a set is a quorum with it where
+/// it is one without it.
+#[derive(Debug, Drop)]
+pub struct Weighted {
+    weights: Vec<u32>,
+}
+
+/// It is seen as the list of the weights.
+impl Model for Weighted {
+    ghost use Rattle.std.specs.Prelude.{List, ℕ};
+
+    ghost Value = { List ℕ };
+
+    ghost view = { λ it. it.weights.items };
+}
+
+impl Weighted {
+    ghost use Rattle.std.specs.Prelude.{◌≡◌, ◌≢◌, length, replicate, None, Some, IfOk, IfErr, Err};
+    ghost use Rattle.zab_quorums.specs.declared.fault.WeightFault.TheVariants as faults;
+    ghost use Rattle.zab_quorums.specs.Weights.{weight_fault};
+
+    /// Reads the weights of 2 to 15 servers, of which not all are 0.
+    pub fn read(alloc: Global, weights: &[u32]) -> Result<Weighted, WeightFault>
+        ensures found { IfOk result (λ it. it ≡ weights.now) }
+        ensures right { IfOk result (λ _. weight_fault weights.now ≡ None) }
+        ensures fault { IfErr result (λ fault. fault ≢ faults.NoMemory → weight_fault weights.now ≡ Some fault) }
+        ensures memory { result ≡ Err faults.NoMemory → weight_fault weights.now ≡ None }
+    {
+        if weights.len() < 2 || weights.len() > 15 {
+            return Err(WeightFault::Count);
+        }
+        if total(weights) == 0 {
+            return Err(WeightFault::NoWeight);
+        }
+        Ok(copied(alloc, weights)?)
+    }
+
+    /// So many servers, each of weight 1: the quorums are the majorities.
+    pub fn even(alloc: Global, servers: usize) -> Result<Weighted, NoMemory>
+        ensures { IfOk result (λ it. it ≡ replicate servers 1) }
+    {
+        let mut weights = Vec::new(alloc);
+        for _ in 0..servers {
+            weights.push(1)?;
+        }
+        Ok(Weighted { weights })
+    }
+
+    /// How many servers there are.
+    pub fn servers(&self) -> usize
+        ensures { result ≡ length self.now }
+    {
+        self.weights.len()
+    }
+}
+
+impl Quorums for Weighted {
+    ghost passes = { is_heavy };
+
+    fn is_quorum(&self, marks: &[bool]) -> bool {
+        let weights = self.weights.as_slice();
+        marks.len() == weights.len() && total(weights) < 2 * weight_of(weights, marks)
+    }
+
+    fn copy(&self) -> Result<Weighted, NoMemory> {
+        copied(*self.weights.allocator(), &self.weights)
+    }
+
+    ghost share = { heavy_share };
+}
+
+/// Quorums by a copy of these weights.
+fn copied(alloc: Global, weights: &[u32]) -> Result<Weighted, NoMemory>
+    ensures { IfOk result (λ it. it ≡ weights.now) }
+{
+    let mut list = Vec::new(alloc);
+    list.extend_from_slice(weights)?;
+    Ok(Weighted { weights: list })
+}
+
+/// The weight of all servers. It is counted in 128 bits, so that no sum is too great.
+fn total(weights: &[u32]) -> u128
+    ensures sum { result ≡ sum weights.now }
+    ensures bound { result ≤ length weights.now * 4294967295 }
+{
+    let mut total = 0;
+    for weight in weights {
+        total += u128::from(*weight);
+    }
+    total
+}
+
+/// The weight of the marked servers.
+fn weight_of(weights: &[u32], marks: &[bool]) -> u128
+    requires { length marks.now ≡ length weights.now }
+    ensures weight { result ≡ weight_of weights.now marks.now }
+    ensures bound { result ≤ length weights.now * 4294967295 }
+{
+    let mut weight = 0;
+    for index in 0..weights.len() {
+        if marks[index] {
+            weight += u128::from(weights[index]);
+        }
+    }
+    weight
+}

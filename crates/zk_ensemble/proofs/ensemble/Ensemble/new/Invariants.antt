@@ -1,7 +1,0 @@
-use Rattle.std.proofs.Common.{◌≡◌, replicate}
-use Rattle.zk_runs.specs.Ensembles.{fresh}
-use Rattle.zk_ensemble.specs.Views.{AreRunning, shown_by}
-use Rattle.zk_ensemble.proofs.ensemble.Ensemble.new.Given as goal
-
-abbrev pub invariant-loop : goal.invariant-loop
-invariant-loop l = (shown_by l.replicas.items ≡ replicate l.counter fresh) × AreRunning l.replicas.items

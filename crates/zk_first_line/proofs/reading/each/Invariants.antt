@@ -1,0 +1,10 @@
+-- The weights so far stand in front of those that are still read.
+use Rattle.std.proofs.Common.{◌≡◌, ◌-◌, length}
+use Rattle.zk_listing.specs.Reading.{many_at, behind}
+use Rattle.zk_first_line.specs.Reading.{weight_at}
+use Rattle.zk_first_line.proofs.reading.each.Given as goal
+
+abbrev pub invariant-loop : goal.invariant-loop
+invariant-loop l =
+    (behind l.weights (many_at weight_at (l.count - l.counter) l.input.now) ≡ many_at weight_at l.fn.count l.fn.input.now)
+    × (length l.weights ≡ l.counter)

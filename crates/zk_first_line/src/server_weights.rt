@@ -1,0 +1,64 @@
+//! The weights of a script's servers, read without memory.
+use std::marker::Model;
+
+/// How many servers a script has at most.
+pub(crate) const MOST_SERVERS: usize = 15;
+
+/// The weights of up to 15 servers, from server 1 on.
+#[derive(Drop)]
+pub(crate) struct ServerWeights {
+    values: [u32; 15],
+    count: usize,
+}
+
+/// They are seen as their list.
+impl Model for ServerWeights {
+    ghost use Rattle.std.specs.Prelude.{List, ℕ, ◌≤◌, take};
+
+    ghost Value = { List ℕ };
+
+    ghost view = { λ it. take it.count it.values };
+
+    ghost invariant = { λ it. it.count ≤ 15 };
+}
+
+impl ServerWeights {
+    ghost use Rattle.std.specs.Prelude.{◌≡◌, ◌≤◌, ◌<◌, ◌++◌, [], ◌∷◌, length, replicate};
+
+    /// Those of no server.
+    pub(crate) fn none() -> ServerWeights
+        ensures { result ≡ [] }
+    {
+        ServerWeights {
+            values: [0; 15],
+            count: 0,
+        }
+    }
+
+    /// So many servers, each of weight 1.
+    pub(crate) fn even(servers: usize) -> ServerWeights
+        requires { servers ≤ 15 }
+        ensures { result ≡ replicate servers 1 }
+    {
+        ServerWeights {
+            values: [1; 15],
+            count: servers,
+        }
+    }
+
+    /// The next server weighs so much.
+    pub(crate) fn push(&mut self, weight: u32)
+        requires { length self.old < 15 }
+        ensures { self.new ≡ self.old ++ weight ∷ [] }
+    {
+        self.values[self.count] = weight;
+        self.count += 1;
+    }
+
+    /// The weights, lent.
+    pub(crate) fn as_slice(&self) -> &[u32]
+        ensures { result.now ≡ self.now }
+    {
+        &self.values[..self.count]
+    }
+}
