@@ -4,37 +4,49 @@ what a follower costs that joins its leader again and lacks ten entries of many.
 
 usage: bench/ensemble.py     in a checkout where `rt ci`, or `rt run` in crates/zk_ensemble_load, has left the proved program
 
-The program runs five servers under 2,000 calls, and then applies what the last leader has delivered to as many machines as it
-is told. The least of several runs counts; what the machines cost is taken from a run with a hundred of them. What it costs to
+The program runs five servers under 2,000 calls, waits, and then applies what the last leader has delivered to as many machines as
+it is told; at its end it frees what the servers hold, which no server does while it runs. What the calls took is read while the
+program waits. The least of several runs counts; what the machines cost is taken from a run with a hundred of them. What it costs to
 join again is taken from runs in which that happens a thousand times, behind 2,000 and 100,000 calls, each beside a run with as many
 calls in which nobody joins again.
 """
 import os
 import subprocess
 import sys
+import time
 
 HERE = os.path.dirname(os.path.abspath(__file__))
 LOAD = os.path.join(HERE, "..", "crates", "zk_ensemble_load", "out", "zk_ensemble_load")
 CALLS = 2000
 SERVERS = 5
 MACHINES = 100
-TURNS = 5
+TURNS = 15
 MORE = 10
 JOINS = 1000
 LACKS = 10
 MANY = 100000
 
 
+def taken(pid):
+    """The CPU seconds that a process has taken, which waits."""
+    while open("/proc/%d/stat" % pid).read().rpartition(")")[2].split()[0] != "S":
+        time.sleep(0.001)
+    return int(open("/proc/%d/schedstat" % pid).read().split()[0]) / 1e9
+
+
 def run(calls, machines=0, joins=0):
-    """The CPU seconds of a run, its events, and its steps of machines."""
+    """The CPU seconds up to the end of the calls, those of the whole run, its events, and its steps of machines."""
     words = [str(it) for it in (calls, machines, joins)]
-    child = subprocess.Popen([LOAD, *words], stdout=subprocess.PIPE)
-    told = [line.split() for line in child.stdout.read().decode().splitlines()]
+    child = subprocess.Popen([LOAD, *words], stdin=subprocess.PIPE, stdout=subprocess.PIPE)
+    told = [child.stdout.readline().decode().split()]
+    seconds = taken(child.pid)
+    child.stdin.close()
+    told += [line.split() for line in child.stdout.read().decode().splitlines()]
     _, status, usage = os.wait4(child.pid, 0)
     # between the first line and the last, one for each server
     if status or len(told) != SERVERS + 2 or int(told[0][0]) != calls:
         sys.exit("%s: status %d, %r" % (words, os.waitstatus_to_exitcode(status), told))
-    return usage.ru_utime + usage.ru_stime, int(told[0][2]), int(told[-1][2])
+    return seconds, usage.ru_utime + usage.ru_stime, int(told[0][2]), int(told[-1][2])
 
 
 def join(calls, turns):
@@ -46,15 +58,17 @@ def join(calls, turns):
 def main():
     alone = [run(CALLS) for _ in range(TURNS)]
     with_machines = [run(CALLS, MACHINES) for _ in range(TURNS)]
-    seconds, events, _ = min(alone)
-    steps = with_machines[0][2]
-    applying = (min(with_machines)[0] - seconds) / MACHINES * SERVERS
-    print("%d calls, %d events: %.3f s, %.2f microseconds an event" % (CALLS, events, seconds, seconds / events * 1e6))
+    seconds, whole, events, _ = min(alone)
+    steps = with_machines[0][3]
+    applying = (min(it[1] for it in with_machines) - min(it[1] for it in alone)) / MACHINES * SERVERS
+    print("%d calls, %d events: %.4f s, %.2f microseconds an event; with its end %.4f s"
+          % (CALLS, events, seconds, seconds / events * 1e6, whole))
     print("%d steps of %d machines: %.4f s, %.2f microseconds a step"
           % (steps // MACHINES * SERVERS, SERVERS, applying, applying / (steps / MACHINES * SERVERS) * 1e6))
     print("the run takes %.1f times what its machines take" % (seconds / applying))
-    more, more_events, _ = min(run(CALLS * MORE) for _ in range(TURNS))
-    print("%d calls, %d events: %.3f s, %.1f times as long" % (CALLS * MORE, more_events, more, more / seconds))
+    more, more_whole, more_events, _ = min(run(CALLS * MORE) for _ in range(TURNS))
+    print("%d calls, %d events: %.3f s, %.1f times as long; with its end %.3f s, %.1f times"
+          % (CALLS * MORE, more_events, more, more / seconds, more_whole, more_whole / whole))
     for calls, turns in ((CALLS, TURNS), (MANY, 3)):
         print("behind %d calls a follower that lacks ten entries joins again in %.3f ms" % (calls, join(calls, turns) * 1e3))
 

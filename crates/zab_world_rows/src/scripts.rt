@@ -1,88 +1,88 @@
-//! Scripts: events, and what each is answered.
+//! Scripts: what happens in a world of servers, with what that is answered, and what its servers show then. They are
+//! tables of plain values, of which events are made.
 
-ghost use Rattle.std.specs.Prelude.{◌≡◌, false, OnOk};
+ghost use Rattle.std.specs.Prelude.{◌≡◌, false};
 
-use std::test::Fail;
+use std::alloc::Global;
 use zab_broadcast::{Echo, EchoCall};
-use zab_epoch::{Entries, Majority, Quorums};
+use zab_epoch::{Body, Entries, Majority, Quorums, WeightFault, Weighted};
 use zab_world::{Event, Moved, World, WorldFault};
+use zk_path::NoMemory;
 
 /// A world of echoes.
 pub type EchoWorld = World<Echo, Majority>;
 
-/// An event, and what it is answered.
-#[derive(Debug, Drop)]
-pub struct Row {
-    pub event: Event<EchoCall>,
-    pub answer: Result<Moved, WorldFault>,
+/// What happens. Servers and messages are numbered from 1, and a call is a tag.
+#[derive(Clone, Copy)]
+pub enum Happening {
+    Lead(usize),
+    Follow(usize, usize),
+    Arrive(usize),
+    Submit(usize, u64),
+    /// A session's closing.
+    Expire(usize, u64),
+    Crash(usize),
+    Restart(usize),
 }
 
-/// An event that sends messages, one with this number; none, where it is 0.
-pub fn sends(event: Event<EchoCall>, first: usize) -> Row {
-    let count = first.min(1);
-    Row {
-        event,
-        answer: Ok(Moved { first, count }),
+/// What is shown: the tags and zxids of what a server has delivered, or has; what a NewLeader with a number keeps, and how
+/// many entries come with it; the epoch of a NewEpoch; that of an AckEpoch, and its vote; how many messages were sent; or
+/// whether a server runs.
+#[derive(Clone, Copy)]
+pub enum Report {
+    Delivered(usize, &'static [(u64, i64)]),
+    History(usize, &'static [(u64, i64)]),
+    Suffix(usize, i64, usize),
+    Chosen(usize, u32),
+    Voted(usize, u32, bool),
+    Sent(usize),
+    Runs(usize, Result<(), WorldFault>),
+}
+
+/// A row of a script.
+#[derive(Clone, Copy)]
+pub enum Row {
+    /// An event that sends one message, with this number; none, where it is 0.
+    Sends(Happening, usize),
+    /// An event that sends two messages, the first with this number.
+    SendsTwo(Happening, usize),
+    /// An event that is refused.
+    Refused(Happening, WorldFault),
+    Shown(Report),
+}
+
+/// The event of a row.
+pub fn event_of(happening: Happening) -> Event<EchoCall> {
+    match happening {
+        Happening::Lead(server) => Event::Lead { server },
+        Happening::Follow(server, leader) => Event::Follow { server, leader },
+        Happening::Arrive(message) => Event::Arrive { message },
+        Happening::Submit(server, tag) => Event::Submit {
+            server,
+            call: EchoCall { tag },
+        },
+        Happening::Expire(server, tag) => Event::Expire {
+            server,
+            tag,
+            session: 0x1_0000_0001,
+            now: 3000,
+        },
+        Happening::Crash(server) => Event::Crash { server },
+        Happening::Restart(server) => Event::Restart { server },
     }
 }
 
-/// An event that is refused.
-pub fn refused(event: Event<EchoCall>, fault: WorldFault) -> Row {
-    Row {
-        event,
-        answer: Err(fault),
-    }
-}
-
-/// A server is told to lead: nothing is sent.
-pub fn lead(server: usize) -> Row {
-    sends(Event::Lead { server }, 0)
-}
-
-/// A server is told to follow another.
-pub fn follow(server: usize, leader: usize, first: usize) -> Row {
-    sends(Event::Follow { server, leader }, first)
-}
-
-/// A message arrives.
-pub fn arrive(message: usize, first: usize) -> Row {
-    sends(Event::Arrive { message }, first)
-}
-
-/// A call with a tag is submitted at a server.
-pub fn submit(server: usize, tag: u64, first: usize) -> Row {
-    let call = EchoCall { tag };
-    sends(Event::Submit { server, call }, first)
-}
-
-/// A server crashes.
-pub fn crash(server: usize) -> Row {
-    sends(Event::Crash { server }, 0)
-}
-
-/// A server starts again.
-pub fn restart(server: usize) -> Row {
-    sends(Event::Restart { server }, 0)
-}
-
-/// Takes each event, and compares its answer.
-pub fn walk<Q: Quorums + Drop>(world: &mut World<Echo, Q>, rows: Vec<Row>) -> Result<(), Fail>
-    ensures { OnOk result (world.new.failed ≡ false) }
-{
-    for row in rows {
-        let Row { event, answer } = row;
-        if world.step(event) != answer {
-            return Err("a row is answered otherwise".into());
-        }
-    }
-    if world.has_failed() {
-        return Err("memory was refused".into());
-    }
-    Ok(())
+/// Whether an event is answered so, and no memory was refused.
+fn is_answered<Q: Quorums + Drop>(
+    world: &mut World<Echo, Q>,
+    happening: Happening,
+    answer: Result<Moved, WorldFault>,
+) -> bool {
+    world.step(event_of(happening)) == answer && !world.has_failed()
 }
 
 /// Whether entries have these tags and zxids.
-pub fn are(entries: &Entries<'_>, expected: &[(u64, i64)]) -> bool {
+fn are(entries: &Entries<'_>, expected: &[(u64, i64)]) -> bool {
     entries.len() == expected.len()
         && entries
             .tags()
@@ -94,4 +94,118 @@ pub fn are(entries: &Entries<'_>, expected: &[(u64, i64)]) -> bool {
             .iter()
             .zip(expected)
             .all(|(txn, (_, zxid))| txn.zxid == *zxid)
+}
+
+/// Whether a server has these entries, delivered or not.
+fn has<Q: Quorums + Drop>(world: &World<Echo, Q>, server: usize, expected: &[(u64, i64)]) -> bool
+    requires { world.now.failed ≡ false }
+{
+    match world.stable(server) {
+        Some(stable) => are(&stable.history.entries(), expected),
+        None => false,
+    }
+}
+
+/// What the message with a number says; none, where there is no such message.
+fn body<Q: Quorums + Drop>(world: &World<Echo, Q>, message: usize) -> Option<&Body<EchoCall>>
+    requires { world.now.failed ≡ false }
+{
+    Some(&world.messages().get(message.checked_sub(1)?)?.body)
+}
+
+/// What a NewLeader keeps, and how many entries come with it; none, where the message is no NewLeader.
+fn suffix<Q: Quorums + Drop>(world: &World<Echo, Q>, message: usize) -> Option<(i64, usize)>
+    requires { world.now.failed ≡ false }
+{
+    match body(world, message)? {
+        Body::NewLeader { keep, rest, .. } => Some((*keep, rest.len())),
+        _ => None,
+    }
+}
+
+/// The epoch of a NewEpoch; none, where the message is no NewEpoch.
+fn chosen<Q: Quorums + Drop>(world: &World<Echo, Q>, message: usize) -> Option<u32>
+    requires { world.now.failed ≡ false }
+{
+    match body(world, message)? {
+        Body::NewEpoch { epoch } => Some(*epoch),
+        _ => None,
+    }
+}
+
+/// The epoch of an AckEpoch, and its vote; none, where the message is no AckEpoch.
+fn voted<Q: Quorums + Drop>(world: &World<Echo, Q>, message: usize) -> Option<(u32, bool)>
+    requires { world.now.failed ≡ false }
+{
+    match body(world, message)? {
+        Body::AckEpoch { epoch, vote, .. } => Some((*epoch, *vote)),
+        _ => None,
+    }
+}
+
+/// Whether a world shows this.
+fn shows<Q: Quorums + Drop>(world: &World<Echo, Q>, report: Report) -> bool
+    requires { world.now.failed ≡ false }
+{
+    match report {
+        Report::Delivered(server, expected) => are(&world.delivered(server), expected),
+        Report::History(server, expected) => has(world, server, expected),
+        Report::Suffix(message, keep, count) => suffix(world, message) == Some((keep, count)),
+        Report::Chosen(message, epoch) => chosen(world, message) == Some(epoch),
+        Report::Voted(message, epoch, vote) => voted(world, message) == Some((epoch, vote)),
+        Report::Sent(count) => world.messages().len() == count,
+        Report::Runs(server, expected) => world.running(server) == expected,
+    }
+}
+
+/// Takes an event, or looks; and compares.
+fn takes<Q: Quorums + Drop>(world: &mut World<Echo, Q>, row: Row) -> bool {
+    match row {
+        Row::Sends(happening, first) => {
+            let count = first.min(1);
+            is_answered(world, happening, Ok(Moved { first, count }))
+        }
+        Row::SendsTwo(happening, first) => {
+            is_answered(world, happening, Ok(Moved { first, count: 2 }))
+        }
+        Row::Refused(happening, fault) => is_answered(world, happening, Err(fault)),
+        Row::Shown(report) => !world.has_failed() && shows(world, report),
+    }
+}
+
+/// The place of a row that differs, from 0 on; none where all are as they are to be.
+fn walk<Q: Quorums + Drop>(world: &mut World<Echo, Q>, rows: &[Row]) -> Option<usize> {
+    for (place, row) in rows.iter().enumerate() {
+        if !takes(world, *row) {
+            return Some(place);
+        }
+    }
+    None
+}
+
+/// The places, script and row, of the first row of scripts that differs.
+fn walk_all<Q: Quorums + Drop>(world: &mut World<Echo, Q>, scripts: &[&[Row]]) -> Option<(usize, usize)> {
+    for (number, script) in scripts.iter().enumerate() {
+        if let Some(place) = walk(world, script) {
+            return Some((number, place));
+        }
+    }
+    None
+}
+
+/// Plays scripts one after the other in a new world. The places, script and row, of the first row that differs.
+pub fn play(alloc: Global, scripts: &[&[Row]]) -> Result<Option<(usize, usize)>, NoMemory> {
+    let mut world = EchoWorld::new(alloc, 3)?;
+    Ok(walk_all(&mut world, scripts))
+}
+
+/// The same in a new world whose servers have these weights.
+pub fn play_weighted(
+    alloc: Global,
+    weights: &[u32],
+    scripts: &[&[Row]],
+) -> Result<Option<(usize, usize)>, WeightFault> {
+    let weights = Weighted::read(alloc, weights)?;
+    let mut world = World::with(alloc, weights.servers(), weights)?;
+    Ok(walk_all(&mut world, scripts))
 }

@@ -4,7 +4,8 @@
 //! lost, after which their addressees follow the leader anew, and a few arrive twice.
 //!
 //! usage: zk_ensemble_load [CALLS [MACHINES [JOINS]]]     so many calls are submitted; so many times a follower hears nothing of
-//! ten more, and then joins its leader again; and what the last leader has delivered is applied to so many machines
+//! ten more, and then joins its leader again; and, once standard input has a line or ends, what the last leader has delivered is
+//! applied to so many machines
 //!
 //! What it prints of 200 calls follows from the rules:
 //!
@@ -50,10 +51,19 @@ fn main(rt: HostRuntime) -> Result<()> {
         load.rejoin(LACKS)?;
     }
     println!(rt; "{calls} calls, {} events", load.events())?;
+    // Whoever measures reads here what the calls took, before what they left is looked at and freed.
+    wait_for_line(&rt)?;
     tell_servers(&rt, &load)?;
     let delivered = load.delivered(load.leader())?;
     let steps = apply_to_all(rt.alloc(), delivered.txns(), machines)?;
     println!(rt; "{machines} machines, {steps} steps")?;
+    Ok(())
+}
+
+/// Waits for a line of standard input, or for its end.
+fn wait_for_line(rt: &HostRuntime) -> Result<()> {
+    let mut line = String::new(rt.alloc());
+    rt.read_line(&mut line)?;
     Ok(())
 }
 

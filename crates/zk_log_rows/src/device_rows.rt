@@ -1,36 +1,22 @@
 //! Rows of `zk_log` on devices that fail, over the whole first log.
 
-use crate::log_rows::{FIRST_LOG, count_pushed, fails_after, loaded, write_to};
+use crate::journal_rows::{fails_after, is_filled, write_to};
+use crate::log_rows::{FIRST_LOG, dripped, fault_of, read_log};
 use std::alloc::Global;
 use std::io;
 use std::io::{ErrorKind, Read, Write};
-use zk_log::{DripIn, Ending, Journal, LogFault, Sink, Source, WriteFault, load};
-
-/// The first log, read one byte at a time, where one read fails after so many good ones.
-fn loaded_by_bytes(
-    alloc: Global,
-    turns: u32,
-    good_calls: Option<u64>,
-) -> Result<(usize, Ending), LogFault> {
-    loaded(alloc, DripIn::new(&FIRST_LOG, 1, good_calls), turns)
-}
+use zk_log::{Ending, Journal, LogFault, Sink, Source, WriteFault};
 
 #[test]
 fn each_byte_takes_a_turn_and_the_end_one_more(rt: HostRuntime) {
-    assert_eq!(rt;
-        loaded_by_bytes(rt.alloc(), 199, None),
-        Err(LogFault::Endless)
-    );
-    assert_eq!(rt;
-        loaded_by_bytes(rt.alloc(), 200, None),
-        Ok((3, Ending::Whole))
-    );
+    assert!(rt; dripped(rt.alloc(), &FIRST_LOG, 1, None, 199) == Err(LogFault::Endless));
+    assert!(rt; dripped(rt.alloc(), &FIRST_LOG, 1, None, 200) == Ok((3, Ending::Whole)));
 }
 
-/// The first of the 200 reads whose failure is not told.
+/// The first of the 200 reads, of one byte each, whose failure is not told.
 fn untold_read(alloc: Global) -> Option<u64> {
     for good_calls in 0..200 {
-        if loaded_by_bytes(alloc, 999, Some(good_calls)) != Err(LogFault::Read) {
+        if dripped(alloc, &FIRST_LOG, 1, Some(good_calls), 999) != Err(LogFault::Read) {
             return Some(good_calls);
         }
     }
@@ -39,30 +25,18 @@ fn untold_read(alloc: Global) -> Option<u64> {
 
 #[test]
 fn each_failed_read_is_told(rt: HostRuntime) {
-    assert_eq!(rt; untold_read(rt.alloc()), None);
+    assert!(rt; untold_read(rt.alloc()).is_none());
     // A read that is not needed is not made.
-    assert_eq!(rt;
-        loaded_by_bytes(rt.alloc(), 999, Some(200)),
-        Ok((3, Ending::Whole))
-    );
-}
-
-/// The first log with another checksum of its second entry.
-fn damaged_log() -> [u8; 199] {
-    let mut log = FIRST_LOG;
-    log[72] = 0x23;
-    log
+    assert!(rt; dripped(rt.alloc(), &FIRST_LOG, 1, Some(200), 999) == Ok((3, Ending::Whole)));
 }
 
 #[test]
 fn a_fault_is_told_before_a_later_read_fails(rt: HostRuntime) {
-    let log = damaged_log();
+    // another checksum of the second entry
+    let mut log = FIRST_LOG;
+    log[72] = 0x23;
     // Read 160 would fail; the second entry ends with byte 153.
-    let reader = DripIn::new(&log, 1, Some(159));
-    assert_eq!(rt;
-        loaded(rt.alloc(), reader, 999),
-        Err(LogFault::Checksum(65))
-    );
+    assert!(rt; dripped(rt.alloc(), &log, 1, Some(159), 999) == Err(LogFault::Checksum(65)));
 }
 
 /// The first of the 199 writes whose failure is not told, or leaves other bytes than those before it.
@@ -75,11 +49,15 @@ fn untold_write(alloc: Global, journal: &Journal) -> Option<usize> {
     None
 }
 
+/// Whether each is told of a new journal that takes the first log.
+fn writes_are_told(alloc: Global) -> bool {
+    let mut journal = Journal::new(alloc);
+    is_filled(alloc, &mut journal, 3) && untold_write(alloc, &journal).is_none()
+}
+
 #[test]
 fn each_failed_write_is_told(rt: HostRuntime) {
-    let mut journal = Journal::new(rt.alloc());
-    assert_eq!(rt; count_pushed(rt.alloc(), &mut journal), Ok(3));
-    assert_eq!(rt; untold_write(rt.alloc(), &journal), None);
+    assert!(rt; writes_are_told(rt.alloc()));
 }
 
 /// A reader whose first read is interrupted; a second one would meet the end.
@@ -98,15 +76,17 @@ impl Read for Interrupted {
     }
 }
 
+/// Whether a load ends with the interrupted read, which is the only one and counts as a failure.
+fn fails_when_interrupted(alloc: Global) -> bool {
+    let mut source = Source::new(Interrupted { reads: 0 });
+    let is_told = fault_of(&read_log(alloc, &mut source, 9)) == Some(LogFault::Read);
+    let counted = (source.reads(), source.failures());
+    source.into_inner().reads == 1 && counted == (1, 1) && is_told
+}
+
 #[test]
 fn an_interrupted_read_is_a_failure(rt: HostRuntime) {
-    let mut source = Source::new(Interrupted { reads: 0 });
-    assert_eq!(rt;
-        load(rt.alloc(), &mut source, 9).err(),
-        Some(LogFault::Read)
-    );
-    assert_eq!(rt; (source.reads(), source.failures()), (1, 1));
-    assert_eq!(rt; source.into_inner().reads, 1);
+    assert!(rt; fails_when_interrupted(rt.alloc()));
 }
 
 /// A writer that takes no byte.
@@ -126,11 +106,15 @@ impl Write for Full {
     }
 }
 
+/// Whether a write of a journal ends with the first call, which counts as a failure.
+fn fails_when_full(journal: Journal) -> bool {
+    let mut sink = Sink::new(Full { writes: 0 });
+    let told = write_to(&mut sink, 0, &journal);
+    let counted = (sink.writes(), sink.failures());
+    sink.into_inner().writes == 1 && counted == (1, 1) && told == Err(WriteFault::Write)
+}
+
 #[test]
 fn a_writer_that_takes_nothing_has_failed(rt: HostRuntime) {
-    let mut sink = Sink::new(Full { writes: 0 });
-    let journal = Journal::new(rt.alloc());
-    assert_eq!(rt; write_to(&mut sink, 0, &journal), Err(WriteFault::Write));
-    assert_eq!(rt; (sink.writes(), sink.failures()), (1, 1));
-    assert_eq!(rt; sink.into_inner().writes, 1);
+    assert!(rt; fails_when_full(Journal::new(rt.alloc())));
 }

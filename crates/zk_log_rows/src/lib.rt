@@ -8,4 +8,6 @@ mod asked_rows;
 #[cfg(test)]
 mod device_rows;
 #[cfg(test)]
+mod journal_rows;
+#[cfg(test)]
 mod log_rows;

@@ -3,6 +3,7 @@
 ghost use Rattle.std.specs.Prelude.{◌≡◌, ◌≢◌, ◌+◌, false, Some, IfOk, IfSome, OnOk};
 ghost use Rattle.zk_machine.specs.Undoing.{IsState, restored};
 
+use crate::drawing::{Draws, drawn_listing};
 use std::alloc::Global;
 use zk_acl::Stat;
 use zk_listing::assemble;
@@ -15,12 +16,12 @@ use zk_tree::Tree;
 // debugging, field by field.
 
 /// A machine in the start state.
-pub(crate) fn new_machine(alloc: Global) -> Result<Machine, MachineFault> {
+fn new_machine(alloc: Global) -> Result<Machine, MachineFault> {
     Ok(Machine::new(alloc)?)
 }
 
 /// The transactions of a listing.
-pub(crate) fn txns_of(alloc: Global, listing: &str) -> Result<Vec<Txn>, NoMemory> {
+fn txns_of(alloc: Global, listing: &str) -> Result<Vec<Txn>, NoMemory> {
     assemble(alloc, listing).map_err(|_| NoMemory)
 }
 
@@ -30,31 +31,51 @@ fn push_node(text: &mut String, path: &Path, node: &Node, stat: Stat) -> Result<
     Ok(())
 }
 
+/// Appends the nodes at these paths of a tree.
+fn push_nodes(text: &mut String, tree: &Tree, paths: &[Path]) -> Result<(), NoMemory> {
+    for path in paths {
+        if let (Some(node), Some(stat)) = (tree.get(path), tree.stat(path)) {
+            push_node(text, path, node, stat)?;
+        }
+    }
+    Ok(())
+}
+
+/// Appends the nodes of a tree, in order.
+fn push_tree(text: &mut String, tree: &Tree) -> Result<(), NoMemory> {
+    let paths = tree.paths()?;
+    push_nodes(text, tree, &paths)
+}
+
 /// The nodes of a tree, in order.
 fn shown_nodes(alloc: Global, tree: &Tree) -> Result<String, NoMemory> {
     let mut text = String::new(alloc);
-    for path in &tree.paths()? {
-        if let (Some(node), Some(stat)) = (tree.get(path), tree.stat(path)) {
-            push_node(&mut text, path, node, stat)?;
-        }
-    }
+    push_tree(&mut text, tree)?;
     Ok(text)
+}
+
+/// Appends the nodes of the plain table.
+fn push_plain(text: &mut String, plain: &Plain) -> Result<(), NoMemory> {
+    for (path, node) in plain.nodes() {
+        push_node(text, path, node, plain.stat(path, node))?;
+    }
+    Ok(())
 }
 
 /// The nodes of the plain table.
 fn shown_plain_nodes(alloc: Global, plain: &Plain) -> Result<String, NoMemory> {
     let mut text = String::new(alloc);
-    for (path, node) in plain.nodes() {
-        push_node(&mut text, path, node, plain.stat(path, node))?;
-    }
+    push_plain(&mut text, plain)?;
     Ok(text)
 }
 
 /// The nodes, the sessions and the last transaction of a machine.
 fn standing(alloc: Global, machine: &Machine) -> Result<String, MachineFault> {
-    let nodes = shown_nodes(alloc, machine.tree()?)?;
+    let tree = machine.tree()?;
     let sessions = machine.sessions()?;
-    shown(alloc, nodes.as_str(), sessions, machine.last()?)
+    let last = machine.last()?;
+    let nodes = shown_nodes(alloc, tree)?;
+    shown(alloc, nodes.as_str(), sessions, last)
 }
 
 /// The same of the plain table.
@@ -73,7 +94,7 @@ fn shown(
 }
 
 /// Applies a transaction, of which there are few.
-pub(crate) fn applied(machine: &mut Machine, txn: &Txn) -> Result<Applied, MachineFault>
+fn applied(machine: &mut Machine, txn: &Txn) -> Result<Applied, MachineFault>
     ensures undone { IfOk result (λ applied. restored applied.undo machine.new.state ≡ machine.old.state) }
     ensures last_step { IfOk result (λ applied. applied.undo.step ≡ machine.new.steps) }
     ensures stands { OnOk result (IsState machine.old.state.nodes) }
@@ -111,21 +132,56 @@ fn there_and_back(machine: &mut Machine, txn: &Txn) -> Result<(), MachineFault> 
     take_back(machine, undo)
 }
 
+/// Whether a machine stands so.
+fn stands_as(alloc: Global, machine: &Machine, stood: &str) -> Result<bool, MachineFault> {
+    let stands = standing(alloc, machine)?;
+    Ok(stands.as_str() == stood)
+}
+
+/// Whether a machine then stands so, after as many steps.
+fn comes_back_to(
+    alloc: Global,
+    machine: &mut Machine,
+    txn: &Txn,
+    stood: &str,
+) -> Result<bool, MachineFault> {
+    let steps = machine.steps()?;
+    there_and_back(machine, txn)?;
+    Ok(stands_as(alloc, machine, stood)? && machine.steps()? == steps)
+}
+
 /// Whether a machine then stands as before, after as many steps.
 fn comes_back(alloc: Global, machine: &mut Machine, txn: &Txn) -> Result<bool, MachineFault> {
     let before = standing(alloc, machine)?;
-    let steps = machine.steps()?;
-    there_and_back(machine, txn)?;
-    let after = standing(alloc, machine)?;
-    Ok(before.as_str() == after.as_str() && machine.steps()? == steps)
+    comes_back_to(alloc, machine, txn, before.as_str())
 }
 
-/// Whether an answer is shown alike.
-fn are_alike(alloc: Global, one: &TxnResult, other: &TxnResult) -> bool {
-    match (format!(in alloc; "{one:?}"), format!(in alloc; "{other:?}")) {
-        (Ok(one), Ok(other)) => one.as_str() == other.as_str(),
-        _ => false,
-    }
+/// An answer as it is shown.
+fn shown_answer(alloc: Global, answer: &TxnResult) -> Result<String, MachineFault> {
+    format!(in alloc; "{answer:?}").map_err(|_| MachineFault::NoMemory)
+}
+
+/// Whether an answer is shown so.
+fn is_shown_as(alloc: Global, answer: &TxnResult, shown: &str) -> Result<bool, MachineFault> {
+    let answer = shown_answer(alloc, answer)?;
+    Ok(answer.as_str() == shown)
+}
+
+/// Whether two answers are shown alike.
+fn are_alike(alloc: Global, one: &TxnResult, other: &TxnResult) -> Result<bool, MachineFault> {
+    let one = shown_answer(alloc, one)?;
+    is_shown_as(alloc, other, one.as_str())
+}
+
+/// Whether the plain table answers so.
+fn plain_answers(
+    alloc: Global,
+    plain: &mut Plain,
+    txn: &Txn,
+    answer: &TxnResult,
+) -> Result<bool, MachineFault> {
+    let other = plain.apply(txn)?;
+    are_alike(alloc, answer, &other)
 }
 
 /// Whether the machine, which applies it, takes it back and applies it again, and the plain table answer alike.
@@ -136,15 +192,14 @@ fn answer_alike(
     txn: &Txn,
 ) -> Result<bool, MachineFault> {
     there_and_back(machine, txn)?;
-    let one = applied(machine, txn)?.result;
-    Ok(are_alike(alloc, &one, &plain.apply(txn)?))
+    let applied = applied(machine, txn)?;
+    plain_answers(alloc, plain, txn, &applied.result)
 }
 
 /// Whether they then stand alike.
 fn stand_alike(alloc: Global, machine: &Machine, plain: &Plain) -> Result<bool, MachineFault> {
-    let one = standing(alloc, machine)?;
-    let other = plain_standing(alloc, plain)?;
-    Ok(one.as_str() == other.as_str())
+    let stands = plain_standing(alloc, plain)?;
+    stands_as(alloc, machine, stands.as_str())
 }
 
 /// Whether they answer each of these alike, and stand alike after the last.
@@ -161,12 +216,22 @@ fn agree_on(
     Ok(all && stand_alike(alloc, machine, plain)?)
 }
 
+/// Whether this is so of this machine and a new table.
+fn agrees_on(alloc: Global, machine: &mut Machine, txns: &[Txn]) -> Result<bool, MachineFault> {
+    let mut plain = Plain::new(alloc)?;
+    agree_on(alloc, machine, &mut plain, txns)
+}
+
+/// Whether this is so of a new machine and a new table.
+fn new_ones_agree(alloc: Global, txns: &[Txn]) -> Result<bool, MachineFault> {
+    let mut machine = new_machine(alloc)?;
+    agrees_on(alloc, &mut machine, txns)
+}
+
 /// Whether a new machine and a new table agree on a listing.
 fn agree(alloc: Global, listing: &str) -> Result<bool, MachineFault> {
-    let mut machine = new_machine(alloc)?;
-    let mut plain = Plain::new(alloc)?;
     let txns = txns_of(alloc, listing)?;
-    agree_on(alloc, &mut machine, &mut plain, txns.as_slice())
+    new_ones_agree(alloc, &txns)
 }
 
 /// Applies a transaction, of which there are few, for good.
@@ -177,7 +242,18 @@ fn advanced(machine: &mut Machine, txn: &Txn) -> Result<TxnResult, MachineFault>
     machine.advance(txn)
 }
 
-/// Whether the machine, which never goes back, and the plain table answer each of these alike.
+/// Whether the machine, which never goes back, and the plain table answer alike.
+fn advances_alike(
+    alloc: Global,
+    machine: &mut Machine,
+    plain: &mut Plain,
+    txn: &Txn,
+) -> Result<bool, MachineFault> {
+    let answer = advanced(machine, txn)?;
+    plain_answers(alloc, plain, txn, &answer)
+}
+
+/// Whether they answer each of these alike.
 fn advance_alike(
     alloc: Global,
     machine: &mut Machine,
@@ -186,8 +262,7 @@ fn advance_alike(
 ) -> Result<bool, MachineFault> {
     let mut all = true;
     for txn in txns {
-        let one = advanced(machine, txn)?;
-        all = are_alike(alloc, &one, &plain.apply(txn)?) && all;
+        all = advances_alike(alloc, machine, plain, txn)? && all;
     }
     Ok(all)
 }
@@ -203,12 +278,26 @@ fn advance_eighteen(
     Ok(alike && machine.steps()? == 18 && stand_alike(alloc, machine, plain)?)
 }
 
+/// The same of this machine and a new table.
+fn advances_eighteen(
+    alloc: Global,
+    machine: &mut Machine,
+    txns: &[Txn],
+) -> Result<bool, MachineFault> {
+    let mut plain = Plain::new(alloc)?;
+    advance_eighteen(alloc, machine, &mut plain, txns)
+}
+
+/// The same of a new machine and a new table.
+fn new_ones_advance(alloc: Global, txns: &[Txn]) -> Result<bool, MachineFault> {
+    let mut machine = new_machine(alloc)?;
+    advances_eighteen(alloc, &mut machine, txns)
+}
+
 /// The same of a new machine and a new table on a listing.
 fn advances(alloc: Global, listing: &str) -> Result<bool, MachineFault> {
-    let mut machine = new_machine(alloc)?;
-    let mut plain = Plain::new(alloc)?;
     let txns = txns_of(alloc, listing)?;
-    advance_eighteen(alloc, &mut machine, &mut plain, txns.as_slice())
+    new_ones_advance(alloc, &txns)
 }
 
 #[test]
@@ -252,25 +341,42 @@ fn shown_step(
     )
 }
 
+/// What a machine changes, and what it is then.
+fn step_of(alloc: Global, machine: &mut Machine, txn: &Txn) -> Result<String, MachineFault> {
+    let applied = applied(machine, txn)?;
+    shown_step(alloc, machine, applied.changes.as_slice())
+}
+
 /// What a new machine changes, and what it is then.
 fn first_step(alloc: Global, txn: &Txn) -> Result<String, MachineFault> {
     let mut machine = new_machine(alloc)?;
-    let applied = applied(&mut machine, txn)?;
-    shown_step(alloc, &machine, applied.changes.as_slice())
+    step_of(alloc, &mut machine, txn)
 }
 
-/// The same, of the first transaction of a listing.
-fn first_of(alloc: Global, listing: &str) -> Result<String, MachineFault> {
+/// The first transaction of a listing.
+fn first_txn(alloc: Global, listing: &str) -> Result<Txn, MachineFault> {
     match txns_of(alloc, listing)?.as_slice() {
-        [first, ..] => first_step(alloc, first),
+        [first, ..] => Ok(first.copy()?),
         [] => Err(MachineFault::NotLast),
     }
 }
 
+/// What a new machine changes by the first transaction of a listing, and what it is then.
+fn first_of(alloc: Global, listing: &str) -> Result<String, MachineFault> {
+    let first = first_txn(alloc, listing)?;
+    first_step(alloc, &first)
+}
+
+/// Whether this is what it is told.
+fn first_is(alloc: Global, listing: &str, told: &str) -> Result<bool, MachineFault> {
+    let first = first_of(alloc, listing)?;
+    Ok(first.as_str() == told)
+}
+
 #[test]
 fn opening_a_session_is_a_step_without_changes(rt: HostRuntime) {
-    let told = first_of(rt.alloc(), HISTORY);
-    assert!(rt; matches!(&told, Ok(told) if told.as_str() == "[] 1 Some(4000) 1 false"));
+    let told = "[] 1 Some(4000) 1 false";
+    assert_eq!(rt; first_is(rt.alloc(), HISTORY, told), Ok(true));
 }
 
 /// The record that comes back when it is another step's.
@@ -307,6 +413,18 @@ fn come_back_in_order(
     Ok(machine.steps()? == 0)
 }
 
+/// Whether the machine then stands so.
+fn come_back_to(
+    alloc: Global,
+    machine: &mut Machine,
+    first: &Txn,
+    second: &Txn,
+    stood: &str,
+) -> Result<bool, MachineFault> {
+    let back = come_back_in_order(machine, first, second)?;
+    Ok(back && stands_as(alloc, machine, stood)?)
+}
+
 /// Whether the machine then stands as before.
 fn both_come_back(
     alloc: Global,
@@ -315,17 +433,22 @@ fn both_come_back(
     second: &Txn,
 ) -> Result<bool, MachineFault> {
     let before = standing(alloc, machine)?;
-    let back = come_back_in_order(machine, first, second)?;
-    Ok(back && standing(alloc, machine)?.as_str() == before.as_str())
+    come_back_to(alloc, machine, first, second, before.as_str())
+}
+
+/// Whether this is so of a new machine and these two transactions.
+fn two_come_back(alloc: Global, txns: &[Txn]) -> Result<bool, MachineFault> {
+    let [first, second] = txns else {
+        return Ok(false);
+    };
+    let mut machine = new_machine(alloc)?;
+    both_come_back(alloc, &mut machine, first, second)
 }
 
 /// Whether this is so of the two transactions of a listing.
-fn two_come_back(alloc: Global, listing: &str) -> Result<bool, MachineFault> {
-    let mut machine = new_machine(alloc)?;
-    match txns_of(alloc, listing)?.as_slice() {
-        [first, second] => both_come_back(alloc, &mut machine, first, second),
-        _ => Ok(false),
-    }
+fn listed_come_back(alloc: Global, listing: &str) -> Result<bool, MachineFault> {
+    let txns = txns_of(alloc, listing)?;
+    two_come_back(alloc, &txns)
 }
 
 #[test]
@@ -333,7 +456,13 @@ fn the_last_step_is_taken_back_first(rt: HostRuntime) {
     let two_creates =
         "0000000000000001 0000000000000007 0 1000 create \"/a\" x6869 1 31 \"world\" \"anyone\" p -1\n\
         0000000000000002 0000000000000007 0 1000 create \"/b\" x6869 1 31 \"world\" \"anyone\" p -1\n";
-    assert_eq!(rt; two_come_back(rt.alloc(), two_creates), Ok(true));
+    assert_eq!(rt; listed_come_back(rt.alloc(), two_creates), Ok(true));
+}
+
+/// The transaction that the answer to one names, once it is applied.
+fn answered_zxid(machine: &mut Machine, txn: &Txn) -> Result<i64, MachineFault> {
+    let applied = applied(machine, txn)?;
+    Ok(applied.result.zxid)
 }
 
 /// Whether a transaction, applied, comes back; then it is applied for good.
@@ -343,7 +472,7 @@ fn comes_back_and_stays(
     txn: &Txn,
 ) -> Result<bool, MachineFault> {
     let back = comes_back(alloc, machine, txn)?;
-    Ok(applied(machine, txn)?.result.zxid == txn.zxid && back)
+    Ok(answered_zxid(machine, txn)? == txn.zxid && back)
 }
 
 /// Whether this is so of each of these.
@@ -355,10 +484,16 @@ fn all_come_back(alloc: Global, machine: &mut Machine, txns: &[Txn]) -> Result<b
     Ok(all)
 }
 
+/// Whether this is so of each of these on a new machine.
+fn new_ones_come_back(alloc: Global, txns: &[Txn]) -> Result<bool, MachineFault> {
+    let mut machine = new_machine(alloc)?;
+    all_come_back(alloc, &mut machine, txns)
+}
+
 /// Whether this is so of each transaction of a listing.
 fn each_comes_back(alloc: Global, listing: &str) -> Result<bool, MachineFault> {
-    let mut machine = new_machine(alloc)?;
-    all_come_back(alloc, &mut machine, txns_of(alloc, listing)?.as_slice())
+    let txns = txns_of(alloc, listing)?;
+    new_ones_come_back(alloc, &txns)
 }
 
 #[test]
@@ -377,17 +512,34 @@ fn session_and_steps(machine: &Machine) -> Result<(Option<i32>, u64), MachineFau
     Ok((machine.session(7)?, machine.steps()?))
 }
 
-/// The same of the copy of a new machine that has applied this.
-fn copied_after(alloc: Global, txn: &Txn) -> Result<(Option<i32>, u64), MachineFault> {
+/// The same of its copy.
+fn copied(machine: &Machine) -> Result<(Option<i32>, u64), MachineFault> {
+    let copy = copy_of(machine)?;
+    session_and_steps(&copy)
+}
+
+/// The same of the copy of a machine that has applied this.
+fn copied_after(machine: &mut Machine, txn: &Txn) -> Result<(Option<i32>, u64), MachineFault> {
+    answered_zxid(machine, txn)?;
+    copied(machine)
+}
+
+/// The same of the copy of a new machine that has.
+fn copied_after_first(alloc: Global, txn: &Txn) -> Result<(Option<i32>, u64), MachineFault> {
     let mut machine = new_machine(alloc)?;
-    applied(&mut machine, txn)?;
-    session_and_steps(&copy_of(&machine)?)
+    copied_after(&mut machine, txn)
+}
+
+/// The same of the copy of a new machine that has applied the first transaction of a listing.
+fn copied_after_listed(alloc: Global, listing: &str) -> Result<(Option<i32>, u64), MachineFault> {
+    let first = first_txn(alloc, listing)?;
+    copied_after_first(alloc, &first)
 }
 
 /// Whether two machines stand alike.
 fn machines_are_alike(alloc: Global, one: &Machine, other: &Machine) -> Result<bool, MachineFault> {
     let shown = standing(alloc, one)?;
-    Ok(standing(alloc, other)?.as_str() == shown.as_str())
+    stands_as(alloc, other, shown.as_str())
 }
 
 /// Whether a copy stands as the machine does, and then goes its own way with this.
@@ -398,7 +550,7 @@ fn goes_from(
     txn: &Txn,
 ) -> Result<bool, MachineFault> {
     let same = machines_are_alike(alloc, machine, copy)?;
-    applied(copy, txn)?;
+    answered_zxid(copy, txn)?;
     Ok(same && !machines_are_alike(alloc, machine, copy)?)
 }
 
@@ -408,26 +560,37 @@ fn its_copy_goes(alloc: Global, machine: &Machine, txn: &Txn) -> Result<bool, Ma
     goes_from(alloc, machine, &mut copy, txn)
 }
 
-/// Whether the copy of a new machine does, and leaves the machine as a new one.
-fn goes_its_own_way(alloc: Global, txn: &Txn) -> Result<bool, MachineFault> {
-    let machine = new_machine(alloc)?;
-    let goes = its_copy_goes(alloc, &machine, txn)?;
-    Ok(goes && machines_are_alike(alloc, &machine, &new_machine(alloc)?)?)
+/// Whether a machine stands as a new one.
+fn stands_as_new(alloc: Global, machine: &Machine) -> Result<bool, MachineFault> {
+    let new = new_machine(alloc)?;
+    machines_are_alike(alloc, machine, &new)
 }
 
-/// The first transaction of a listing.
-fn first_txn(alloc: Global, listing: &str) -> Result<Txn, MachineFault> {
-    match txns_of(alloc, listing)?.as_slice() {
-        [first, ..] => Ok(first.copy()?),
-        [] => Err(MachineFault::NotLast),
-    }
+/// Whether the copy of this new machine does, and leaves the machine as a new one.
+fn is_left_as_new(alloc: Global, machine: &Machine, txn: &Txn) -> Result<bool, MachineFault> {
+    let goes = its_copy_goes(alloc, machine, txn)?;
+    Ok(goes && stands_as_new(alloc, machine)?)
+}
+
+/// Whether the copy of a new machine does.
+fn goes_its_own_way(alloc: Global, txn: &Txn) -> Result<bool, MachineFault> {
+    let machine = new_machine(alloc)?;
+    is_left_as_new(alloc, &machine, txn)
+}
+
+/// Whether it does with the first transaction of a listing.
+fn goes_with_listed(alloc: Global, listing: &str) -> Result<bool, MachineFault> {
+    let first = first_txn(alloc, listing)?;
+    goes_its_own_way(alloc, &first)
 }
 
 #[test]
 fn a_copy_has_the_open_sessions(rt: HostRuntime) {
-    let open = first_txn(rt.alloc(), HISTORY).expect(&rt, "a transaction");
-    assert_eq!(rt; copied_after(rt.alloc(), &open), Ok((Some(4000), 0)));
-    assert_eq!(rt; goes_its_own_way(rt.alloc(), &open), Ok(true));
+    assert_eq!(rt;
+        copied_after_listed(rt.alloc(), HISTORY),
+        Ok((Some(4000), 0))
+    );
+    assert_eq!(rt; goes_with_listed(rt.alloc(), HISTORY), Ok(true));
 }
 
 /// Appends a line for a change: the transaction, what happened, and the path.
@@ -437,11 +600,17 @@ fn push_change(text: &mut String, zxid: i64, change: &Change) -> Result<(), NoMe
 }
 
 /// The same for each of these changes.
-fn push_changes(text: &mut String, zxid: i64, changes: &[Change]) -> Result<(), NoMemory> {
+fn push_changes(text: &mut String, zxid: i64, changes: &[Change]) -> Result<(), MachineFault> {
     for change in changes {
         push_change(text, zxid, change)?;
     }
     Ok(())
+}
+
+/// Applies a transaction, and appends what it changes.
+fn push_step(text: &mut String, machine: &mut Machine, txn: &Txn) -> Result<(), MachineFault> {
+    let applied = applied(machine, txn)?;
+    push_changes(text, txn.zxid, applied.changes.as_slice())
 }
 
 /// Applies these, and appends what each changes.
@@ -451,18 +620,34 @@ fn push_all_changes(
     txns: &[Txn],
 ) -> Result<(), MachineFault> {
     for txn in txns {
-        let applied = applied(machine, txn)?;
-        push_changes(text, txn.zxid, applied.changes.as_slice())?;
+        push_step(text, machine, txn)?;
     }
     Ok(())
 }
 
+/// The same on a new machine.
+fn push_new_changes(alloc: Global, text: &mut String, txns: &[Txn]) -> Result<(), MachineFault> {
+    let mut machine = new_machine(alloc)?;
+    push_all_changes(text, &mut machine, txns)
+}
+
+/// Appends what each transaction of a listing changes.
+fn push_listed(alloc: Global, text: &mut String, listing: &str) -> Result<(), MachineFault> {
+    let txns = txns_of(alloc, listing)?;
+    push_new_changes(alloc, text, &txns)
+}
+
 /// What each transaction of a listing changes.
 fn changes_of(alloc: Global, listing: &str) -> Result<String, MachineFault> {
-    let mut machine = new_machine(alloc)?;
     let mut text = String::new(alloc);
-    push_all_changes(&mut text, &mut machine, txns_of(alloc, listing)?.as_slice())?;
+    push_listed(alloc, &mut text, listing)?;
     Ok(text)
+}
+
+/// Whether these are its changes.
+fn changes_are(alloc: Global, listing: &str, changes: &str) -> Result<bool, MachineFault> {
+    let told = changes_of(alloc, listing)?;
+    Ok(told.as_str() == changes)
 }
 
 /// What the history changes: a multi part by part, and the end of a session at its node and that node's parent.
@@ -485,127 +670,33 @@ const CHANGES: &str = "2 ChildrenChanged /\n\
 
 #[test]
 fn changes_come_by_path(rt: HostRuntime) {
-    assert!(rt; matches!(&changes_of(rt.alloc(), HISTORY), Ok(told) if told.as_str() == CHANGES));
+    assert_eq!(rt; changes_are(rt.alloc(), HISTORY, CHANGES), Ok(true));
 }
 
-static PATHS: [&str; 8] = [
-    "/a",
-    "/a",
-    "/a/b",
-    "/a/b/c",
-    "/d",
-    "/d/e",
-    "/",
-    "/zookeeper/quota",
-];
-
-static SESSIONS: [&str; 4] = [
-    "0000000000000007",
-    "0000000000000008",
-    "ffffffffffffffff",
-    "0000000000000000",
-];
-
-/// What stands before a path, and what behind it.
-static PARTS: [(&str, &str); 11] = [
-    ("create", " x6869 1 31 \"world\" \"anyone\" p -1"),
-    ("create", " x6869 1 31 \"world\" \"anyone\" p -1"),
-    ("create", " - 0 p 5"),
-    ("create", " x 1 1 \"world\" \"anyone\" e 2147483647"),
-    ("create", " x00 0 e -1"),
-    ("delete", ""),
-    ("delete", ""),
-    ("setData", " x6f6b 2"),
-    ("setData", " - -1"),
-    ("setACL", " 1 7 \"world\" \"anyone\" 3"),
-    ("create0", " x33 1 31 \"world\" \"anyone\" e"),
-];
-
-/// What needs no path.
-static OTHERS: [&str; 5] = [
-    "createSession 4000",
-    "createSession 5000",
-    "closeSession",
-    "closeSession",
-    "error -110",
-];
-
-/// The last part of a multi.
-static LAST_PARTS: [&str; 4] = ["", "", " ; check \"/a\" 0", " ; error -2"];
-
-/// Numbers by a fixed rule: Knuth's for MMIX (The Art of Computer Programming, volume 2, section 3.3.4).
-#[derive(Drop)]
-struct Draws {
-    state: u64,
+/// Whether the machine and the plain table agree on a listing of so many transactions that are drawn.
+fn agree_on_drawn(alloc: Global, draws: &mut Draws, count: i64) -> Result<bool, MachineFault> {
+    let listing = drawn_listing(alloc, draws, count)?;
+    agree(alloc, listing.as_str())
 }
 
-impl Draws {
-    fn next(&mut self) -> usize {
-        let product = self.state.wrapping_mul(6_364_136_223_846_793_005);
-        self.state = product.wrapping_add(1_442_695_040_888_963_407);
-        (self.state >> 33) as usize
-    }
-
-    fn text(&mut self, texts: &[&'static str]) -> &'static str {
-        let number = self.next();
-        match texts.get(number % texts.len().max(1)) {
-            Some(text) => *text,
-            None => "",
+/// The first of 240 such listings on which they do not agree.
+fn first_disagreement(alloc: Global, draws: &mut Draws) -> Result<Option<i64>, MachineFault> {
+    for list in 0..240 {
+        if !agree_on_drawn(alloc, draws, 12 + list % 36)? {
+            return Ok(Some(list));
         }
     }
+    Ok(None)
 }
 
-/// Appends an operation on a path, of the first so many kinds.
-fn push_part(text: &mut String, draws: &mut Draws, kinds: usize) -> Result<(), NoMemory> {
-    let path = draws.text(&PATHS);
-    if let Some((word, rest)) = PARTS.get(draws.next() % kinds.max(1)) {
-        write!(text, "{word} \"{path}\"{rest}")?;
-    }
-    Ok(())
-}
-
-fn push_multi(text: &mut String, draws: &mut Draws) -> Result<(), NoMemory> {
-    text.push_str("multi ; ")?;
-    push_part(text, draws, 9)?;
-    text.push_str(" ; ")?;
-    push_part(text, draws, 9)?;
-    text.push_str(draws.text(&LAST_PARTS))?;
-    Ok(())
-}
-
-fn push_operation(text: &mut String, draws: &mut Draws) -> Result<(), NoMemory> {
-    match draws.next() % 8 {
-        0 => push_multi(text, draws),
-        1 => Ok(text.push_str(draws.text(&OTHERS))?),
-        _ => push_part(text, draws, 11),
-    }
-}
-
-/// A listing of so many transactions.
-fn drawn_listing(alloc: Global, draws: &mut Draws, count: i64) -> Result<String, NoMemory> {
-    let mut text = String::new(alloc);
-    for zxid in 0..count {
-        write!(text, "{zxid:016x} {} 0 {zxid} ", draws.text(&SESSIONS))?;
-        push_operation(&mut text, draws)?;
-        text.push('\n')?;
-    }
-    Ok(text)
-}
-
-/// Whether the machine and the plain table agree on such a listing.
-fn agree_on_drawn(alloc: Global, draws: &mut Draws, count: i64) -> Result<bool, MachineFault> {
-    agree(alloc, drawn_listing(alloc, draws, count)?.as_str())
+/// The same of those that are drawn from 1 on.
+fn disagreement_from_1(alloc: Global) -> Result<Option<i64>, MachineFault> {
+    let mut draws = Draws::new(1);
+    first_disagreement(alloc, &mut draws)
 }
 
 #[test]
 fn machine_and_plain_table_agree(rt: HostRuntime) {
     assert_eq!(rt; agree(rt.alloc(), HISTORY), Ok(true));
-    let mut draws = Draws { state: 1 };
-    for list in 0..240 {
-        assert_eq!(rt;
-            agree_on_drawn(rt.alloc(), &mut draws, 12 + list % 36),
-            Ok(true),
-            "list {list}"
-        );
-    }
+    assert_eq!(rt; disagreement_from_1(rt.alloc()), Ok(None));
 }

@@ -10,9 +10,8 @@ use std::alloc::Global;
 use zk_acl::{Acls, Ids, Text};
 use zk_listing::{ListCause, assemble, push_line, read_acl, read_content, read_int, read_quoted};
 use zk_machine::{Machine, MachineFault};
-use zk_path::NoMemory;
 use zk_prepare::{Call, Part, Parts, Prep, Request};
-use zk_table::{Content, Txn};
+use zk_table::{Content, Txn, TxnResult};
 
 /// The session that asks.
 pub(crate) const SESSION: i64 = 7;
@@ -63,29 +62,53 @@ impl<'a> Fields<'a> {
     }
 }
 
-/// The part that a word and its fields spell.
-fn part_of(word: &str, mut fields: Fields<'_>) -> Result<Part, ListCause> {
+/// What a create asks.
+fn create(fields: &mut Fields<'_>) -> Result<Part, ListCause> {
     let path = fields.path()?;
+    let content = fields.content()?;
+    let acl = fields.acl()?;
+    let flags = fields.int()?;
+    Ok(Part::Create {
+        path,
+        content,
+        acl,
+        flags,
+    })
+}
+
+/// What a delete asks.
+fn delete(fields: &mut Fields<'_>) -> Result<Part, ListCause> {
+    let path = fields.path()?;
+    let version = fields.int()?;
+    Ok(Part::Delete { path, version })
+}
+
+/// What a change of content asks.
+fn set_data(fields: &mut Fields<'_>) -> Result<Part, ListCause> {
+    let path = fields.path()?;
+    let content = fields.content()?;
+    let version = fields.int()?;
+    Ok(Part::SetData {
+        path,
+        content,
+        version,
+    })
+}
+
+/// What a check asks.
+fn check(fields: &mut Fields<'_>) -> Result<Part, ListCause> {
+    let path = fields.path()?;
+    let version = fields.int()?;
+    Ok(Part::Check { path, version })
+}
+
+/// The part that a word and its fields spell.
+fn part_of(word: &str, fields: &mut Fields<'_>) -> Result<Part, ListCause> {
     match word {
-        "create" => Ok(Part::Create {
-            path,
-            content: fields.content()?,
-            acl: fields.acl()?,
-            flags: fields.int()?,
-        }),
-        "delete" => Ok(Part::Delete {
-            path,
-            version: fields.int()?,
-        }),
-        "setData" => Ok(Part::SetData {
-            path,
-            content: fields.content()?,
-            version: fields.int()?,
-        }),
-        "check" => Ok(Part::Check {
-            path,
-            version: fields.int()?,
-        }),
+        "create" => create(fields),
+        "delete" => delete(fields),
+        "setData" => set_data(fields),
+        "check" => check(fields),
         _ => Err(ListCause::Word),
     }
 }
@@ -118,18 +141,52 @@ fn alone(part: Part) -> Result<Request, ListCause> {
     }
 }
 
-/// The parts that stand behind `multi ; `.
+/// The part that a text of a multi spells.
+fn part_in(alloc: Global, text: &str) -> Result<Part, ListCause> {
+    let Some((word, rest)) = text.trim().split_once(' ') else {
+        return Err(ListCause::Fields);
+    };
+    part_of(word, &mut Fields { alloc, rest })
+}
+
+/// Adds the parts that stand behind `multi ; `.
+fn push_parts(alloc: Global, parts: &mut Vec<Part>, text: &str) -> Result<(), ListCause> {
+    for part in text.split(';') {
+        parts.push(part_in(alloc, part)?)?;
+    }
+    Ok(())
+}
+
+/// The multi of these parts.
 fn multi_of(alloc: Global, text: &str) -> Result<Request, ListCause> {
     let mut parts = Vec::new(alloc);
-    for part in text.split(';') {
-        let Some((word, rest)) = part.trim().split_once(' ') else {
-            return Err(ListCause::Fields);
-        };
-        parts.push(part_of(word, Fields { alloc, rest })?)?;
-    }
+    push_parts(alloc, &mut parts, text)?;
     Ok(Request::Multi {
         parts: Parts::new(parts),
     })
+}
+
+/// What opening a session asks.
+fn open_session(fields: &mut Fields<'_>) -> Result<Request, ListCause> {
+    let timeout = fields.int()?;
+    Ok(Request::OpenSession { timeout })
+}
+
+/// What a change of an access control list asks.
+fn set_acl(fields: &mut Fields<'_>) -> Result<Request, ListCause> {
+    let path = fields.path()?;
+    let acl = fields.acl()?;
+    let version = fields.int()?;
+    Ok(Request::SetAcl { path, acl, version })
+}
+
+/// The request, not a multi, that a word and its fields spell.
+fn single(word: &str, fields: &mut Fields<'_>) -> Result<Request, ListCause> {
+    match word {
+        "createSession" => open_session(fields),
+        "setACL" => set_acl(fields),
+        _ => alone(part_of(word, fields)?),
+    }
 }
 
 /// The request that a line spells.
@@ -145,30 +202,22 @@ pub(crate) fn request_of(alloc: Global, line: &str) -> Result<Request, ListCause
     let Some((word, rest)) = line.split_once(' ') else {
         return Err(ListCause::Fields);
     };
-    let mut fields = Fields { alloc, rest };
-    match word {
-        "multi" => multi_of(alloc, rest.strip_prefix("; ").unwrap_or(rest)),
-        "createSession" => Ok(Request::OpenSession {
-            timeout: fields.int()?,
-        }),
-        "setACL" => Ok(Request::SetAcl {
-            path: fields.path()?,
-            acl: fields.acl()?,
-            version: fields.int()?,
-        }),
-        _ => alone(part_of(word, fields)?),
+    if word == "multi" {
+        return multi_of(alloc, rest.strip_prefix("; ").unwrap_or(rest));
     }
+    single(word, &mut Fields { alloc, rest })
 }
 
 /// What the session asks by a line, with no identity proved.
 pub(crate) fn call_of(alloc: Global, line: &str) -> Result<Call, ListCause> {
+    let request = request_of(alloc, line)?;
     Ok(Call {
         tag: 1,
         session: SESSION,
         cxid: 3,
         auths: Ids::new(Vec::new(alloc)),
         now: 2000,
-        request: request_of(alloc, line)?,
+        request,
     })
 }
 
@@ -177,13 +226,37 @@ pub(crate) fn txns_of(alloc: Global, listing: &str) -> Result<Vec<Txn>, ListCaus
     assemble(alloc, listing).map_err(|fault| fault.cause)
 }
 
+/// A leader whose committed machine is this one, and whose tail are these.
+fn leader_over(alloc: Global, machine: &Machine, tail: &[Txn]) -> Result<Prep, ListCause>
+    requires { machine.now.failed ≡ false }
+    ensures { IfOk result (λ prep. prep.failed ≡ false) }
+{
+    Ok(Prep::start(alloc, machine, tail)?)
+}
+
+/// A leader whose committed machine is in the start state, and whose tail are these.
+fn leader_with(alloc: Global, tail: &[Txn]) -> Result<Prep, ListCause>
+    ensures { IfOk result (λ prep. prep.failed ≡ false) }
+{
+    let machine = Machine::new(alloc)?;
+    leader_over(alloc, &machine, tail)
+}
+
 /// A leader whose committed machine is in the start state, and whose tail is a listing.
 pub(crate) fn leader_after(alloc: Global, listing: &str) -> Result<Prep, ListCause>
     ensures { IfOk result (λ prep. prep.failed ≡ false) }
 {
-    let machine = Machine::new(alloc)?;
     let tail = txns_of(alloc, listing)?;
-    Ok(Prep::start(alloc, &machine, tail.as_slice())?)
+    leader_with(alloc, &tail)
+}
+
+/// Takes what was prepared, and appends its line.
+fn take(prep: &mut Prep, log: &mut String, txn: &Txn) -> Result<(), ListCause>
+    requires { prep.old.failed ≡ false }
+    ensures { OnOk result (prep.new.failed ≡ false) }
+{
+    push_line(log, txn)?;
+    Ok(prep.taken(txn)?)
 }
 
 /// Prepares a call, takes what it is, and appends its line.
@@ -192,35 +265,79 @@ pub(crate) fn submit(
     log: &mut String,
     call: &Call,
     zxid: i64,
-) -> Result<(), NoMemory>
+) -> Result<(), ListCause>
     requires { prep.old.failed ≡ false }
     ensures { OnOk result (prep.new.failed ≡ false) }
 {
     let txn = prep.make(call, zxid)?;
-    push_line(log, &txn)?;
-    prep.taken(&txn)
+    take(prep, log, &txn)
+}
+
+/// The same for a line.
+fn submit_line(
+    alloc: Global,
+    prep: &mut Prep,
+    log: &mut String,
+    ask: &str,
+    zxid: i64,
+) -> Result<(), ListCause>
+    requires { prep.old.failed ≡ false }
+    ensures { OnOk result (prep.new.failed ≡ false) }
+{
+    let call = call_of(alloc, ask)?;
+    submit(prep, log, &call, zxid)
+}
+
+/// The same for each of these lines, from zxid 16 on.
+fn submit_all(
+    alloc: Global,
+    prep: &mut Prep,
+    log: &mut String,
+    asks: &[&str],
+) -> Result<(), ListCause>
+    requires { prep.old.failed ≡ false }
+{
+    let mut zxid = 16;
+    for ask in asks {
+        submit_line(alloc, prep, log, ask, zxid)?;
+        zxid = zxid.wrapping_add(1);
+    }
+    Ok(())
+}
+
+/// What each of these asks comes to for this leader.
+fn lines_by(alloc: Global, prep: &mut Prep, asks: &[&str]) -> Result<String, ListCause>
+    requires { prep.old.failed ≡ false }
+{
+    let mut log = String::new(alloc);
+    submit_all(alloc, prep, &mut log, asks)?;
+    Ok(log)
 }
 
 /// What each of these asks comes to, one after the other, from zxid 16 on: the lines of a listing.
 pub(crate) fn lines_of(alloc: Global, history: &str, asks: &[&str]) -> Result<String, ListCause> {
     let mut prep = leader_after(alloc, history)?;
-    let mut log = String::new(alloc);
-    let mut zxid = 16;
-    for ask in asks {
-        let call = call_of(alloc, ask)?;
-        submit(&mut prep, &mut log, &call, zxid)?;
-        zxid = zxid.wrapping_add(1);
+    lines_by(alloc, &mut prep, asks)
+}
+
+/// Appends the operation of a line, with its newline.
+fn push_op(ops: &mut String, line: &str) -> Result<(), ListCause> {
+    ops.push_str(line.get(HEADER.len()..).unwrap_or(line))?;
+    Ok(ops.push('\n')?)
+}
+
+/// Appends the operations of these lines, each with its newline.
+fn push_ops(ops: &mut String, lines: &str) -> Result<(), ListCause> {
+    for line in lines.lines() {
+        push_op(ops, line)?;
     }
-    Ok(log)
+    Ok(())
 }
 
 /// The operations of these lines, each with its newline.
 fn ops_in(alloc: Global, lines: &str) -> Result<String, ListCause> {
     let mut ops = String::new(alloc);
-    for line in lines.lines() {
-        ops.push_str(line.get(HEADER.len()..).unwrap_or(line))?;
-        ops.push('\n')?;
-    }
+    push_ops(&mut ops, lines)?;
     Ok(ops)
 }
 
@@ -230,15 +347,42 @@ pub(crate) fn ops_of(alloc: Global, history: &str, asks: &[&str]) -> Result<Stri
     ops_in(alloc, lines.as_str())
 }
 
+/// Whether this is told.
+pub(crate) fn tells(told: Result<String, ListCause>, expected: &str) -> Result<bool, ListCause> {
+    let told = told?;
+    Ok(told.as_str() == expected)
+}
+
+/// Applies a transaction, of which there are few, and gives its answer.
+pub(crate) fn applied(machine: &mut Machine, txn: &Txn) -> Result<TxnResult, MachineFault> {
+    if machine.steps()? == u64::MAX {
+        return Err(MachineFault::Failed);
+    }
+    Ok(machine.apply(txn)?.result)
+}
+
+/// Applies each of these.
+fn apply_all(machine: &mut Machine, txns: &[Txn]) -> Result<(), MachineFault> {
+    for txn in txns {
+        applied(machine, txn)?;
+    }
+    Ok(())
+}
+
+/// A machine in the state that these lead to.
+fn machine_with(alloc: Global, txns: &[Txn]) -> Result<Machine, MachineFault> {
+    let mut machine = Machine::new(alloc)?;
+    apply_all(&mut machine, txns)?;
+    Ok(machine)
+}
+
+/// The transactions of a listing, where what is refused is the machine's fault.
+pub(crate) fn machine_txns(alloc: Global, listing: &str) -> Result<Vec<Txn>, MachineFault> {
+    txns_of(alloc, listing).map_err(|_| MachineFault::NoMemory)
+}
+
 /// A machine in the state that a listing leads to.
 pub(crate) fn machine_after(alloc: Global, listing: &str) -> Result<Machine, MachineFault> {
-    let mut machine = Machine::new(alloc)?;
-    let txns = txns_of(alloc, listing).map_err(|_| MachineFault::NoMemory)?;
-    for txn in &txns {
-        if machine.steps()? == u64::MAX {
-            return Err(MachineFault::Failed);
-        }
-        machine.apply(txn)?;
-    }
-    Ok(machine)
+    let txns = machine_txns(alloc, listing)?;
+    machine_with(alloc, &txns)
 }

@@ -1,7 +1,7 @@
 //! Which refusal comes first: each request here has several faults, and is refused for the first of them. Then one
 //! request has a fault less than the one before it.
 
-use crate::asking::{HISTORY, lines_of, ops_of};
+use crate::asking::{lines_of, ops_of, tells};
 
 /// `/a` has version 0 and a child, `/r` may only be read, `/n` may not be read, and `/e` belongs to the session.
 const TREE: &str = "0000000000000001 0000000000000007 0 1000 createSession 4000\n\
@@ -35,10 +35,7 @@ fn refusals_of_creates_come_in_their_order(rt: HostRuntime) {
     );
     let expected =
         "error -8\nerror -8\nerror -114\nerror -114\nerror -101\nerror -102\nerror -8\nerror -8\nerror -8\nerror -8\nerror -110\nerror -110\nerror -108\n";
-    assert!(rt;
-        matches!(&told, Ok(told) if told.as_str() == expected),
-        "{told:?}"
-    );
+    assert_eq!(rt; tells(told, expected), Ok(true));
 }
 
 #[test]
@@ -61,10 +58,7 @@ fn refusals_of_deletes_come_in_their_order(rt: HostRuntime) {
     );
     let expected =
         "error -8\nerror -8\nerror -8\nerror -8\nerror -101\nerror -102\nerror -103\nerror -111\ndelete \"/a/b\"\ndelete \"/a\"\n";
-    assert!(rt;
-        matches!(&told, Ok(told) if told.as_str() == expected),
-        "{told:?}"
-    );
+    assert_eq!(rt; tells(told, expected), Ok(true));
 }
 
 #[test]
@@ -94,10 +88,7 @@ fn refusals_of_sets_and_checks_come_in_their_order(rt: HostRuntime) {
     let expected = "error -8\nerror -101\nerror -102\nerror -103\nsetData \"/a\" - 1\n\
         error -8\nerror -114\nerror -101\nerror -102\nerror -103\nsetACL \"/a\" 1 31 \"world\" \"anyone\" 1\n\
         multi ; error -8\nmulti ; error -101\nmulti ; error -102\nmulti ; error -103\nmulti ; check \"/a\" 2\n";
-    assert!(rt;
-        matches!(&told, Ok(told) if told.as_str() == expected),
-        "{told:?}"
-    );
+    assert_eq!(rt; tells(told, expected), Ok(true));
 }
 
 #[test]
@@ -122,8 +113,5 @@ fn without_a_session_all_is_refused_but_opening_one(rt: HostRuntime) {
         0000000000000014 0000000000000007 3 2000 error -112\n\
         0000000000000015 0000000000000007 3 2000 error -112\n\
         0000000000000016 0000000000000016 3 2000 createSession 30000\n";
-    assert!(rt;
-        matches!(&told, Ok(told) if told.as_str() == expected),
-        "{told:?}"
-    );
+    assert_eq!(rt; tells(told, expected), Ok(true));
 }

@@ -73,9 +73,8 @@ impl Primary for Refusing {
     ghost closing_tag = { λ tag session now. refl };
 }
 
-/// A server that leads itself alone, in Broadcast.
-fn leads_alone(alloc: Global) -> Result<Server<Refusing>, RuleFault> {
-    let mut server = Server::restored(alloc, 1, 1, Stable::new(alloc));
+/// A server leads itself alone, in Broadcast.
+fn lead_alone(alloc: Global, server: &mut Server<Refusing>) -> Result<(), RuleFault> {
     server.lead(alloc)?;
     server.c_epoch(alloc, &ALONE, 1, 0)?;
     let said = Vote {
@@ -84,18 +83,31 @@ fn leads_alone(alloc: Global) -> Result<Server<Refusing>, RuleFault> {
     };
     server.ack_epoch(alloc, &ALONE, 1, 1, true, said)?;
     server.ack_leader(alloc, &ALONE, 1, 1, 0)?;
-    Ok(server)
+    Ok(())
+}
+
+/// Whether a call is told this, and so many entries are delivered then.
+fn is_told(
+    alloc: Global,
+    server: &mut Server<Refusing>,
+    tag: u64,
+    fault: Option<RuleFault>,
+    delivered: usize,
+) -> bool {
+    ends_below(server)
+        && server.submit(alloc, &ALONE, EchoCall { tag }).err() == fault
+        && server.delivered().len() == delivered
+}
+
+/// Whether a server that leads itself alone refuses the call with tag 13 for memory, and takes one after it.
+fn refuses_and_takes(alloc: Global, server: &mut Server<Refusing>) -> bool {
+    lead_alone(alloc, server).is_ok()
+        && is_told(alloc, server, 13, Some(RuleFault::NoMemory), 0)
+        && is_told(alloc, server, 1, None, 1)
 }
 
 #[test]
 fn a_call_after_one_that_was_refused_memory(rt: HostRuntime) {
-    let mut server = leads_alone(rt.alloc()).expect(&rt, "memory");
-    assert!(rt; ends_below(&server));
-    let refused = server.submit(rt.alloc(), &ALONE, EchoCall { tag: 13 });
-    assert!(rt; matches!(refused, Err(RuleFault::NoMemory)));
-    assert_eq!(rt; server.delivered().len(), 0);
-    assert!(rt; ends_below(&server));
-    let told = server.submit(rt.alloc(), &ALONE, EchoCall { tag: 1 });
-    assert!(rt; told.is_ok());
-    assert_eq!(rt; server.delivered().len(), 1);
+    let mut server = Server::restored(rt.alloc(), 1, 1, Stable::new(rt.alloc()));
+    assert!(rt; refuses_and_takes(rt.alloc(), &mut server));
 }

@@ -54,6 +54,13 @@ fn path_of(alloc: Global, text: &str) -> Result<Path, NoMemory> {
     Path::read(alloc, text).map_err(|_| NoMemory)
 }
 
+/// The start tree, and a path.
+fn start_and_path(alloc: Global, text: &str) -> Result<(Tree, Path), NoMemory> {
+    let path = path_of(alloc, text)?;
+    let tree = new_tree(alloc)?;
+    Ok((tree, path))
+}
+
 /// Whether these are the paths of these texts.
 fn are(paths: &[Path], texts: &[&str]) -> bool {
     paths.len() == texts.len()
@@ -103,7 +110,8 @@ fn owns(tree: &Tree, session: i64, texts: &[&str]) -> Result<bool, NoMemory> {
 }
 
 /// Whether a session owns a node from when it is put until it is taken.
-fn comes_and_goes(tree: &mut Tree, path: &Path, node: Node) -> Result<bool, NoMemory> {
+fn comes_and_goes(alloc: Global, tree: &mut Tree, path: &Path) -> Result<bool, NoMemory> {
+    let node = node_of(alloc, 5, 0)?;
     let put = is_put(tree, path, node)?;
     let owned = owns(tree, 5, &["/x"])?;
     let owner = owner_of_taken(tree, path);
@@ -112,12 +120,15 @@ fn comes_and_goes(tree: &mut Tree, path: &Path, node: Node) -> Result<bool, NoMe
     Ok(put && owned && owner == Some(5) && gone && empty)
 }
 
+/// The same of the start tree.
+fn comes_to_start_and_goes(alloc: Global) -> Result<bool, NoMemory> {
+    let (mut tree, path) = start_and_path(alloc, "/x")?;
+    comes_and_goes(alloc, &mut tree, &path)
+}
+
 #[test]
 fn a_session_owns_its_node_until_it_is_taken(rt: HostRuntime) {
-    let mut tree = new_tree(rt.alloc()).expect(&rt, "memory");
-    let path = path_of(rt.alloc(), "/x").expect(&rt, "a path");
-    let node = node_of(rt.alloc(), 5, 0).expect(&rt, "memory");
-    assert_eq!(rt; comes_and_goes(&mut tree, &path, node), Ok(true));
+    assert_eq!(rt; comes_to_start_and_goes(rt.alloc()), Ok(true));
 }
 
 /// Whether the start tree has these paths, and this path these children.
@@ -131,17 +142,24 @@ fn has_paths(
     Ok(paths && are(&tree.children(path)?, children))
 }
 
+/// Whether a tree has the paths of the start and this one its child there, how many children are counted, and whether
+/// nobody owns a node.
+fn answers(tree: &Tree, path: &Path) -> Result<(bool, usize, bool), NoMemory> {
+    let paths = ["/", "/zookeeper", "/zookeeper/quota"];
+    let has = has_paths(tree, &paths, path, &["/zookeeper/quota"])?;
+    let free = owns(tree, 0, &[])?;
+    Ok((has, tree.child_count(path), free))
+}
+
+/// The same of the start tree.
+fn start_answers(alloc: Global) -> Result<(bool, usize, bool), NoMemory> {
+    let (tree, path) = start_and_path(alloc, "/zookeeper")?;
+    answers(&tree, &path)
+}
+
 #[test]
 fn the_start_tree_answers(rt: HostRuntime) {
-    let tree = new_tree(rt.alloc()).expect(&rt, "memory");
-    let path = path_of(rt.alloc(), "/zookeeper").expect(&rt, "a path");
-    let paths = ["/", "/zookeeper", "/zookeeper/quota"];
-    assert_eq!(rt;
-        has_paths(&tree, &paths, &path, &["/zookeeper/quota"]),
-        Ok(true)
-    );
-    assert_eq!(rt; tree.child_count(&path), 1);
-    assert_eq!(rt; owns(&tree, 0, &[]), Ok(true));
+    assert_eq!(rt; start_answers(rt.alloc()), Ok((true, 1, true)));
 }
 
 /// Whether an entry is a node of the start with this path and so many children.
@@ -160,11 +178,16 @@ fn lends(tree: &Tree, nodes: &[(&str, usize)]) -> Result<bool, NoMemory> {
     )
 }
 
+/// The same of the start tree.
+fn start_lends(alloc: Global, nodes: &[(&str, usize)]) -> Result<bool, NoMemory> {
+    let tree = new_tree(alloc)?;
+    lends(&tree, nodes)
+}
+
 #[test]
 fn a_tree_lends_its_nodes_in_order(rt: HostRuntime) {
-    let tree = new_tree(rt.alloc()).expect(&rt, "memory");
     let nodes = [("/", 1), ("/zookeeper", 1), ("/zookeeper/quota", 0)];
-    assert_eq!(rt; lends(&tree, &nodes), Ok(true));
+    assert_eq!(rt; start_lends(rt.alloc(), &nodes), Ok(true));
 }
 
 /// The owner of the node at the path of a text.
@@ -188,12 +211,22 @@ fn has_none(tree: &Tree, text: &str) -> bool {
     tree.entry_by_text(text).is_none()
 }
 
+/// The owner of one node, the version of another, and whether there is no third one.
+fn found(tree: &Tree) -> (Option<i64>, Option<i32>, bool) {
+    let owner = owner_by(tree, "/zookeeper");
+    let version = version_by(tree, "/zookeeper/quota");
+    (owner, version, has_none(tree, "/quota"))
+}
+
+/// The same of the start tree.
+fn found_at_start(alloc: Global) -> Result<(Option<i64>, Option<i32>, bool), NoMemory> {
+    let tree = new_tree(alloc)?;
+    Ok(found(&tree))
+}
+
 #[test]
 fn texts_find_nodes_and_paths(rt: HostRuntime) {
-    let tree = new_tree(rt.alloc()).expect(&rt, "memory");
-    assert_eq!(rt; owner_by(&tree, "/zookeeper"), Some(0));
-    assert_eq!(rt; version_by(&tree, "/zookeeper/quota"), Some(0));
-    assert!(rt; has_none(&tree, "/quota"));
+    assert_eq!(rt; found_at_start(rt.alloc()), Ok((Some(0), Some(0), true)));
 }
 
 /// How many children a stat counts, and how often they changed.
@@ -204,28 +237,59 @@ fn counts_of(tree: &Tree, path: &Path) -> Option<(i32, i32)> {
     }
 }
 
+/// The same of the start tree.
+fn counts_at_start(alloc: Global, text: &str) -> Result<Option<(i32, i32)>, NoMemory> {
+    let (tree, path) = start_and_path(alloc, text)?;
+    Ok(counts_of(&tree, &path))
+}
+
 #[test]
 fn a_stat_counts_children(rt: HostRuntime) {
-    let tree = new_tree(rt.alloc()).expect(&rt, "memory");
-    let path = path_of(rt.alloc(), "/zookeeper").expect(&rt, "a path");
-    assert_eq!(rt; counts_of(&tree, &path), Some((1, -1)));
-    let absent = path_of(rt.alloc(), "/x").expect(&rt, "a path");
-    assert_eq!(rt; counts_of(&tree, &absent), None);
+    assert_eq!(rt;
+        counts_at_start(rt.alloc(), "/zookeeper"),
+        Ok(Some((1, -1)))
+    );
+    assert_eq!(rt; counts_at_start(rt.alloc(), "/x"), Ok(None));
+}
+
+/// The version of the node at a path.
+fn version_at(tree: &Tree, path: &Path) -> Option<i32> {
+    match tree.get(path) {
+        Some(node) => Some(node.version),
+        None => None,
+    }
+}
+
+/// Changes the node at a path: the versions before and after, and how many children are counted.
+fn changed(
+    alloc: Global,
+    tree: &mut Tree,
+    path: &Path,
+) -> Result<(Option<i32>, Option<i32>, usize), NoMemory> {
+    let node = node_of(alloc, 0, 3)?;
+    let old = version_of_changed(tree, path, node);
+    Ok((old, version_at(tree, path), tree.child_count(path)))
+}
+
+/// The same on the start tree.
+fn changed_at_start(alloc: Global) -> Result<(Option<i32>, Option<i32>, usize), NoMemory> {
+    let (mut tree, path) = start_and_path(alloc, "/zookeeper")?;
+    changed(alloc, &mut tree, &path)
 }
 
 #[test]
 fn a_change_gives_the_old_node(rt: HostRuntime) {
-    let mut tree = new_tree(rt.alloc()).expect(&rt, "memory");
-    let path = path_of(rt.alloc(), "/zookeeper").expect(&rt, "a path");
-    let node = node_of(rt.alloc(), 0, 3).expect(&rt, "memory");
-    assert_eq!(rt; version_of_changed(&mut tree, &path, node), Some(0));
-    assert!(rt; matches!(tree.get(&path), Some(node) if node.version == 3));
-    assert_eq!(rt; tree.child_count(&path), 1);
+    assert_eq!(rt; changed_at_start(rt.alloc()), Ok((Some(0), Some(3), 1)));
+}
+
+/// What a refused put becomes.
+fn refused_put(alloc: Global) -> Result<NoMemory, NoMemory> {
+    let path = path_of(alloc, "/x")?;
+    let node = node_of(alloc, 0, 0)?;
+    Ok(NoMemory::from(Refused { path, node }))
 }
 
 #[test]
 fn a_refused_put_is_want_of_memory(rt: HostRuntime) {
-    let path = path_of(rt.alloc(), "/x").expect(&rt, "a path");
-    let node = node_of(rt.alloc(), 0, 0).expect(&rt, "memory");
-    assert_eq!(rt; NoMemory::from(Refused { path, node }), NoMemory);
+    assert_eq!(rt; refused_put(rt.alloc()), Ok(NoMemory));
 }

@@ -7,7 +7,7 @@ ghost use Rattle.zab_broadcast.specs.Shortness.{error_is_short};
 use crate::asked::{ends_below, push};
 use std::alloc::Global;
 use zab_broadcast::{EchoCall, Primary, Server};
-use zab_epoch::{Entries, Entry, Majority, RuleFault, Stable, Vote};
+use zab_epoch::{Entries, Entry, History, Majority, RuleFault, Stable, Vote};
 use zk_path::NoMemory;
 use zk_table::{Op, Txn};
 
@@ -88,20 +88,24 @@ fn entry(tag: u64, zxid: i64) -> Entry
     }
 }
 
+/// Appends the three entries of epoch 1.
+fn push_three(history: &mut History) -> Result<(), NoMemory> {
+    push(history, entry(1, LAST - 2))?;
+    push(history, entry(2, LAST - 1))?;
+    push(history, entry(3, LAST))
+}
+
 /// What a server keeps that has led epoch 1, with three entries.
 fn led_before(alloc: Global) -> Result<Stable, NoMemory> {
     let mut stable = Stable::new(alloc);
     stable.promised = 1;
     stable.current = 1;
-    for (tag, zxid) in [(1, LAST - 2), (2, LAST - 1), (3, LAST)] {
-        push(&mut stable.history, entry(tag, zxid))?;
-    }
+    push_three(&mut stable.history)?;
     Ok(stable)
 }
 
-/// That server leads itself alone in epoch 2, in Broadcast.
-fn leads_again(alloc: Global) -> Result<Server<BegunOnce>, RuleFault> {
-    let mut server = Server::restored(alloc, 1, 1, led_before(alloc)?);
+/// Such a server leads itself alone in epoch 2, in Broadcast.
+fn lead_again(alloc: Global, server: &mut Server<BegunOnce>) -> Result<(), RuleFault> {
     server.lead(alloc)?;
     server.c_epoch(alloc, &ALONE, 1, 1)?;
     let said = Vote {
@@ -110,16 +114,31 @@ fn leads_again(alloc: Global) -> Result<Server<BegunOnce>, RuleFault> {
     };
     server.ack_epoch(alloc, &ALONE, 1, 2, true, said)?;
     server.ack_leader(alloc, &ALONE, 1, 2, 3)?;
-    Ok(server)
+    Ok(())
+}
+
+/// Whether a server takes a call.
+fn takes(alloc: Global, server: &mut Server<BegunOnce>, tag: u64) -> bool {
+    ends_below(server) && server.submit(alloc, &ALONE, EchoCall { tag }).is_ok()
+}
+
+/// Whether it takes three calls, and has delivered them behind the three entries of the term before.
+fn takes_three(alloc: Global, server: &mut Server<BegunOnce>) -> bool {
+    for tag in FIRST..FIRST + 3 {
+        if !takes(alloc, server, tag) {
+            return false;
+        }
+    }
+    server.delivered().len() == 6
+}
+
+/// Whether a server that has led epoch 1 leads again, and takes three calls.
+fn begins_once(alloc: Global) -> Result<bool, NoMemory> {
+    let mut server = Server::restored(alloc, 1, 1, led_before(alloc)?);
+    Ok(lead_again(alloc, &mut server).is_ok() && takes_three(alloc, &mut server))
 }
 
 #[test]
 fn a_primary_is_begun_once_a_term(rt: HostRuntime) {
-    let mut server = leads_again(rt.alloc()).expect(&rt, "memory");
-    for tag in FIRST..FIRST + 3 {
-        assert!(rt; ends_below(&server));
-        let told = server.submit(rt.alloc(), &ALONE, EchoCall { tag });
-        assert!(rt; told.is_ok(), "{tag}");
-    }
-    assert_eq!(rt; server.delivered().len(), 6);
+    assert_eq!(rt; begins_once(rt.alloc()), Ok(true));
 }

@@ -1,9 +1,8 @@
 //! Rows of reads, by the plain table and by the machine.
 
-use crate::machine_rows::{applied, new_machine, txns_of};
 use std::alloc::Global;
 use zk_acl::{Id, Stat, Text};
-use zk_listing::{push_acl, push_content, push_quoted, push_stat};
+use zk_listing::{assemble, push_acl, push_content, push_quoted, push_stat};
 use zk_machine::{Machine, MachineFault};
 use zk_path::{NoMemory, Path};
 use zk_table::{Names, Plain, ReadCall, ReadReply, Txn};
@@ -110,15 +109,25 @@ fn call_of(alloc: Global, row: &Row) -> Result<ReadCall, NoMemory> {
     })
 }
 
+/// The identity of a digest.
+fn digest_id(alloc: Global, digest: &str) -> Result<Id, NoMemory> {
+    let id = Text::read(alloc, digest)?;
+    let scheme = Text::read(alloc, "digest")?;
+    Ok(Id { scheme, id })
+}
+
+/// Adds what a caller has proved.
+fn push_auths(alloc: Global, auths: &mut Vec<Id>, digest: &str) -> Result<(), NoMemory> {
+    if !digest.is_empty() {
+        auths.push(digest_id(alloc, digest)?)?;
+    }
+    Ok(())
+}
+
 /// What a caller has proved.
 fn auths_of(alloc: Global, digest: &str) -> Result<Vec<Id>, NoMemory> {
     let mut auths = Vec::new(alloc);
-    if !digest.is_empty() {
-        auths.push(Id {
-            scheme: Text::read(alloc, "digest")?,
-            id: Text::read(alloc, digest)?,
-        })?;
-    }
+    push_auths(alloc, &mut auths, digest)?;
     Ok(auths)
 }
 
@@ -129,6 +138,12 @@ fn push_names(line: &mut String, names: &Names) -> Result<(), NoMemory> {
         push_quoted(line, name.as_str())?;
     }
     Ok(())
+}
+
+/// Appends names by their copy, which is taken apart and put together again.
+fn push_copied_names(line: &mut String, names: &Names) -> Result<(), NoMemory> {
+    let copy = Names::new(names.copy()?.into_vec());
+    push_names(line, &copy)
 }
 
 fn push_last_stat(line: &mut String, stat: &Stat) -> Result<(), NoMemory> {
@@ -144,7 +159,7 @@ fn push_reply(line: &mut String, reply: &ReadReply) -> Result<(), NoMemory> {
         }
         ReadReply::Found(stat) => push_stat(line, stat),
         ReadReply::Children { names, stat } => {
-            push_names(line, &Names::new(names.copy()?.into_vec()))?;
+            push_copied_names(line, names)?;
             push_last_stat(line, stat)
         }
         ReadReply::AclIs { acl, stat } => {
@@ -155,16 +170,35 @@ fn push_reply(line: &mut String, reply: &ReadReply) -> Result<(), NoMemory> {
     }
 }
 
+/// Appends a reply by its copy.
+fn push_copied_reply(line: &mut String, reply: &ReadReply) -> Result<(), NoMemory> {
+    let copy = reply.copy()?;
+    push_reply(line, &copy)
+}
+
 /// Whether a reply, by its copy, tells this.
-fn is_told(alloc: Global, reply: &ReadReply, told: &str) -> Result<bool, NoMemory> {
+fn is_told(alloc: Global, reply: &ReadReply, told: &str) -> Result<bool, MachineFault> {
     let mut line = String::new(alloc);
-    push_reply(&mut line, &reply.copy()?)?;
+    push_copied_reply(&mut line, reply)?;
     Ok(line.as_str() == told)
 }
 
 /// What the plain table tells, asked a copy of the question.
 fn told_by_plain(plain: &Plain, call: &ReadCall, auths: &[Id]) -> Result<ReadReply, NoMemory> {
-    plain.read(&call.copy()?, auths)
+    let copy = call.copy()?;
+    plain.read(&copy, auths)
+}
+
+/// Whether the plain table tells this.
+fn plain_tells(
+    alloc: Global,
+    plain: &Plain,
+    call: &ReadCall,
+    auths: &[Id],
+    told: &str,
+) -> Result<bool, MachineFault> {
+    let reply = told_by_plain(plain, call, auths)?;
+    is_told(alloc, &reply, told)
 }
 
 /// What the machine tells.
@@ -173,7 +207,20 @@ fn told_by_machine(
     call: &ReadCall,
     auths: &[Id],
 ) -> Result<ReadReply, MachineFault> {
-    machine.read(&call.copy()?, auths)
+    let copy = call.copy()?;
+    machine.read(&copy, auths)
+}
+
+/// Whether the machine tells this.
+fn machine_tells(
+    alloc: Global,
+    machine: &Machine,
+    call: &ReadCall,
+    auths: &[Id],
+    told: &str,
+) -> Result<bool, MachineFault> {
+    let reply = told_by_machine(machine, call, auths)?;
+    is_told(alloc, &reply, told)
 }
 
 /// Whether both tell this.
@@ -185,9 +232,21 @@ fn both_tell_this(
     auths: &[Id],
     told: &str,
 ) -> Result<bool, MachineFault> {
-    let one = is_told(alloc, &told_by_plain(plain, call, auths)?, told)?;
-    let other = is_told(alloc, &told_by_machine(machine, call, auths)?, told)?;
+    let one = plain_tells(alloc, plain, call, auths, told)?;
+    let other = machine_tells(alloc, machine, call, auths, told)?;
     Ok(one && other)
+}
+
+/// Whether both tell a caller who has proved this what the row says.
+fn both_tell_proved(
+    alloc: Global,
+    plain: &Plain,
+    machine: &Machine,
+    row: &Row,
+    auths: &[Id],
+) -> Result<bool, MachineFault> {
+    let call = call_of(alloc, row)?;
+    both_tell_this(alloc, plain, machine, &call, auths, row.3)
 }
 
 /// Whether the plain table and the machine tell what the row says.
@@ -198,7 +257,7 @@ fn both_tell(
     row: &Row,
 ) -> Result<bool, MachineFault> {
     let auths = auths_of(alloc, row.2)?;
-    both_tell_this(alloc, plain, machine, &call_of(alloc, row)?, &auths, row.3)
+    both_tell_proved(alloc, plain, machine, row, &auths)
 }
 
 /// How many of the rows both tell.
@@ -215,17 +274,45 @@ fn count_told(alloc: Global, plain: &Plain, machine: &Machine) -> Result<usize, 
 fn apply_all(plain: &mut Plain, machine: &mut Machine, txns: &[Txn]) -> Result<(), MachineFault> {
     for txn in txns {
         plain.apply(txn)?;
-        applied(machine, txn)?;
+        if machine.steps()? == u64::MAX {
+            return Err(MachineFault::Failed);
+        }
+        machine.apply(txn)?;
     }
     Ok(())
 }
 
+/// How many of the rows are told after these.
+fn count_told_after(
+    alloc: Global,
+    plain: &mut Plain,
+    machine: &mut Machine,
+    txns: &[Txn],
+) -> Result<usize, MachineFault> {
+    apply_all(plain, machine, txns)?;
+    count_told(alloc, plain, machine)
+}
+
+/// How many of the rows this machine and a new table tell after these.
+fn count_by_machine(
+    alloc: Global,
+    machine: &mut Machine,
+    txns: &[Txn],
+) -> Result<usize, MachineFault> {
+    let mut plain = Plain::new(alloc)?;
+    count_told_after(alloc, &mut plain, machine, txns)
+}
+
+/// How many of the rows a new machine and a new table tell after these.
+fn count_by_new(alloc: Global, txns: &[Txn]) -> Result<usize, MachineFault> {
+    let mut machine = Machine::new(alloc)?;
+    count_by_machine(alloc, &mut machine, txns)
+}
+
 /// How many of the rows are told once the nodes are there.
 fn count_told_of_nodes(alloc: Global) -> Result<usize, MachineFault> {
-    let mut plain = Plain::new(alloc)?;
-    let mut machine = new_machine(alloc)?;
-    apply_all(&mut plain, &mut machine, &txns_of(alloc, NODES)?)?;
-    count_told(alloc, &plain, &machine)
+    let txns = assemble(alloc, NODES).map_err(|_| NoMemory)?;
+    count_by_new(alloc, &txns)
 }
 
 #[test]

@@ -39,26 +39,35 @@ const ALL_WORDS: &str =
 /// What each line below begins with.
 const HEAD: &str = "0000000100000001 0100000000000001 0 1000 ";
 
+/// What a listing assembles to. This promises nothing, so that a proof holds nothing of what was read.
+fn read(alloc: Global, text: &str) -> Result<Vec<Txn>, ListFault> {
+    assemble(alloc, text)
+}
+
 /// The listing of what a listing assembles to.
 fn listed(alloc: Global, text: &str) -> Option<String> {
-    let txns = assemble(alloc, text).ok()?;
+    let txns = read(alloc, text).ok()?;
     list(alloc, txns.as_slice()).ok()
 }
 
 /// Whether this is a text, and the other.
 fn is_text(told: Option<String>, text: &str) -> bool {
+    is_text_in(&told, text)
+}
+
+fn is_text_in(told: &Option<String>, text: &str) -> bool {
     matches!(told, Some(told) if told.as_str() == text)
 }
 
 /// Whether a fault is spelled so.
-fn is_spelled(alloc: Global, told: ListFault, fault: &str) -> bool {
-    is_text(format!(in alloc; "{told}").ok(), fault)
+fn is_spelled(alloc: Global, told: ListFault, fault: &str) -> Result<bool, NoMemory> {
+    Ok(format!(in alloc; "{told}")?.as_str() == fault)
 }
 
 #[test]
 fn listings_assemble_and_list_back(rt: HostRuntime) {
     for text in ["", FIRST_LOG, WITH_A_MULTI, ALL_WORDS] {
-        assert!(rt; is_text(listed(rt.alloc(), text), text), "{text:?}");
+        assert!(rt; is_text(listed(rt.alloc(), text), text));
     }
 }
 
@@ -103,18 +112,21 @@ fn push_op(text: &mut String, cxid: i32, op: Op) -> Result<(), NoMemory> {
     push_line(text, &txn(cxid, op))
 }
 
-/// The lines of the first log's transactions.
-fn first_lines(alloc: Global) -> Result<String, NoMemory> {
-    let mut text = String::new(alloc);
-    push_op(&mut text, 0, Op::OpenSession { timeout: 30000 })?;
-    push_op(&mut text, 1, create(alloc)?)?;
-    push_op(&mut text, 2, Op::CloseSession)?;
-    Ok(text)
+/// Appends the lines of the first log's transactions.
+fn push_first_log(alloc: Global, text: &mut String) -> Result<(), NoMemory> {
+    push_op(text, 0, Op::OpenSession { timeout: 30000 })?;
+    push_op(text, 1, create(alloc)?)?;
+    push_op(text, 2, Op::CloseSession)
+}
+
+/// Whether these are the first log.
+fn lists_first_log(alloc: Global, mut text: String) -> bool {
+    push_first_log(alloc, &mut text).is_ok() && text.as_str() == FIRST_LOG
 }
 
 #[test]
 fn first_log_is_listed(rt: HostRuntime) {
-    assert!(rt; is_text(first_lines(rt.alloc()).ok(), FIRST_LOG));
+    assert!(rt; lists_first_log(rt.alloc(), String::new(rt.alloc())));
 }
 
 /// Appends the line of a transaction's copy.
@@ -122,47 +134,71 @@ fn push_copy(text: &mut String, txn: &Txn) -> Result<(), NoMemory> {
     push_line(text, &txn.copy()?)
 }
 
-/// The lines of copies.
-fn copied_lines(alloc: Global, txns: &[Txn]) -> Result<String, NoMemory> {
-    let mut text = String::new(alloc);
+/// Appends the lines of copies.
+fn push_copies(text: &mut String, txns: &[Txn]) -> Result<(), NoMemory> {
     for txn in txns {
-        push_copy(&mut text, txn)?;
+        push_copy(text, txn)?;
     }
-    Ok(text)
+    Ok(())
 }
 
-/// The lines of copies of what a listing assembles to.
-fn copied(alloc: Global, text: &str) -> Option<String> {
-    let txns = assemble(alloc, text).ok()?;
-    copied_lines(alloc, txns.as_slice()).ok()
+/// Whether the copies of transactions have these lines.
+fn have_copies(txns: &[Txn], text: &str, mut lines: String) -> bool {
+    push_copies(&mut lines, txns).is_ok() && lines.as_str() == text
+}
+
+/// The same of those that were read.
+fn has_copies(alloc: Global, read: &Result<Vec<Txn>, ListFault>, text: &str) -> bool {
+    match read {
+        Ok(txns) => have_copies(txns.as_slice(), text, String::new(alloc)),
+        Err(_) => false,
+    }
+}
+
+/// Whether the copies of what a listing assembles to have its lines.
+fn is_copied(alloc: Global, text: &str) -> bool {
+    has_copies(alloc, &read(alloc, text), text)
 }
 
 #[test]
 fn copies_have_the_same_lines(rt: HostRuntime) {
     for text in [WITH_A_MULTI, ALL_WORDS] {
-        assert!(rt; is_text(copied(rt.alloc(), text), text), "{text:?}");
+        assert!(rt; is_copied(rt.alloc(), text));
     }
+}
+
+/// Whether a listing was refused for its first line, which has no newline.
+fn is_unended(read: &Result<Vec<Txn>, ListFault>) -> bool {
+    matches!(
+        read,
+        Err(ListFault {
+            line: 1,
+            cause: ListCause::NoNewline
+        })
+    )
+}
+
+/// The same of a text.
+fn is_unended_listing(alloc: Global, text: &str) -> bool {
+    is_unended(&read(alloc, text))
 }
 
 #[test]
 fn faults_have_a_line_and_a_cause(rt: HostRuntime) {
-    assert!(rt;
-        matches!(
-            assemble(rt.alloc(), "x"),
-            Err(ListFault {
-                line: 1,
-                cause: ListCause::NoNewline
-            })
-        )
-    );
+    assert!(rt; is_unended_listing(rt.alloc(), "x"));
 }
 
-/// Whether a text is refused with this fault.
-fn is_refused(alloc: Global, text: &str, fault: &str) -> bool {
-    match assemble(alloc, text) {
+/// Whether a listing was refused with this fault.
+fn is_fault(alloc: Global, read: &Result<Vec<Txn>, ListFault>, fault: &str) -> bool {
+    match read {
         Ok(_) => false,
-        Err(told) => is_spelled(alloc, told, fault),
+        Err(told) => is_spelled(alloc, *told, fault) == Ok(true),
     }
+}
+
+/// Whether a text is.
+fn is_refused(alloc: Global, text: &str, fault: &str) -> bool {
+    is_fault(alloc, &read(alloc, text), fault)
 }
 
 /// Whether a line with these fields before its operation is.
@@ -171,78 +207,88 @@ fn is_head_refused(alloc: Global, head: &str, fault: &str) -> Result<bool, NoMem
     Ok(is_refused(alloc, text.as_str(), fault))
 }
 
+/// Whether a text is refused in this line with this cause.
+fn is_line_refused(alloc: Global, text: &str, cause: &str, line: u32) -> Result<bool, NoMemory> {
+    let fault = format!(in alloc; "{cause} {line}")?;
+    Ok(is_refused(alloc, text, fault.as_str()))
+}
+
 /// Whether a line with this operation is refused with this cause.
 fn is_op_refused(alloc: Global, op: &str, cause: &str) -> Result<bool, NoMemory> {
     let text = format!(in alloc; "{HEAD}{op}\n")?;
-    let fault = format!(in alloc; "{cause} 1")?;
-    Ok(is_refused(alloc, text.as_str(), fault.as_str()))
+    is_line_refused(alloc, text.as_str(), cause, 1)
 }
 
 /// The same of the fourth line, where the fifth is unended.
 fn is_fourth_refused(alloc: Global, op: &str, cause: &str) -> Result<bool, NoMemory> {
     let text = format!(in alloc; "{FIRST_LOG}{HEAD}{op}\nx")?;
-    let fault = format!(in alloc; "{cause} 4")?;
-    Ok(is_refused(alloc, text.as_str(), fault.as_str()))
+    is_line_refused(alloc, text.as_str(), cause, 4)
 }
 
-/// The first of the heads that is not refused with its fault.
-fn wrong_head(alloc: Global) -> Option<&'static str> {
+/// Whether each head is refused with its fault.
+fn heads_are_refused(alloc: Global) -> bool {
+    let mut all = true;
     for (head, fault) in &HEADS {
-        if is_head_refused(alloc, head, fault) != Ok(true) {
-            return Some(*head);
-        }
+        all = is_head_refused(alloc, head, fault) == Ok(true) && all;
     }
-    None
+    all
 }
 
-/// The first of the operations that is not refused with its cause.
-fn wrong_op(alloc: Global) -> Option<&'static str> {
+/// Whether each operation is refused with its cause.
+fn ops_are_refused(alloc: Global) -> bool {
+    let mut all = true;
     for (op, cause) in &REFUSED {
-        if is_op_refused(alloc, op, cause) != Ok(true) {
-            return Some(*op);
-        }
+        all = is_op_refused(alloc, op, cause) == Ok(true) && all;
     }
-    None
+    all
 }
 
 /// The same in the fourth line.
-fn wrong_fourth(alloc: Global) -> Option<&'static str> {
+fn fourths_are_refused(alloc: Global) -> bool {
+    let mut all = true;
     for (op, cause) in &REFUSED {
-        if is_fourth_refused(alloc, op, cause) != Ok(true) {
-            return Some(*op);
-        }
+        all = is_fourth_refused(alloc, op, cause) == Ok(true) && all;
     }
-    None
+    all
 }
 
-/// The first of the texts that is not refused with its fault.
-fn wrong_end(alloc: Global) -> Option<&'static str> {
+/// Whether each text that ends wrongly is refused with its fault.
+fn ends_are_refused(alloc: Global) -> bool {
+    let mut all = true;
     for (text, fault) in &ENDS {
-        if !is_refused(alloc, text, fault) {
-            return Some(*text);
-        }
+        all = is_refused(alloc, text, fault) && all;
     }
-    None
+    all
+}
+
+/// Whether no transactions were read.
+fn is_none(read: &Result<Vec<Txn>, ListFault>) -> bool {
+    matches!(read, Ok(txns) if txns.is_empty())
+}
+
+/// Whether a text was made, and has this line first.
+fn begins_with(told: &Option<String>, line: &str) -> bool {
+    matches!(told, Some(text) if text.as_str().starts_with(line))
 }
 
 /// Whether a text is the listing of no transactions.
 fn is_empty_listing(alloc: Global, text: &str) -> bool {
-    matches!(assemble(alloc, text), Ok(txns) if txns.is_empty())
+    is_none(&read(alloc, text))
 }
 
 /// Whether what a listing assembles to is listed with this line first.
-fn begins_with(alloc: Global, text: &str, line: &str) -> bool {
-    matches!(listed(alloc, text), Some(text) if text.as_str().starts_with(line))
+fn is_first_line(alloc: Global, text: &str, line: &str) -> bool {
+    begins_with(&listed(alloc, text), line)
 }
 
 #[test]
 fn listing_lines_and_faults(rt: HostRuntime) {
-    assert!(rt; begins_with(rt.alloc(), FIRST_LOG, FIRST_LINE));
+    assert!(rt; is_first_line(rt.alloc(), FIRST_LOG, FIRST_LINE));
     assert!(rt; is_empty_listing(rt.alloc(), ""));
-    assert_eq!(rt; wrong_head(rt.alloc()), None);
-    assert_eq!(rt; wrong_op(rt.alloc()), None);
-    assert_eq!(rt; wrong_fourth(rt.alloc()), None);
-    assert_eq!(rt; wrong_end(rt.alloc()), None);
+    assert!(rt; heads_are_refused(rt.alloc()));
+    assert!(rt; ops_are_refused(rt.alloc()));
+    assert!(rt; fourths_are_refused(rt.alloc()));
+    assert!(rt; ends_are_refused(rt.alloc()));
 }
 
 const FIRST_LINE: &str = "0000000100000001 0100000000000001 0 1000 createSession 30000\n";
@@ -321,17 +367,22 @@ static REFUSED: [(&str, &str); 42] = [
     ("multi ; delete \"/a\" ; error +1", "L2"),
 ];
 
+/// Whether numbers are read, and what is behind them is left.
+fn reads_numbers() -> bool {
+    let mut id = "ffffffffffffffff -5";
+    let mut int = "-5\n";
+    let mut long = "9223372036854775807";
+    read_id(&mut id) == Ok(-1)
+        && id == " -5"
+        && read_int(&mut int) == Ok(-5)
+        && int == "\n"
+        && read_long(&mut long) == Ok(i64::MAX)
+        && long == ""
+}
+
 #[test]
 fn numbers_are_read(rt: HostRuntime) {
-    let mut input = "ffffffffffffffff -5";
-    assert_eq!(rt; read_id(&mut input), Ok(-1));
-    assert_eq!(rt; input, " -5");
-    input = "-5\n";
-    assert_eq!(rt; read_int(&mut input), Ok(-5));
-    assert_eq!(rt; input, "\n");
-    input = "9223372036854775807";
-    assert_eq!(rt; read_long(&mut input), Ok(i64::MAX));
-    assert_eq!(rt; input, "");
+    assert!(rt; reads_numbers());
 }
 
 /// Whether a quoted text is read, and this is left.
@@ -339,9 +390,14 @@ fn reads_quoted(alloc: Global, mut input: &str, text: &str, rest: &str) -> bool 
     is_text(read_quoted(alloc, &mut input).ok(), text) && input == rest
 }
 
-/// The same of a path.
+/// Whether a path was read, and this one.
+fn is_path(read: &Result<Path, ListCause>, text: &str) -> bool {
+    matches!(read, Ok(path) if path.text() == text)
+}
+
+/// Whether it is read, and this is left.
 fn reads_path(alloc: Global, mut input: &str, text: &str, rest: &str) -> bool {
-    matches!(read_path(alloc, &mut input), Ok(path) if path.text() == text) && input == rest
+    is_path(&read_path(alloc, &mut input), text) && input == rest
 }
 
 #[test]
@@ -350,10 +406,14 @@ fn texts_are_read(rt: HostRuntime) {
     assert!(rt; reads_path(rt.alloc(), "\"/a\" rest", "/a", " rest"));
 }
 
-/// Whether a content is read, and this is left.
+/// Whether a content was read, and this one.
+fn is_content(read: &Result<Option<Content>, ListCause>, bytes: &[u8]) -> bool {
+    matches!(read, Ok(Some(content)) if content.as_slice() == bytes)
+}
+
+/// Whether it is read, and this is left.
 fn reads_content(alloc: Global, mut input: &str, bytes: &[u8], rest: &str) -> bool {
-    matches!(read_content(alloc, &mut input), Ok(Some(content)) if content.as_slice() == bytes)
-        && input == rest
+    is_content(&read_content(alloc, &mut input), bytes) && input == rest
 }
 
 /// Whether this is the only entry of a list.
@@ -366,10 +426,14 @@ fn is_only(entries: &[Acl], perms: i32, scheme: &str, id: &str) -> bool {
     }
 }
 
-/// Whether a list with this entry is read, and this is left.
+/// Whether a list was read, and has only an entry with these permissions.
+fn is_acl(read: &Result<Acls, ListCause>, perms: i32) -> bool {
+    matches!(read, Ok(acl) if is_only(acl.as_slice(), perms, "s", "i"))
+}
+
+/// Whether it is read, and this is left.
 fn reads_acl(alloc: Global, mut input: &str, perms: i32, rest: &str) -> bool {
-    matches!(read_acl(alloc, &mut input), Ok(acl) if is_only(acl.as_slice(), perms, "s", "i"))
-        && input == rest
+    is_acl(&read_acl(alloc, &mut input), perms) && input == rest
 }
 
 #[test]
@@ -387,12 +451,24 @@ fn is_no_number(text: &str) -> bool {
     refused && input == text
 }
 
+fn is_no_quoted(alloc: Global, input: &mut &str) -> bool {
+    read_quoted(alloc, input).is_err()
+}
+
+fn is_no_path(alloc: Global, input: &mut &str) -> bool {
+    read_path(alloc, input).is_err()
+}
+
+fn is_no_content(alloc: Global, input: &mut &str) -> bool {
+    read_content(alloc, input).is_err()
+}
+
 /// Whether neither a text nor a path nor a content is read of a text, and all of it is left.
 fn is_no_text(alloc: Global, text: &str) -> bool {
     let mut input = text;
-    let refused = read_quoted(alloc, &mut input).is_err()
-        && read_path(alloc, &mut input).is_err()
-        && read_content(alloc, &mut input).is_err();
+    let refused = is_no_quoted(alloc, &mut input)
+        && is_no_path(alloc, &mut input)
+        && is_no_content(alloc, &mut input);
     refused && input == text
 }
 
@@ -405,10 +481,10 @@ fn is_no_acl(alloc: Global, text: &str) -> bool {
 #[test]
 fn refused_fields_stay(rt: HostRuntime) {
     for text in ["0A00000100000001 1", "+1 -"] {
-        assert!(rt; is_no_number(text), "{text:?}");
+        assert!(rt; is_no_number(text));
     }
     for text in ["\"a\tb\" 1", "+1 -"] {
-        assert!(rt; is_no_text(rt.alloc(), text), "{text:?}");
+        assert!(rt; is_no_text(rt.alloc(), text));
     }
     assert!(rt; is_no_acl(rt.alloc(), "2 31 \"world\" \"anyone\" 31 world"));
 }
@@ -423,14 +499,20 @@ fn push_texts(line: &mut String) -> Result<(), NoMemory> {
     push_quoted(line, "\"\\\u{1}é")
 }
 
+/// Whether this is appended to an empty line, and nothing else.
+fn are_numbers_spelled(mut line: String) -> bool {
+    push_numbers(&mut line).is_ok() && line.as_str() == "0123456789abcdeffffffffffffffffe"
+}
+
+/// The same of texts.
+fn are_texts_spelled(mut line: String) -> bool {
+    push_texts(&mut line).is_ok() && line.as_str() == "\"/a b\"\"\\\"\\\\\\u{1}é\""
+}
+
 #[test]
 fn numbers_and_texts_are_spelled(rt: HostRuntime) {
-    let mut line = String::new(rt.alloc());
-    assert_eq!(rt; push_numbers(&mut line), Ok(()));
-    assert_eq!(rt; line.as_str(), "0123456789abcdeffffffffffffffffe");
-    line.clear();
-    assert_eq!(rt; push_texts(&mut line), Ok(()));
-    assert_eq!(rt; line.as_str(), "\"/a b\"\"\\\"\\\\\\u{1}é\"");
+    assert!(rt; are_numbers_spelled(String::new(rt.alloc())));
+    assert!(rt; are_texts_spelled(String::new(rt.alloc())));
 }
 
 fn push_read_content(alloc: Global, line: &mut String, bytes: &[u8]) -> Result<(), NoMemory> {
@@ -441,20 +523,32 @@ fn push_open_acl(alloc: Global, line: &mut String) -> Result<(), NoMemory> {
     push_acl(line, &for_anyone(alloc)?)
 }
 
+/// Whether null content, a content and a list are appended to an empty line.
+fn are_fields_spelled(alloc: Global, line: &mut String) -> bool {
+    push_content(line, &None).is_ok()
+        && push_read_content(alloc, line, b"hi").is_ok()
+        && push_open_acl(alloc, line).is_ok()
+        && line.as_str() == "-x68691 31 \"world\" \"anyone\""
+}
+
+/// The same of a new one.
+fn spells_fields(alloc: Global) -> bool {
+    are_fields_spelled(alloc, &mut String::new(alloc))
+}
+
 #[test]
 fn contents_and_acls_are_spelled(rt: HostRuntime) {
-    let mut line = String::new(rt.alloc());
-    assert_eq!(rt; push_content(&mut line, &None), Ok(()));
-    assert_eq!(rt; push_read_content(rt.alloc(), &mut line, b"hi"), Ok(()));
-    assert_eq!(rt; push_open_acl(rt.alloc(), &mut line), Ok(()));
-    assert_eq!(rt; line.as_str(), "-x68691 31 \"world\" \"anyone\"");
+    assert!(rt; spells_fields(rt.alloc()));
+}
+
+/// Whether a stat's fields are appended to an empty line.
+fn is_stat_spelled(mut line: String) -> bool {
+    push_stat(&mut line, &STAT).is_ok() && line.as_str() == STAT_TEXT
 }
 
 #[test]
 fn stats_are_spelled(rt: HostRuntime) {
-    let mut line = String::new(rt.alloc());
-    assert_eq!(rt; push_stat(&mut line, &STAT), Ok(()));
-    assert_eq!(rt; line.as_str(), STAT_TEXT);
+    assert!(rt; is_stat_spelled(String::new(rt.alloc())));
 }
 
 const STAT: Stat = Stat {
@@ -492,12 +586,21 @@ fn node_of(alloc: Global, bytes: &[u8]) -> Result<Node, NoMemory> {
     })
 }
 
-/// The line of such a node.
-fn node_line(alloc: Global) -> Result<String, NoMemory> {
-    let mut line = String::new(alloc);
+/// Appends the line of a node at `/a`.
+fn push_node(alloc: Global, line: &mut String, node: &Node) -> Result<(), NoMemory> {
+    let path = path_of(alloc, "/a")?;
+    push_node_line(line, &path, node, &STAT)
+}
+
+/// The same of such a node.
+fn push_read_node(alloc: Global, line: &mut String) -> Result<(), NoMemory> {
     let node = node_of(alloc, b"hi")?;
-    push_node_line(&mut line, &path_of(alloc, "/a")?, &node, &STAT)?;
-    Ok(line)
+    push_node(alloc, line, &node)
+}
+
+/// Whether it is this line.
+fn is_node_line(alloc: Global, mut line: String) -> bool {
+    push_read_node(alloc, &mut line).is_ok() && line.as_str() == NODE_LINE
 }
 
 const NODE_LINE: &str =
@@ -505,28 +608,44 @@ const NODE_LINE: &str =
 
 #[test]
 fn nodes_have_lines(rt: HostRuntime) {
-    assert!(rt; is_text(node_line(rt.alloc()).ok(), NODE_LINE));
+    assert!(rt; is_node_line(rt.alloc(), String::new(rt.alloc())));
 }
 
-/// A page with the line of such a node and that of the first log's last transaction.
-fn page_of_lines(alloc: Global) -> Result<String, NoMemory> {
-    let mut page = String::new(alloc);
+/// Puts a node at `/a` on a page.
+fn spell_node(alloc: Global, page: &mut String, node: &Node) -> Result<(), NoMemory> {
+    let path = path_of(alloc, "/a")?;
+    spell_node_line(page, &path, node, &STAT)
+}
+
+/// The same of such a node.
+fn spell_read_node(alloc: Global, page: &mut String) -> Result<(), NoMemory> {
     let node = node_of(alloc, b"hi")?;
-    spell_node_line(&mut page, &path_of(alloc, "/a")?, &node, &STAT)?;
+    spell_node(alloc, page, &node)
+}
+
+/// Puts the line of such a node and that of the first log's last transaction on a page.
+fn spell_lines(alloc: Global, page: &mut String) -> Result<(), NoMemory> {
+    spell_read_node(alloc, page)?;
     page.push('\n')?;
-    spell_line(&mut page, &txn(2, Op::CloseSession))?;
-    Ok(page)
+    spell_closing(page)
+}
+
+fn spell_closing(page: &mut String) -> Result<(), NoMemory> {
+    spell_line(page, &txn(2, Op::CloseSession))
+}
+
+const PAGE: &str =
+    "\"/a\" x6869 0 0000000000000001 0000000000000002 3 4 5 6 7 0000000000000008 9 10 000000000000000b\n\
+    0000000100000003 0100000000000001 2 3000 closeSession\n";
+
+/// Whether it is this page.
+fn is_page(alloc: Global, mut page: String) -> bool {
+    spell_lines(alloc, &mut page).is_ok() && page.as_str() == PAGE
 }
 
 #[test]
 fn a_page_takes_lines(rt: HostRuntime) {
-    assert!(rt;
-        is_text(
-            page_of_lines(rt.alloc()).ok(),
-            "\"/a\" x6869 0 0000000000000001 0000000000000002 3 4 5 6 7 0000000000000008 9 10 000000000000000b\n\
-        0000000100000003 0100000000000001 2 3000 closeSession\n"
-        )
-    );
+    assert!(rt; is_page(rt.alloc(), String::new(rt.alloc())));
 }
 
 fn part_result(alloc: Global) -> Result<PartResult, NoMemory> {
@@ -538,30 +657,43 @@ fn part_result(alloc: Global) -> Result<PartResult, NoMemory> {
     })
 }
 
+fn push_part(alloc: Global, parts: &mut Vec<PartResult>) -> Result<(), NoMemory> {
+    parts.push(part_result(alloc)?)?;
+    Ok(())
+}
+
 fn part_results(alloc: Global) -> Result<PartResults, NoMemory> {
     let mut parts = Vec::new(alloc);
-    parts.push(part_result(alloc)?)?;
-    parts.push(part_result(alloc)?)?;
+    push_part(alloc, &mut parts)?;
+    push_part(alloc, &mut parts)?;
     Ok(PartResults::new(parts))
 }
 
-/// The line of an answer to a multi.
-fn result_line(alloc: Global) -> Result<String, NoMemory> {
-    let answer = TxnResult {
+/// An answer to a multi.
+fn answer_of(parts: PartResults) -> TxnResult {
+    TxnResult {
         zxid: 0x1_0000_0004,
         err: 0,
         path: None,
         stat: None,
-        parts: part_results(alloc)?,
-    };
-    let mut line = String::new(alloc);
-    push_result_line(&mut line, &answer)?;
-    Ok(line)
+        parts,
+    }
+}
+
+/// Appends the line of such an answer.
+fn push_answer(alloc: Global, line: &mut String) -> Result<(), NoMemory> {
+    let answer = answer_of(part_results(alloc)?);
+    push_result_line(line, &answer)
+}
+
+/// Whether it is this line.
+fn is_result_line(alloc: Global, mut line: String) -> bool {
+    push_answer(alloc, &mut line).is_ok() && line.as_str() == RESULT_LINE
 }
 
 const RESULT_LINE: &str = "result 0000000100000004 0 - - ; 0 \"/t\" - ; 0 \"/t\" -";
 
 #[test]
 fn results_have_lines(rt: HostRuntime) {
-    assert!(rt; is_text(result_line(rt.alloc()).ok(), RESULT_LINE));
+    assert!(rt; is_result_line(rt.alloc(), String::new(rt.alloc())));
 }

@@ -1,0 +1,9 @@
+//! The worked rows of records: the tests of `zk_jute`, and no code of its own.
+//!
+//! They stand apart from the crates that they test, as those of `zk_rows` do, and for the same reason.
+#![tactic(auto)]
+
+#[cfg(test)]
+mod fault_rows;
+#[cfg(test)]
+mod jute_rows;
