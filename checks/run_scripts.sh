@@ -31,7 +31,7 @@ done
 printf %s "$(cat "$first.script")" | "$zk" run @ | cmp - "$first.answers"
 
 # the answers to the lines before a malformed one are written
-for line in 'servers 3' 'lead 01' 'lead +1' 'lead' 'lead 1 2' 'tree 0' 'tree 4' 'history 4' 'history' 'syncs 1' 'sync 1 1' ''; do
+for line in 'servers 3' 'lead 01' 'lead +1' 'lead' 'lead 1 2' 'tree 0' 'tree 4' 'history 4' 'history' 'syncs 4' 'syncs 0' 'syncs' 'syncs 1 1' 'sync 1' 'sync 1 01' 'sync 1 1 1' ''; do
     {
         head -n 3 "$first.script"
         echo "$line"

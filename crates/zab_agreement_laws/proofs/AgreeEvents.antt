@@ -17,13 +17,13 @@ use Rattle.zab_move_laws.specs.Told.{laws_of, core_of, told_of, BodyFact, Messag
 use Rattle.zab_move_laws.proofs.Common.{by_test, stays}
 use Rattle.zab_move_laws.proofs.Telling.{all_append}
 use Rattle.zab_move_laws.proofs.Growing.{messages_grow, stands_after, stands_still}
-use Rattle.zab_move_laws.proofs.Hearing.{CarriesZxid, lead_owes, follow_owes, hears_c_epoch, hears_new_epoch, hears_ack_epoch, hears_new_leader, hears_ack_leader, hears_propose, hears_ack, hears_commit, hears_request, hears_sync_ask, hears_sync_tell, submit_owes}
+use Rattle.zab_move_laws.proofs.Hearing.{CarriesZxid, lead_owes, follow_owes, hears_c_epoch, hears_new_epoch, hears_ack_epoch, hears_new_leader, hears_ack_leader, hears_propose, hears_ack, hears_commit, hears_request, hears_sync_ask, hears_sync_tell, submit_owes, sync_owes}
 use Rattle.zab_tag_laws.proofs.TagFacts.{cases_eq, all_get, same_some}
 use Rattle.zab_runs.specs.declared.event.Event.{Event}
-use Rattle.zab_runs.specs.declared.event.Event.TheVariants.{Lead, Follow, Arrive, Submit, Expire, Crash, Restart}
+use Rattle.zab_runs.specs.declared.event.Event.TheVariants.{Lead, Follow, Arrive, Submit, Expire, Sync, Crash, Restart}
 use Rattle.zab_runs.specs.declared.fault.WorldFault.{WorldFault}
 use Rattle.zab_runs.specs.Standings.{Standing, standing}
-use Rattle.zab_runs.specs.Worlds.{World, Profile, Answer, is_server, server_at, running, resting, told, said, with_server, acts, receives, message_at, arrives, spends, submits, crashed, crashes, restarts, happens}
+use Rattle.zab_runs.specs.Worlds.{World, Profile, Answer, is_server, server_at, running, resting, told, said, with_server, acts, receives, message_at, arrives, spends, submits, spends_sync, syncs, crashed, crashes, restarts, happens}
 use Rattle.zab_runs.specs.Runs.{delivered_list, delivered_of}
 use Rattle.zab_agreement_laws.specs.Moments.{Holds, Synchronizes}
 use Rattle.zab_runs.proofs.ServerLists.{found, same_place, other_place, other_same, up_is, down_is}
@@ -216,12 +216,35 @@ submits_keep : {C : Type 0} (setting : Setting C) → CarriesZxid setting → (g
 submits_keep setting law g spares w n call (Err fault) f is = same_world (laws_of setting.passes) g spares w f
 submits_keep setting law g spares w n call (Ok it) f is =
     by_test (λ (p : World _ × Answer). KeepsAll (laws_of setting.passes) g spares w p.0) (rules.is_serving it.state.peer.role) _ _
-    (λ serving. by_test (λ (p : World _ × Answer). KeepsAll (laws_of setting.passes) g spares w p.0) (is_taken (setting.tag call) w.tags) _ _
+    (λ serving. by_test (λ (p : World _ × Answer). KeepsAll (laws_of setting.passes) g spares w p.0) (is_taken (setting.tag call) w.tags.calls) _ _
     (λ again. same_world (laws_of setting.passes) g spares w f)
     (λ free. spends_keep (laws_of setting.passes) g spares w (setting.tag call) (acts w n (λ state. rules.submit setting state call) (Ok it))
     (acts_keep (laws_of setting.passes) g spares w n (λ state. rules.submit setting state call) (Ok it) f is
     (λ state here s. submit_owes setting law g state call s))))
     (λ no. same_world (laws_of setting.passes) g spares w f)
+
+-- ---- syncs
+
+spends_sync_keep : {C : Type 0} (k : laws.Setting Entry) (g : laws.Ghost Entry) (spares : ℕ → Type 0) (w : World C) (t : ℕ) (p : World C × Answer) → KeepsAll k g spares w p.0 → KeepsAll k g spares w (spends_sync t p).0
+spends_sync_keep k g spares w t (v, Ok numbers) f = record {
+  after = f.after;
+  grows = f.grows;
+  stands = record { facts = f.stands.facts; servers = f.stands.servers; messages = f.stands.messages };
+  more = f.more;
+  writes = f.writes;
+}
+spends_sync_keep k g spares w t (v, Err fault) f = f
+
+syncs_keep : {C : Type 0} (k : laws.Setting Entry) (g : laws.Ghost Entry) (spares : ℕ → Type 0) (w : World C) (n tag : ℕ) (r : Result Standing WorldFault) → WorldStands k g w → ((it : Standing) → r ≡ Ok it → server_at w.servers n ≡ Some it) → KeepsAll k g spares w (syncs w n tag r).0
+syncs_keep k g spares w n tag (Err fault) f is = same_world k g spares w f
+syncs_keep k g spares w n tag (Ok it) f is =
+    by_test (λ (p : World _ × Answer). KeepsAll k g spares w p.0) (rules.is_serving it.state.peer.role) _ _
+    (λ serving. by_test (λ (p : World _ × Answer). KeepsAll k g spares w p.0) (is_taken tag w.tags.syncs) _ _
+    (λ again. same_world k g spares w f)
+    (λ free. spends_sync_keep k g spares w tag (acts w n (λ state. rules.sync state tag) (Ok it))
+    (acts_keep k g spares w n (λ state. rules.sync state tag) (Ok it) f is
+    (λ state here s. sync_owes k g state tag s))))
+    (λ no. same_world k g spares w f)
 
 -- ---- crashes
 
@@ -272,6 +295,8 @@ happens_keeps {C} profile law share g w (Submit n call) f =
     submits_keep profile.setting law g (Spares {C = C} (Submit n call)) w n call (running w.servers n) f (λ it is. up_is (server_at w.servers n) it is)
 happens_keeps {C} profile law share g w (Expire n tag session now) f =
     submits_keep profile.setting law g (Spares {C = C} (Expire n tag session now)) w n (profile.closing tag session now) (running w.servers n) f (λ it is. up_is (server_at w.servers n) it is)
+happens_keeps {C} profile law share g w (Sync n tag) f =
+    syncs_keep (laws_of profile.setting.passes) g (Spares {C = C} (Sync n tag)) w n tag (running w.servers n) f (λ it is. up_is (server_at w.servers n) it is)
 happens_keeps {C} profile law share g w (Crash n) f =
     let c = crashes_keep (laws_of profile.setting.passes) g w n (running w.servers n) f (λ it is. up_is (server_at w.servers n) it is) in
     record {

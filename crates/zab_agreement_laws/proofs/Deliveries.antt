@@ -10,11 +10,11 @@ use Rattle.zab_broadcast.specs.Rules as rules
 use Rattle.zab_move_laws.proofs.Common.{by_test}
 use Rattle.zab_tag_laws.proofs.TagFacts.{cases_eq, all_append, all_get, same_some}
 use Rattle.zab_runs.specs.declared.event.Event.{Event}
-use Rattle.zab_runs.specs.declared.event.Event.TheVariants.{Lead, Follow, Arrive, Submit, Expire, Crash, Restart}
+use Rattle.zab_runs.specs.declared.event.Event.TheVariants.{Lead, Follow, Arrive, Submit, Expire, Sync, Crash, Restart}
 use Rattle.zab_runs.specs.declared.fault.WorldFault.{WorldFault}
 use Rattle.zab_runs.specs.declared.fault.WorldFault.TheVariants as faults
 use Rattle.zab_runs.specs.Standings.{Standing, standing, new_server, new_servers}
-use Rattle.zab_runs.specs.Worlds.{World, Profile, Answer, new_world, is_server, server_at, if_up, if_down, running, resting, told, said, with_server, acts, receives, message_at, arrives, spends, submits, crashed, crashes, restarts, happens}
+use Rattle.zab_runs.specs.Worlds.{World, Profile, Answer, new_world, is_server, server_at, if_up, if_down, running, resting, told, said, with_server, acts, receives, message_at, arrives, spends, submits, spends_sync, syncs, crashed, crashes, restarts, happens}
 use Rattle.zab_runs.specs.Runs.{after, run, delivered_list, delivered_of}
 use Rattle.zab_runs.specs.Movers.{mover, addressee_of}
 use Rattle.zab_runs.specs.Running.{is_up, is_running}
@@ -48,9 +48,23 @@ submits_others : {C : Type 0} (setting : Setting C) (w : World C) (n p : ℕ) (c
 submits_others setting w n p call (Err fault) is other = refl
 submits_others setting w n p call (Ok it) is other =
     by_test (λ (q : World _ × Answer). server_at q.0.servers p ≡ server_at w.servers p) (rules.is_serving it.state.peer.role) _ _
-    (λ serving. by_test (λ (q : World _ × Answer). server_at q.0.servers p ≡ server_at w.servers p) (is_taken (setting.tag call) w.tags) _ _
+    (λ serving. by_test (λ (q : World _ × Answer). server_at q.0.servers p ≡ server_at w.servers p) (is_taken (setting.tag call) w.tags.calls) _ _
     (λ again. refl)
     (λ free. spends_others (setting.tag call) w n p it (standing it.up (rules.submit setting it.state call).0) (rules.submit setting it.state call).1 (is it refl) other))
+    (λ no. refl)
+
+spends_sync_others : {C : Type 0} (t : ℕ) (w : World C) (n p : ℕ) (it stands : Standing) (r : Result (List (Message C)) RuleFault) → server_at w.servers n ≡ Some it → p ≢ n → server_at (spends_sync t (told (with_server w n stands) (said r))).0.servers p ≡ server_at w.servers p
+spends_sync_others t w n p it stands (Ok messages) is other = stands_others w.servers n p it stands is other
+spends_sync_others t w n p it stands (Err fault) is other = stands_others w.servers n p it stands is other
+
+syncs_others : {C : Type 0} (w : World C) (n p tag : ℕ) (r : Result Standing WorldFault) → ((it : Standing) → r ≡ Ok it → server_at w.servers n ≡ Some it) → p ≢ n → server_at (syncs w n tag r).0.servers p ≡ server_at w.servers p
+syncs_others w n p tag (Err fault) is other = refl
+syncs_others {C} w n p tag (Ok it) is other =
+    let act : rules.Acts C = rules.sync it.state tag in
+    by_test (λ (q : World _ × Answer). server_at q.0.servers p ≡ server_at w.servers p) (rules.is_serving it.state.peer.role) _ _
+    (λ serving. by_test (λ (q : World _ × Answer). server_at q.0.servers p ≡ server_at w.servers p) (is_taken tag w.tags.syncs) _ _
+    (λ again. refl)
+    (λ free. spends_sync_others tag w n p it (standing it.up act.0) act.1 (is it refl) other))
     (λ no. refl)
 
 crashes_others : {C : Type 0} (w : World C) (n p : ℕ) (r : Result Standing WorldFault) → ((it : Standing) → r ≡ Ok it → server_at w.servers n ≡ Some it) → p ≢ n → server_at (crashes w n r).0.servers p ≡ server_at w.servers p
@@ -73,6 +87,7 @@ others_stay profile w (Submit n call) p other =
     submits_others profile.setting w n p call (running w.servers n) (λ it is. up_is (server_at w.servers n) it is) other
 others_stay profile w (Expire n tag session now) p other =
     submits_others profile.setting w n p (profile.closing tag session now) (running w.servers n) (λ it is. up_is (server_at w.servers n) it is) other
+others_stay profile w (Sync n tag) p other = syncs_others w n p tag (running w.servers n) (λ it is. up_is (server_at w.servers n) it is) other
 others_stay profile w (Crash n) p other = crashes_others w n p (running w.servers n) (λ it is. up_is (server_at w.servers n) it is) other
 others_stay profile w (Restart n) p other = restarts_others w n p (resting w.servers n) (λ it is. down_is (server_at w.servers n) it is) other
 
@@ -149,10 +164,26 @@ submits_rests setting w n call (Err fault) is rest = rest
 submits_rests setting w n call (Ok it) is rest =
     let here = is it refl in
     by_test (λ (q : World _ × Answer). AreResting q.0.servers) (rules.is_serving it.state.peer.role) _ _
-    (λ serving. by_test (λ (q : World _ × Answer). AreResting q.0.servers) (is_taken (setting.tag call) w.tags) _ _
+    (λ serving. by_test (λ (q : World _ × Answer). AreResting q.0.servers) (is_taken (setting.tag call) w.tags.calls) _ _
     (λ again. rest)
     (λ free. spends_rests (setting.tag call) w n (standing it.up (rules.submit setting it.state call).0) (rules.submit setting it.state call).1
     (rests_stands w.servers n it (standing it.up (rules.submit setting it.state call).0) here.0 rest (λ down. not_both it.up here.1 down))))
+    (λ no. rest)
+
+spends_sync_rests : {C : Type 0} (t : ℕ) (w : World C) (n : ℕ) (stands : Standing) (r : Result (List (Message C)) RuleFault) → AreResting (set w.servers (n - 1) stands) → AreResting (spends_sync t (told (with_server w n stands) (said r))).0.servers
+spends_sync_rests t w n stands (Ok messages) rest = rest
+spends_sync_rests t w n stands (Err fault) rest = rest
+
+syncs_rests : {C : Type 0} (w : World C) (n tag : ℕ) (r : Result Standing WorldFault) → ((it : Standing) → r ≡ Ok it → IsUp w n it) → AreResting w.servers → AreResting (syncs w n tag r).0.servers
+syncs_rests w n tag (Err fault) is rest = rest
+syncs_rests {C} w n tag (Ok it) is rest =
+    let here = is it refl in
+    let act : rules.Acts C = rules.sync it.state tag in
+    by_test (λ (q : World _ × Answer). AreResting q.0.servers) (rules.is_serving it.state.peer.role) _ _
+    (λ serving. by_test (λ (q : World _ × Answer). AreResting q.0.servers) (is_taken tag w.tags.syncs) _ _
+    (λ again. rest)
+    (λ free. spends_sync_rests tag w n (standing it.up act.0) act.1
+    (rests_stands w.servers n it (standing it.up act.0) here.0 rest (λ down. not_both it.up here.1 down))))
     (λ no. rest)
 
 crashes_rests : {C : Type 0} (w : World C) (n : ℕ) (r : Result Standing WorldFault) → ((it : Standing) → r ≡ Ok it → server_at w.servers n ≡ Some it) → AreResting w.servers → AreResting (crashes w n r).0.servers
@@ -173,6 +204,7 @@ happens_rests profile w (Arrive number) rest = arrives_rests profile.setting w (
 happens_rests profile w (Submit n call) rest = submits_rests profile.setting w n call (running w.servers n) (λ it is. up_both w n it is) rest
 happens_rests profile w (Expire n tag session now) rest =
     submits_rests profile.setting w n (profile.closing tag session now) (running w.servers n) (λ it is. up_both w n it is) rest
+happens_rests profile w (Sync n tag) rest = syncs_rests w n tag (running w.servers n) (λ it is. up_both w n it is) rest
 happens_rests profile w (Crash n) rest = crashes_rests w n (running w.servers n) (λ it is. up_is (server_at w.servers n) it is) rest
 happens_rests profile w (Restart n) rest = restarts_rests w n (resting w.servers n) (λ it is. down_is (server_at w.servers n) it is) rest
 

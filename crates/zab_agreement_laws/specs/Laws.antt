@@ -5,6 +5,7 @@ use Rattle.zab_epoch.specs.declared.history.Entry.{Entry}
 use Rattle.zab_runs.specs.declared.event.Event.{Event}
 use Rattle.zab_agreement_laws.specs.Agreement.{Agrees}
 use Rattle.zab_agreement_laws.specs.Origins.{ComeFromCalls}
+use Rattle.zab_agreement_laws.specs.Syncs.{AreCaught}
 use Rattle.zab_runs.specs.Worlds.{World, Profile}
 use Rattle.zab_runs.specs.Runs.{run, history_after}
 
@@ -26,3 +27,4 @@ pub record IsNextInRun {C : Type 0} (profile : Profile C) (servers : ℕ) (befor
   pub tagged : IsTaggedOnce profile servers (events ++ event ∷ [])
   pub agrees : Agrees profile servers (events ++ event ∷ [])
   pub origins : ComeFromCalls profile servers (events ++ event ∷ [])
+  pub syncs : AreCaught profile servers (events ++ event ∷ [])

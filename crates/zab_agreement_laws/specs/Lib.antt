@@ -5,3 +5,4 @@ pub mod Laws
 pub mod Moments
 pub mod Origins
 pub mod Promises
+pub mod Syncs

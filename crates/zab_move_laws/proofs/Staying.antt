@@ -1,6 +1,6 @@
 -- What no rule undoes: a server's current epoch does not fall, and one that leads after a rule led before it, or its current
 -- epoch has risen.
-use Rattle.std.proofs.Common.{◌≡◌, ℕ, ℤ, ◌<◌, ◌≤◌, ◌==◌, ◌&&◌, ◌||◌, nat_lt, max, not, ◌⊎◌, inl, inr, Bool, true, List, [], ◌∷◌, ◌++◌, length, Option, Some, None, refl, sym, ap, subst, arith}
+use Rattle.std.proofs.Common.{◌≡◌, ℕ, ℤ, ◌<◌, ◌≤◌, ◌==◌, ◌&&◌, ◌||◌, nat_lt, max, not, ◌⊎◌, inl, inr, Bool, true, List, length, Option, Some, None, refl, sym, subst, arith}
 use Rattle.std.proofs.lemmas.Bool.Decides.{nat_tests}
 use Rattle.zab_epoch.specs.declared.history.Entry.{Entry}
 use Rattle.zab_epoch.specs.declared.peer.Peer.{Peer}
@@ -15,7 +15,7 @@ use Rattle.zab_broadcast.specs.Calls.{Setting, is_taken}
 use Rattle.zab_broadcast.specs.Rules as rules
 use Rattle.zab_broadcast.specs.Syncs.{is_asked}
 use Rattle.zab_laws.specs.Cores as laws
-use Rattle.zab_move_laws.specs.Told.{Chooses, RoleFact, Stands}
+use Rattle.zab_move_laws.specs.Told.{RoleFact, Stands}
 use Rattle.zab_move_laws.proofs.Common.{by_test}
 
 abbrev pub IsLeading : Role → Type 0

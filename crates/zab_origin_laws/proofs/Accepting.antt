@@ -7,11 +7,11 @@ use Rattle.zab_broadcast.specs.Calls.{Setting, is_taken}
 use Rattle.zab_broadcast.specs.Rules as rules
 use Rattle.zab_tag_laws.proofs.TagFacts.{by_test, same_some, taken_more, taken_last}
 use Rattle.zab_runs.specs.declared.event.Event.{Event}
-use Rattle.zab_runs.specs.declared.event.Event.TheVariants.{Lead, Follow, Arrive, Submit, Expire, Crash, Restart}
+use Rattle.zab_runs.specs.declared.event.Event.TheVariants.{Lead, Follow, Arrive, Submit, Expire, Sync, Crash, Restart}
 use Rattle.zab_runs.specs.declared.event.Moved.{Moved}
 use Rattle.zab_runs.specs.declared.fault.WorldFault.{WorldFault}
 use Rattle.zab_runs.specs.Standings.{Standing, standing}
-use Rattle.zab_runs.specs.Worlds.{World, Profile, Answer, is_server, running, resting, told, said, with_server, acts, receives, message_at, arrives, spends, submits, crashes, restarts, happens}
+use Rattle.zab_runs.specs.Worlds.{World, Profile, Answer, is_server, running, resting, told, said, with_server, acts, receives, message_at, arrives, spends, submits, spends_sync, syncs, crashes, restarts, happens}
 use Rattle.zab_runs.specs.Runs.{answers}
 use Rattle.zab_agreement_laws.specs.Origins.{call_of}
 
@@ -27,14 +27,14 @@ pub record IsAcceptedFrom {C : Type 0} (profile : Profile C) (w : World C) (even
 -- ---- a tag that is spent stays so
 
 abbrev KeepsTags : {C : Type 0} → World C → World C × Answer → Type 0
-KeepsTags w p = (tag : ℕ) → is_taken tag w.tags ≡ true → is_taken tag p.0.tags ≡ true
+KeepsTags w p = (tag : ℕ) → is_taken tag w.tags.calls ≡ true → is_taken tag p.0.tags.calls ≡ true
 
 told_tags : {C : Type 0} (w : World C) (n : ℕ) (stands : Standing) (r : Result (List (Message C)) RuleFault) → KeepsTags w (told (with_server w n stands) (said r))
 told_tags w n stands (Ok messages) = λ tag is. is
 told_tags w n stands (Err fault) = λ tag is. is
 
 spends_tags : {C : Type 0} (t : ℕ) (w : World C) (n : ℕ) (stands : Standing) (r : Result (List (Message C)) RuleFault) → KeepsTags w (spends t (told (with_server w n stands) (said r)))
-spends_tags t w n stands (Ok messages) = λ tag is. taken_more tag w.tags (t ∷ []) is
+spends_tags t w n stands (Ok messages) = λ tag is. taken_more tag w.tags.calls (t ∷ []) is
 spends_tags t w n stands (Err fault) = λ tag is. is
 
 acts_tags : {C : Type 0} (w : World C) (n : ℕ) (rule : State → rules.Acts C) (r : Result Standing WorldFault) → KeepsTags w (acts w n rule r)
@@ -49,9 +49,23 @@ submits_tags : {C : Type 0} (setting : Setting C) (w : World C) (n : ℕ) (call 
 submits_tags setting w n call (Err fault) = λ tag is. is
 submits_tags setting w n call (Ok it) =
     by_test (KeepsTags w) (rules.is_serving it.state.peer.role) _ _
-    (λ serving. by_test (KeepsTags w) (is_taken (setting.tag call) w.tags) _ _
+    (λ serving. by_test (KeepsTags w) (is_taken (setting.tag call) w.tags.calls) _ _
     (λ again tag is. is)
     (λ free. spends_tags (setting.tag call) w n (standing it.up (rules.submit setting it.state call).0) (rules.submit setting it.state call).1))
+    (λ no tag is. is)
+
+spends_sync_tags : {C : Type 0} (t : ℕ) (w : World C) (n : ℕ) (stands : Standing) (r : Result (List (Message C)) RuleFault) → KeepsTags w (spends_sync t (told (with_server w n stands) (said r)))
+spends_sync_tags t w n stands (Ok messages) = λ tag is. is
+spends_sync_tags t w n stands (Err fault) = λ tag is. is
+
+syncs_tags : {C : Type 0} (w : World C) (n t : ℕ) (r : Result Standing WorldFault) → KeepsTags w (syncs w n t r)
+syncs_tags w n t (Err fault) = λ tag is. is
+syncs_tags {C} w n t (Ok it) =
+    let act : rules.Acts C = rules.sync it.state t in
+    by_test (KeepsTags w) (rules.is_serving it.state.peer.role) _ _
+    (λ serving. by_test (KeepsTags w) (is_taken t w.tags.syncs) _ _
+    (λ again tag is. is)
+    (λ free. spends_sync_tags t w n (standing it.up act.0) act.1))
     (λ no tag is. is)
 
 crashes_tags : {C : Type 0} (w : World C) (n : ℕ) (r : Result Standing WorldFault) → KeepsTags w (crashes w n r)
@@ -71,6 +85,7 @@ happens_tags profile w (Follow n leader) =
 happens_tags profile w (Arrive number) = arrives_tags profile.setting w (message_at w.messages number)
 happens_tags profile w (Submit n call) = submits_tags profile.setting w n call (running w.servers n)
 happens_tags profile w (Expire n tag session now) = submits_tags profile.setting w n (profile.closing tag session now) (running w.servers n)
+happens_tags profile w (Sync n tag) = syncs_tags w n tag (running w.servers n)
 happens_tags profile w (Crash n) = crashes_tags w n (running w.servers n)
 happens_tags profile w (Restart n) = restarts_tags w n (resting w.servers n)
 
@@ -78,20 +93,20 @@ happens_tags profile w (Restart n) = restarts_tags w n (resting w.servers n)
 
 abbrev SpendsTag : {C : Type 0} → Setting C → World C → C → World C × Answer → Type 0
 SpendsTag setting w call p =
-    (sent : Moved) → p.1 ≡ Ok sent → (is_taken (setting.tag call) w.tags ≡ false) × (is_taken (setting.tag call) p.0.tags ≡ true)
+    (sent : Moved) → p.1 ≡ Ok sent → (is_taken (setting.tag call) w.tags.calls ≡ false) × (is_taken (setting.tag call) p.0.tags.calls ≡ true)
 
 not_ok : {A : Type 0} (fault : WorldFault) (sent : Moved) → (let r : Answer = Err fault in r ≡ Ok sent) → A
 not_ok fault sent e = absurd cc
 
-spends_it : {C : Type 0} (setting : Setting C) (w : World C) (n : ℕ) (call : C) (stands : Standing) (r : Result (List (Message C)) RuleFault) → is_taken (setting.tag call) w.tags ≡ false → SpendsTag setting w call (spends (setting.tag call) (told (with_server w n stands) (said r)))
-spends_it setting w n call stands (Ok messages) free = λ sent is. (free, taken_last (setting.tag call) w.tags)
+spends_it : {C : Type 0} (setting : Setting C) (w : World C) (n : ℕ) (call : C) (stands : Standing) (r : Result (List (Message C)) RuleFault) → is_taken (setting.tag call) w.tags.calls ≡ false → SpendsTag setting w call (spends (setting.tag call) (told (with_server w n stands) (said r)))
+spends_it setting w n call stands (Ok messages) free = λ sent is. (free, taken_last (setting.tag call) w.tags.calls)
 spends_it setting w n call stands (Err fault) free = λ sent is. not_ok _ sent is
 
 submits_it : {C : Type 0} (setting : Setting C) (w : World C) (n : ℕ) (call : C) (r : Result Standing WorldFault) → SpendsTag setting w call (submits setting w n call r)
 submits_it setting w n call (Err fault) = λ sent is. not_ok fault sent is
 submits_it setting w n call (Ok it) =
     by_test (SpendsTag setting w call) (rules.is_serving it.state.peer.role) _ _
-    (λ serving. by_test (SpendsTag setting w call) (is_taken (setting.tag call) w.tags) _ _
+    (λ serving. by_test (SpendsTag setting w call) (is_taken (setting.tag call) w.tags.calls) _ _
     (λ again sent is. not_ok _ sent is)
     (λ free. spends_it setting w n call (standing it.up (rules.submit setting it.state call).0) (rules.submit setting it.state call).1 free))
     (λ no sent is. not_ok _ sent is)
@@ -110,11 +125,12 @@ happens_spends {C} profile w (Expire n tag session now) call is =
     let own : C = profile.closing tag session now in
     subst (λ c. SpendsTag profile.setting w c (happens profile w (Expire n tag session now))) (same_some own call is)
     (submits_it profile.setting w n own (running w.servers n))
+happens_spends profile w (Sync n tag) call is = no_call call is
 happens_spends profile w (Crash n) call is = no_call call is
 happens_spends profile w (Restart n) call is = no_call call is
 
 -- the first of some events
-first_spends : {C : Type 0} (profile : Profile C) (w : World C) (first event : Event C) (call : C) (sent : Moved) → (let o : Option (Event C) = Some first in o ≡ Some event) → call_of profile event ≡ Some call → (let o : Option Answer = Some (happens profile w first).1 in o ≡ Some (Ok sent)) → (is_taken (profile.setting.tag call) w.tags ≡ false) × (is_taken (profile.setting.tag call) (happens profile w first).0.tags ≡ true)
+first_spends : {C : Type 0} (profile : Profile C) (w : World C) (first event : Event C) (call : C) (sent : Moved) → (let o : Option (Event C) = Some first in o ≡ Some event) → call_of profile event ≡ Some call → (let o : Option Answer = Some (happens profile w first).1 in o ≡ Some (Ok sent)) → (is_taken (profile.setting.tag call) w.tags.calls ≡ false) × (is_taken (profile.setting.tag call) (happens profile w first).0.tags.calls ≡ true)
 first_spends profile w first event call sent happened submitted answered =
     happens_spends profile w first call (ap (call_of profile) (same_some first event happened) ∙ submitted) sent
     (same_some (happens profile w first).1 (Ok sent) answered)
@@ -124,18 +140,18 @@ first_spends profile w first event call sent happened submitted answered =
 not_spent : {A : Type 0} (b : Bool) → b ≡ true → b ≡ false → A
 not_spent b is free = absurd (let e : true ≡ false = sym is ∙ free in cc)
 
-never_again : {C : Type 0} (profile : Profile C) (w : World C) (events : List (Event C)) (call : C) (place : ℕ) (event : Event C) (sent : Moved) → is_taken (profile.setting.tag call) w.tags ≡ true → slice_get events place ≡ Some event → call_of profile event ≡ Some call → slice_get (answers profile w events) place ≡ Some (Ok sent) → ⊥
+never_again : {C : Type 0} (profile : Profile C) (w : World C) (events : List (Event C)) (call : C) (place : ℕ) (event : Event C) (sent : Moved) → is_taken (profile.setting.tag call) w.tags.calls ≡ true → slice_get events place ≡ Some event → call_of profile event ≡ Some call → slice_get (answers profile w events) place ≡ Some (Ok sent) → ⊥
 never_again profile w [] call place event sent spent happened submitted answered = absurd cc
 never_again profile w (first ∷ events) call zero event sent spent happened submitted answered =
-    not_spent (is_taken (profile.setting.tag call) w.tags) spent (first_spends profile w first event call sent happened submitted answered).0
+    not_spent (is_taken (profile.setting.tag call) w.tags.calls) spent (first_spends profile w first event call sent happened submitted answered).0
 never_again profile w (first ∷ events) call (suc place) event sent spent happened submitted answered =
     never_again profile (happens profile w first).0 events call place event sent (happens_tags profile w first (profile.setting.tag call) spent) happened submitted answered
 
 -- the call of the first event is accepted, so no later one has its tag
-never_later : {C : Type 0} (profile : Profile C) (w : World C) (first : Event C) (events : List (Event C)) (call other : C) → profile.setting.tag call ≡ profile.setting.tag other → is_taken (profile.setting.tag call) (happens profile w first).0.tags ≡ true → IsAcceptedFrom profile (happens profile w first).0 events other → ⊥
+never_later : {C : Type 0} (profile : Profile C) (w : World C) (first : Event C) (events : List (Event C)) (call other : C) → profile.setting.tag call ≡ profile.setting.tag other → is_taken (profile.setting.tag call) (happens profile w first).0.tags.calls ≡ true → IsAcceptedFrom profile (happens profile w first).0 events other → ⊥
 never_later profile w first events call other same spent a =
     never_again profile (happens profile w first).0 events other a.place a.event a.sent
-    (subst (λ tag. is_taken tag (happens profile w first).0.tags ≡ true) same spent) a.happened a.submitted a.answered
+    (subst (λ tag. is_taken tag (happens profile w first).0.tags.calls ≡ true) same spent) a.happened a.submitted a.answered
 
 accepted_at : {C : Type 0} (profile : Profile C) (w : World C) (events : List (Event C)) (call other : C) (i j : ℕ) (event later : Event C) (sent more : Moved) → profile.setting.tag call ≡ profile.setting.tag other → slice_get events i ≡ Some event → call_of profile event ≡ Some call → slice_get (answers profile w events) i ≡ Some (Ok sent) → slice_get events j ≡ Some later → call_of profile later ≡ Some other → slice_get (answers profile w events) j ≡ Some (Ok more) → i ≡ j
 accepted_at profile w [] call other i j event later sent more same e c a f d b = absurd cc

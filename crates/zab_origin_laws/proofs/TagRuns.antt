@@ -11,14 +11,14 @@ use Rattle.zab_broadcast.specs.declared.state.State.{State}
 use Rattle.zab_broadcast.specs.Calls.{Setting, is_taken}
 use Rattle.zab_broadcast.specs.Rules as rules
 use Rattle.zab_tag_laws.proofs.TagFacts.{Owners, nobody, BodyFact, MessageFact, SentFact, ServerFact, ActsFact, Grows, grows_refl, messages_grow, idles, by_test, cases_eq, all_append, all_get, same_some, taken_last}
-use Rattle.zab_tag_laws.proofs.TagRules.{lead_fact, follow_fact, hears_c_epoch, hears_new_epoch, hears_ack_epoch, hears_new_leader, hears_ack_leader, hears_propose, hears_ack, hears_commit, hears_sync_ask, hears_sync_tell}
+use Rattle.zab_tag_laws.proofs.TagRules.{lead_fact, follow_fact, hears_c_epoch, hears_new_epoch, hears_ack_epoch, hears_new_leader, hears_ack_leader, hears_propose, hears_ack, hears_commit, sync_fact, hears_sync_ask, hears_sync_tell}
 use Rattle.zab_tag_laws.proofs.TagCalls.{CarriesTag, Spent, SpentBy, IsSpentIn, spent_more, Adds, AddsBy, Owes, owes_nothing, submit_owes, request_owes}
 use Rattle.zab_runs.specs.declared.event.Event.{Event}
-use Rattle.zab_runs.specs.declared.event.Event.TheVariants.{Lead, Follow, Arrive, Submit, Expire, Crash, Restart}
+use Rattle.zab_runs.specs.declared.event.Event.TheVariants.{Lead, Follow, Arrive, Submit, Expire, Sync, Crash, Restart}
 use Rattle.zab_runs.specs.declared.event.Moved.{Moved}
 use Rattle.zab_runs.specs.declared.fault.WorldFault.{WorldFault}
 use Rattle.zab_runs.specs.Standings.{Standing, standing, new_server, new_servers}
-use Rattle.zab_runs.specs.Worlds.{World, Profile, Answer, new_world, moved, is_server, server_at, running, resting, told, said, with_server, acts, receives, message_at, arrives, spends, submits, crashed, crashes, restarts, happens}
+use Rattle.zab_runs.specs.Worlds.{World, Profile, Answer, new_world, moved, is_server, server_at, running, resting, told, said, with_server, acts, receives, message_at, arrives, spends, submits, spends_sync, syncs, crashed, crashes, restarts, happens}
 use Rattle.zab_runs.specs.Runs.{history_list, history_of}
 use Rattle.zab_agreement_laws.specs.Origins.{call_of}
 use Rattle.zab_runs.proofs.ServerLists.{found, same_place, other_place, up_is, down_is}
@@ -28,7 +28,7 @@ use Rattle.zab_runs.proofs.ServerLists.{found, same_place, other_place, up_is, d
 pub record WorldFact {C : Type 0} (tag : C → ℕ) (g : Owners C) (w : World C) : Type 0 where
   pub servers : (n : ℕ) (it : Standing) → server_at w.servers n ≡ Some it → ServerFact g n it.state
   pub messages : AllByRecursion (MessageFact tag g) w.messages
-  pub spent : Spent g w.tags
+  pub spent : Spent g w.tags.calls
 
 -- ---- what an event adds
 
@@ -107,7 +107,7 @@ stands_fact g after servers n it stands is facts fact others k other at =
 -- ---- a server acts
 
 -- what it says is sent
-told_fact : {C : Type 0} (tag : C → ℕ) (g after : Owners C) (w : World C) (n : ℕ) (stands : Standing) (r : Result (List (Message C)) RuleFault) → Grows g after → ((k : ℕ) (other : Standing) → server_at (set w.servers (n - 1) stands) k ≡ Some other → ServerFact after k other.state) → AllByRecursion (MessageFact tag g) w.messages → SentFact tag after r → Spent after w.tags → WorldFact tag after (told (with_server w n stands) (said r)).0
+told_fact : {C : Type 0} (tag : C → ℕ) (g after : Owners C) (w : World C) (n : ℕ) (stands : Standing) (r : Result (List (Message C)) RuleFault) → Grows g after → ((k : ℕ) (other : Standing) → server_at (set w.servers (n - 1) stands) k ≡ Some other → ServerFact after k other.state) → AllByRecursion (MessageFact tag g) w.messages → SentFact tag after r → Spent after w.tags.calls → WorldFact tag after (told (with_server w n stands) (said r)).0
 told_fact tag g after w n stands (Ok messages) grows servers before sent spent = record {
   servers = servers;
   messages = all_append (MessageFact tag after) w.messages messages (messages_grow tag g after w.messages grows before) sent;
@@ -120,16 +120,16 @@ told_fact tag g after w n stands (Err fault) grows servers before sent spent = r
 }
 
 -- and its tag is spent
-spends_fact : {C : Type 0} (setting : Setting C) (g after : Owners C) (call : C) (w : World C) (n : ℕ) (stands : Standing) (r : Result (List (Message C)) RuleFault) → Grows g after → ((k : ℕ) (other : Standing) → server_at (set w.servers (n - 1) stands) k ≡ Some other → ServerFact after k other.state) → AllByRecursion (MessageFact setting.tag g) w.messages → SentFact setting.tag after r → SpentBy setting g after (Some call) r → Spent g w.tags → WorldFact setting.tag after (spends (setting.tag call) (told (with_server w n stands) (said r))).0
+spends_fact : {C : Type 0} (setting : Setting C) (g after : Owners C) (call : C) (w : World C) (n : ℕ) (stands : Standing) (r : Result (List (Message C)) RuleFault) → Grows g after → ((k : ℕ) (other : Standing) → server_at (set w.servers (n - 1) stands) k ≡ Some other → ServerFact after k other.state) → AllByRecursion (MessageFact setting.tag g) w.messages → SentFact setting.tag after r → SpentBy setting g after (Some call) r → Spent g w.tags.calls → WorldFact setting.tag after (spends (setting.tag call) (told (with_server w n stands) (said r))).0
 spends_fact setting g after call w n stands (Ok messages) grows servers before sent by spent = record {
   servers = servers;
   messages = all_append (MessageFact setting.tag after) w.messages messages (messages_grow setting.tag g after w.messages grows before) sent;
-  spent = by (w.tags ++ setting.tag call ∷ []) (spent_more g w.tags (setting.tag call ∷ []) spent) (taken_last (setting.tag call) w.tags);
+  spent = by (w.tags.calls ++ setting.tag call ∷ []) (spent_more g w.tags.calls (setting.tag call ∷ []) spent) (taken_last (setting.tag call) w.tags.calls);
 }
 spends_fact setting g after call w n stands (Err fault) grows servers before sent by spent = record {
   servers = servers;
   messages = messages_grow setting.tag g after w.messages grows before;
-  spent = by w.tags spent;
+  spent = by w.tags.calls spent;
 }
 
 owed_servers : {C : Type 0} (setting : Setting C) (g : Owners C) (w : World C) (n : ℕ) (called : Option C) (old : List Entry) (it : Standing) (up : Bool) (act : rules.Acts C) → WorldFact setting.tag g w → server_at w.servers n ≡ Some it → (o : Owes setting g n called old act) → (k : ℕ) (other : Standing) → server_at (set w.servers (n - 1) (standing up act.0)) k ≡ Some other → ServerFact o.after k other.state
@@ -182,7 +182,7 @@ spends_adds {C} setting g after t w n called old it stands (Err fault) is adds =
     adds_more setting g after (λ call. none ≡ Some call) (IsKnown setting g called p.1) p.0 (λ call of_call. no_call call of_call)
     (owed_adds setting g after w p.0 n None old it stands is refl adds)
 
-acts_keep : {C : Type 0} (setting : Setting C) (g : Owners C) (w : World C) (n : ℕ) (called : Option C) (rule : State → rules.Acts C) (r : Result Standing WorldFault) → WorldFact setting.tag g w → ((it : Standing) → r ≡ Ok it → server_at w.servers n ≡ Some it) → ((call : C) → called ≡ Some call → IsAsked setting.tag g call) → ((state : State) → ServerFact g n state → (o : Owes setting g n called state.peer.stable.history (rule state)) × Spent o.after w.tags) → Keeps setting g None (acts w n rule r)
+acts_keep : {C : Type 0} (setting : Setting C) (g : Owners C) (w : World C) (n : ℕ) (called : Option C) (rule : State → rules.Acts C) (r : Result Standing WorldFault) → WorldFact setting.tag g w → ((it : Standing) → r ≡ Ok it → server_at w.servers n ≡ Some it) → ((call : C) → called ≡ Some call → IsAsked setting.tag g call) → ((state : State) → ServerFact g n state → (o : Owes setting g n called state.peer.stable.history (rule state)) × Spent o.after w.tags.calls) → Keeps setting g None (acts w n rule r)
 acts_keep setting g w n called rule (Ok it) f is asked owes =
     let here = is it refl in
     let o = owes it.state (f.servers n it here) in
@@ -262,7 +262,7 @@ arrives_keep setting law g w (Some m) f b =
     acts_keep setting g w m.addressee (call_in m.body) (receives setting m.sender m.body) (running w.servers m.addressee) f
     (λ it is. up_is (server_at w.servers m.addressee) it is)
     (λ call is. asked_in setting g m.addressee m.body call b is)
-    (λ state s. receives_owe setting law g m.addressee m.sender m.body w.tags state f.spent b s)
+    (λ state s. receives_owe setting law g m.addressee m.sender m.body w.tags.calls state f.spent b s)
 
 -- ---- calls
 
@@ -281,12 +281,12 @@ submits_keep setting law g w n call (Ok it) f is =
     let here = is it refl in
     let t = setting.tag call in
     by_test (Keeps setting g (Some call)) (rules.is_serving it.state.peer.role) _ _
-    (λ serving. by_test (Keeps setting g (Some call)) (is_taken (setting.tag call) w.tags) _ _
+    (λ serving. by_test (Keeps setting g (Some call)) (is_taken (setting.tag call) w.tags.calls) _ _
     (λ again. same_world setting g (Some call) w _ f)
     (λ free.
     (let o = submit_owes setting law g n it.state call it.state.peer.role refl (f.servers n it here)
-    (unmade g w.tags (setting.tag call) (g.owner (setting.tag call)) f.spent free refl)
-    (unasked g w.tags (setting.tag call) (g.asked (setting.tag call)) f.spent free refl) in
+    (unmade g w.tags.calls (setting.tag call) (g.owner (setting.tag call)) f.spent free refl)
+    (unasked g w.tags.calls (setting.tag call) (g.asked (setting.tag call)) f.spent free refl) in
     let stands = standing it.up (rules.submit setting it.state call).0 in
     record {
       after = o.after;
@@ -296,6 +296,34 @@ submits_keep setting law g w n call (Ok it) f is =
       adds = spends_adds setting g o.after (setting.tag call) w n (Some call) it.state.peer.stable.history it stands (rules.submit setting it.state call).1 here o.adds;
     })))
     (λ no. same_world setting g (Some call) w _ f)
+
+-- ---- syncs
+
+spends_sync_keep : {C : Type 0} (setting : Setting C) (g : Owners C) (t : ℕ) (p : World C × Answer) → Keeps setting g None p → Keeps setting g None (spends_sync t p)
+spends_sync_keep setting g t (w, Ok numbers) k = record {
+  after = k.after;
+  grows = k.grows;
+  fact = record { servers = k.fact.servers; messages = k.fact.messages; spent = k.fact.spent };
+  adds = record {
+    owner = λ tag x is. elim (k.adds.owner tag x is) [
+      | inl old ↦ inl old
+      | inr m ↦ inr (record { server = m.server; before = m.before; call = m.call; zxid = m.zxid; known = m.known; made = m.made; held = m.held })
+    ];
+    asked = k.adds.asked;
+  };
+}
+spends_sync_keep setting g t (w, Err fault) k = k
+
+syncs_keep : {C : Type 0} (setting : Setting C) (g : Owners C) (w : World C) (n t : ℕ) (r : Result Standing WorldFault) → WorldFact setting.tag g w → ((it : Standing) → r ≡ Ok it → server_at w.servers n ≡ Some it) → Keeps setting g None (syncs w n t r)
+syncs_keep setting g w n t (Err fault) f is = same_world setting g None w (Err fault) f
+syncs_keep setting g w n t (Ok it) f is =
+    by_test (Keeps setting g None) (rules.is_serving it.state.peer.role) _ _
+    (λ serving. by_test (Keeps setting g None) (is_taken t w.tags.syncs) _ _
+    (λ again. same_world setting g None w _ f)
+    (λ free. spends_sync_keep setting g t (acts w n (λ state. rules.sync state t) (Ok it))
+    (acts_keep setting g w n None (λ state. rules.sync state t) (Ok it) f is (not_called setting g)
+    (λ state s. quietly setting g n w.tags.calls state.peer.stable.history (rules.sync state t) f.spent (sync_fact setting.tag g n state t s)))))
+    (λ no. same_world setting g None w _ f)
 
 -- ---- crashes
 
@@ -333,12 +361,12 @@ restarts_keep setting g w n (Ok it) f is =
 pub happens_keeps : {C : Type 0} (profile : Profile C) → CarriesTag profile.setting → (g : Owners C) (w : World C) (event : Event C) → WorldFact profile.setting.tag g w → Keeps profile.setting g (call_of profile event) (happens profile w event)
 happens_keeps profile law g w (Lead n) f =
     acts_keep profile.setting g w n None rules.lead (running w.servers n) f (λ it is. up_is (server_at w.servers n) it is) (not_called profile.setting g)
-    (λ state s. quietly profile.setting g n w.tags state.peer.stable.history (rules.lead state) f.spent (lead_fact profile.setting.tag g n state s))
+    (λ state s. quietly profile.setting g n w.tags.calls state.peer.stable.history (rules.lead state) f.spent (lead_fact profile.setting.tag g n state s))
 happens_keeps profile law g w (Follow n leader) f =
     by_test (Keeps profile.setting g None) (is_server (length w.servers) leader && not (n == leader)) _ _
     (λ e. acts_keep profile.setting g w n None (λ state. rules.follow state leader) (running w.servers n) f
     (λ it is. up_is (server_at w.servers n) it is) (not_called profile.setting g)
-    (λ state s. quietly profile.setting g n w.tags state.peer.stable.history (rules.follow state leader) f.spent (follow_fact profile.setting.tag g n state leader s)))
+    (λ state s. quietly profile.setting g n w.tags.calls state.peer.stable.history (rules.follow state leader) f.spent (follow_fact profile.setting.tag g n state leader s)))
     (λ e. same_world profile.setting g None w _ f)
 happens_keeps profile law g w (Arrive number) f =
     arrives_keep profile.setting law g w (message_at w.messages number) f (message_fact profile.setting.tag g w.messages number f.messages)
@@ -346,6 +374,8 @@ happens_keeps profile law g w (Submit n call) f =
     submits_keep profile.setting law g w n call (running w.servers n) f (λ it is. up_is (server_at w.servers n) it is)
 happens_keeps profile law g w (Expire n tag session now) f =
     submits_keep profile.setting law g w n (profile.closing tag session now) (running w.servers n) f (λ it is. up_is (server_at w.servers n) it is)
+happens_keeps profile law g w (Sync n tag) f =
+    syncs_keep profile.setting g w n tag (running w.servers n) f (λ it is. up_is (server_at w.servers n) it is)
 happens_keeps profile law g w (Crash n) f =
     crashes_keep profile.setting g w n (running w.servers n) f (λ it is. up_is (server_at w.servers n) it is)
 happens_keeps profile law g w (Restart n) f =

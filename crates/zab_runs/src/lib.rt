@@ -6,6 +6,8 @@
 
 mod event;
 mod fault;
+mod spent;
 
 pub use event::{Event, Moved};
 pub use fault::WorldFault;
+pub use spent::Spent;

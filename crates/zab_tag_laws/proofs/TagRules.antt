@@ -12,7 +12,7 @@ use Rattle.zab_epoch.specs.declared.votes.Vote.{Vote}
 use Rattle.zab_epoch.specs.Entries.{last_zxid, up_to}
 use Rattle.zab_epoch.specs.Roles.{follows, is_choosing}
 use Rattle.zab_epoch.specs.Rules as epoch_rules
-use Rattle.zab_epoch.specs.Rules.{next_epoch, greatest, vote_of, with_promise, is_behind, exceeds, new_leader_to, to_joiner, to_joiners, goes_on, meant}
+use Rattle.zab_epoch.specs.Rules.{next_epoch, greatest, vote_of, is_behind, exceeds, new_leader_to, to_joiner, to_joiners, goes_on, meant}
 use Rattle.zab_epoch.specs.Sending.{message, to_others}
 use Rattle.zab_epoch.specs.Tables.{silent_servers, put, marks_of}
 use Rattle.zab_broadcast.specs.declared.state.State.{State}

@@ -1,10 +1,10 @@
 -- The servers of a world, by their numbers.
-use Rattle.std.proofs.Common.{◌≡◌, ℕ, zero, suc, ◌-◌, ◌<◌, ◌≤◌, ◌&&◌, nat_lt, nat_le, Bool, true, false, cond, List, [], ◌∷◌, length, get_or, slice_get, Option, Some, None, refl, sym, ap, ◌∙◌, arith}
+use Rattle.std.proofs.Common.{◌≡◌, ℕ, zero, suc, ◌-◌, ◌<◌, ◌≤◌, true, cond, List, [], ◌∷◌, length, get_or, slice_get, Some, None, sym, ap, ◌∙◌, arith}
 use Rattle.std.proofs.lemmas.Bool.Decides.{nat_tests}
 use Rattle.zab_broadcast.specs.Guards.{EndsBelow}
 use Rattle.zab_agreement_laws.specs.Promises.{EachEndsBelow}
 use Rattle.zab_runs.specs.Standings.{Standing}
-use Rattle.zab_runs.specs.Worlds.{server_at, is_server}
+use Rattle.zab_runs.specs.Worlds.{is_server}
 
 is_one : (servers number : ℕ) → 0 < number → number ≤ servers → is_server servers number ≡ true
 is_one servers number above within = grind (arith, nat_tests)

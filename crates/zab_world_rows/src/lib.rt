@@ -11,6 +11,8 @@ mod fault_rows;
 #[cfg(test)]
 mod scripts;
 #[cfg(test)]
+mod sync_rows;
+#[cfg(test)]
 mod weight_rows;
 #[cfg(test)]
 mod world_rows;

@@ -6,7 +6,7 @@ ghost use Rattle.std.specs.Prelude.{◌≡◌, false};
 use std::alloc::Global;
 use zab_broadcast::{Echo, EchoCall};
 use zab_epoch::{Body, Entries, Majority, Quorums, WeightFault, Weighted};
-use zab_world::{Event, Moved, World, WorldFault};
+use zab_world::{Caught, Event, Moved, World, WorldFault};
 use zk_path::NoMemory;
 
 /// A world of echoes.
@@ -21,17 +21,21 @@ pub enum Happening {
     Submit(usize, u64),
     /// A session's closing.
     Expire(usize, u64),
+    /// A client's sync with a tag.
+    Sync(usize, u64),
     Crash(usize),
     Restart(usize),
 }
 
-/// What is shown: the tags and zxids of what a server has delivered, or has; what a NewLeader with a number keeps, and how
+/// What is shown: the tags and zxids of what a server has delivered, or has; the tags and lengths of the syncs that it has
+/// answered; what a NewLeader with a number keeps, and how
 /// many entries come with it; the epoch of a NewEpoch; that of an AckEpoch, and its vote; how many messages were sent; or
 /// whether a server runs.
 #[derive(Clone, Copy)]
 pub enum Report {
     Delivered(usize, &'static [(u64, i64)]),
     History(usize, &'static [(u64, i64)]),
+    Caught(usize, &'static [(u64, u64)]),
     Suffix(usize, i64, usize),
     Chosen(usize, u32),
     Voted(usize, u32, bool),
@@ -67,6 +71,7 @@ pub fn event_of(happening: Happening) -> Event<EchoCall> {
             session: 0x1_0000_0001,
             now: 3000,
         },
+        Happening::Sync(server, tag) => Event::Sync { server, tag },
         Happening::Crash(server) => Event::Crash { server },
         Happening::Restart(server) => Event::Restart { server },
     }
@@ -104,6 +109,13 @@ fn has<Q: Quorums + Drop>(world: &World<Echo, Q>, server: usize, expected: &[(u6
         Some(stable) => are(&stable.history.entries(), expected),
         None => false,
     }
+}
+
+/// Whether syncs have these tags and lengths.
+fn are_caught(syncs: &[Caught], expected: &[(u64, u64)]) -> bool {
+    syncs.len() == expected.len()
+        && syncs.iter().zip(expected).all(|(caught, (tag, length))| caught.tag == *tag
+            && caught.length == *length)
 }
 
 /// What the message with a number says; none, where there is no such message.
@@ -150,6 +162,7 @@ fn shows<Q: Quorums + Drop>(world: &World<Echo, Q>, report: Report) -> bool
     match report {
         Report::Delivered(server, expected) => are(&world.delivered(server), expected),
         Report::History(server, expected) => has(world, server, expected),
+        Report::Caught(server, expected) => are_caught(world.syncs(server), expected),
         Report::Suffix(message, keep, count) => suffix(world, message) == Some((keep, count)),
         Report::Chosen(message, epoch) => chosen(world, message) == Some(epoch),
         Report::Voted(message, epoch, vote) => voted(world, message) == Some((epoch, vote)),
@@ -184,7 +197,10 @@ fn walk<Q: Quorums + Drop>(world: &mut World<Echo, Q>, rows: &[Row]) -> Option<u
 }
 
 /// The places, script and row, of the first row of scripts that differs.
-fn walk_all<Q: Quorums + Drop>(world: &mut World<Echo, Q>, scripts: &[&[Row]]) -> Option<(usize, usize)> {
+fn walk_all<Q: Quorums + Drop>(
+    world: &mut World<Echo, Q>,
+    scripts: &[&[Row]],
+) -> Option<(usize, usize)> {
     for (number, script) in scripts.iter().enumerate() {
         if let Some(place) = walk(world, script) {
             return Some((number, place));

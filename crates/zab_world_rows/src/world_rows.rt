@@ -13,7 +13,7 @@ use zab_world::{Event, Moved, WorldFault};
 use zk_path::NoMemory;
 
 /// Server 1 leads, server 2 follows it, and a submit at server 1 is proposed.
-static FIRST_SUBMIT: [Row; 8] = [
+pub static FIRST_SUBMIT: [Row; 8] = [
     Sends(Lead(1), 0),
     Sends(Follow(2, 1), 1),
     Sends(Arrive(1), 2),
@@ -25,10 +25,10 @@ static FIRST_SUBMIT: [Row; 8] = [
 ];
 
 /// It is acknowledged, and committed at server 1.
-static FIRST_COMMIT: [Row; 2] = [Sends(Arrive(7), 8), Sends(Arrive(8), 9)];
+pub static FIRST_COMMIT: [Row; 2] = [Sends(Arrive(7), 8), Sends(Arrive(8), 9)];
 
 /// The entry of the first call.
-const FIRST: [(u64, i64); 1] = [(1, 0x1_0000_0001)];
+pub const FIRST: [(u64, i64); 1] = [(1, 0x1_0000_0001)];
 
 /// Server 2 delivers it with the last message, and server 3 nothing.
 static FIRST_DELIVERED: [Row; 6] = [

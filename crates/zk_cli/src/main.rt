@@ -15,8 +15,8 @@ use act::act;
 use std::io::{Read, Write};
 use std::process::ExitCode;
 use std::{env, fs, io};
-use zk_log::{Sink, Source};
 use zk_command_line::{CommandFault, Job, Order, read_command_line};
+use zk_log::{Sink, Source};
 use zk_path::NoMemory;
 use zk_usage::{Refusal, refusal_of_bytes};
 

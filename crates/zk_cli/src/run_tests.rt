@@ -2,8 +2,8 @@
 use crate::act::act;
 use std::process::Abort;
 use std::test::Fail;
-use zk_log::{DripIn, DripOut, Sink, Source};
 use zk_command_line::{CommandFault, Order, read_command_line};
+use zk_log::{DripIn, DripOut, Sink, Source};
 use zk_usage::ErrorKind;
 
 /// A leader of three without followers is asked, and a read is refused.

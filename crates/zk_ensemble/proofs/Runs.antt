@@ -9,7 +9,6 @@ use Rattle.zab_runs.specs.declared.event.Event.{Event as WorldEvent}
 use Rattle.zab_runs.specs.declared.event.Moved.{Moved}
 use Rattle.zab_runs.specs.declared.fault.WorldFault.{WorldFault}
 use Rattle.zab_runs.specs.Movers.{mover}
-use Rattle.zab_epoch.specs.declared.history.Entry.{Entry}
 use Rattle.zab_epoch.specs.declared.message.Message.{Message}
 use Rattle.zab_runs.specs.Running.{is_running, if_running}
 use Rattle.zab_runs.specs.Standings.{Standing}

@@ -5,6 +5,7 @@ use Rattle.std.specs.List.{AllByRecursion}
 use Rattle.zab_quorums.specs.Quorums.{is_heavy}
 use Rattle.zab_epoch.specs.declared.message.Message.{Message}
 use Rattle.zab_broadcast.specs.declared.state.State.{State as ServerState}
+use Rattle.zab_runs.specs.declared.spent.Spent.{Spent}
 use Rattle.zab_runs.specs.Movers.{mover}
 use Rattle.zab_runs.specs.Runs.{Sight}
 use Rattle.zab_runs.specs.Standings.{Standing}
@@ -60,9 +61,13 @@ pub record EnsembleView : Type 0 where
 abbrev pub standing_code : Coded ServerState → Coded Standing
 standing_code state = code_by (Bool × ServerState) (coded× coded_bool state) (λ s. (s.up, s.state)) (λ p. record { up = p.0; state = p.1 }) (λ _. refl)
 
+abbrev pub spent_code : Coded Spent
+spent_code =
+    code_by (List ℕ × List ℕ) (coded× (coded_list coded_ℕ) (coded_list coded_ℕ)) (λ s. (s.calls, s.syncs)) (λ p. record { calls = p.0; syncs = p.1 }) (λ _. refl)
+
 abbrev pub world_code : Coded ServerState → Coded (Message Call) → Coded (World Call)
 world_code state message =
-    code_by (List Standing × (List (Message Call) × List ℕ)) (coded× (coded_list (standing_code state)) (coded× (coded_list message) (coded_list coded_ℕ))) (λ w. (w.servers, (w.messages, w.tags))) (λ p. record { servers = p.0; messages = p.1.0; tags = p.1.1 }) (λ _. refl)
+    code_by (List Standing × (List (Message Call) × Spent)) (coded× (coded_list (standing_code state)) (coded× (coded_list message) spent_code)) (λ w. (w.servers, (w.messages, w.tags))) (λ p. record { servers = p.0; messages = p.1.0; tags = p.1.1 }) (λ _. refl)
 
 abbrev pub below_code : Coded (World Call) → Coded (Sight (List ℕ) Call)
 below_code world =

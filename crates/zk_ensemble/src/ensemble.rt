@@ -9,7 +9,7 @@ use std::alloc::Global;
 use std::marker::Model;
 use zab_epoch::{Entries, Message, Weighted};
 use zab_runs::Moved;
-use zab_world::{World, WorldFault};
+use zab_world::{Caught, World, WorldFault};
 use zk_log::Journal;
 use zk_machine::Machine;
 use zk_path::NoMemory;
@@ -55,7 +55,7 @@ impl Model for Ensemble {
 impl Ensemble {
     ghost use Rattle.std.specs.Prelude.{◌≡◌, ◌≢◌, replicate, length, true, false, IfOk, Err};
     ghost use Rattle.std.specs.Option.{option_copied, option_map};
-    ghost use Rattle.zab_runs.specs.Runs.{delivered_of, stable_of};
+    ghost use Rattle.zab_runs.specs.Runs.{delivered_of, stable_of, syncs_of};
     ghost use Rattle.zab_runs.specs.Worlds.{new_world, is_server};
     ghost use Rattle.zab_epoch.specs.Entries.{txns_of};
     ghost use Rattle.zk_runs.specs.declared.event.Event.TheVariants as events;
@@ -251,6 +251,15 @@ impl Ensemble {
         ensures { result ≡ delivered_of self.now.below.world number }
     {
         self.world.delivered(number)
+    }
+
+    /// The syncs that a server has answered since it started, in the order of answers, lent: the tag of each, and how
+    /// many entries were to be delivered for it. None where no server has this number; a crash drops them.
+    pub fn syncs(&self, number: usize) -> &[Caught]
+        requires { self.now.failed ≡ false }
+        ensures { result.now ≡ syncs_of self.now.below.world number }
+    {
+        self.world.syncs(number)
     }
 
     /// The transactions of a server's history, with the bytes of their entries in a log, lent; those of a server that is down,

@@ -10,4 +10,5 @@ mod moving;
 mod replica;
 
 pub use ensemble::Ensemble;
+pub use zab_world::Caught;
 pub use zk_runs::{Answer, Answered, EnsembleFault, Event, Question};

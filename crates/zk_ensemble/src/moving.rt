@@ -1,6 +1,7 @@
 //! What an event does to the servers' trees.
 
-ghost use Rattle.std.specs.Prelude.{◌≡◌, ◌≢◌, ◌≤◌, ℕ, List, length, true, false, if◌then◌else◌, int_lt, Some, None, Err, OnOk, OnErr, IfSome};
+ghost use Rattle.std.specs.Prelude.{◌≡◌, ◌≢◌, ◌≤◌, List, length, true, false, if◌then◌else◌, int_lt, Some, None, Err, OnOk, OnErr, IfSome};
+ghost use Rattle.zab_runs.specs.declared.spent.Spent.{Spent};
 ghost use Rattle.zab_runs.specs.Movers.{mover, addressee_of};
 ghost use Rattle.zab_runs.specs.Running.{is_running};
 ghost use Rattle.zab_runs.specs.Runs.{delivered_of};
@@ -23,13 +24,14 @@ use zk_runs::{Answer, EnsembleFault, Question};
 
 /// The only server that an event may change; 0 where there is no such message.
 pub(crate) fn mover(messages: &[Message<Call>], event: &zab_runs::Event<Call>) -> usize
-    ensures { (servers : List Standing) (tags : List ℕ) → result ≡ mover (world servers messages.now tags) event.now }
+    ensures { (servers : List Standing) (tags : Spent) → result ≡ mover (world servers messages.now tags) event.now }
 {
     match event {
         zab_runs::Event::Lead { server }
         | zab_runs::Event::Follow { server, .. }
         | zab_runs::Event::Submit { server, .. }
         | zab_runs::Event::Expire { server, .. }
+        | zab_runs::Event::Sync { server, .. }
         | zab_runs::Event::Crash { server }
         | zab_runs::Event::Restart { server } => *server,
         zab_runs::Event::Arrive { message } => addressee_of(messages, *message),

@@ -1,8 +1,8 @@
 //! Rows of events: what servers deliver, and what that is answered.
 
-use crate::events::Happening::{Arrive, Crash, Expire, Follow, Lead, Read, Restart, Submit};
+use crate::events::Happening::{Arrive, Crash, Expire, Follow, Lead, Read, Restart, Submit, Sync};
 use crate::events::{Ask, By, Look};
-use crate::reports::Report::{Answers, Delivered, History, Loaded, Message, Sent, Tree};
+use crate::reports::Report::{Answers, Delivered, History, Loaded, Message, Sent, Syncs, Tree};
 use crate::scripts::Row::{Shown, Told};
 use crate::scripts::{FIRST, Row, play};
 use std::test::Fail;
@@ -68,6 +68,27 @@ static FIRST_HALF: [Row; 4] = [
 #[test]
 fn first_session_commits(rt: HostRuntime) -> Result<(), Fail> {
     let scripts: [&[Row]; 3] = [&FIRST_SUBMIT, &FIRST_HALF, &FIRST_SHOWN];
+    assert_eq!(rt; play(rt.alloc(), &scripts)?, None);
+    Ok(())
+}
+
+/// Server 2 asks how much the leader has delivered, and delivers so much before the commit comes.
+static SYNCED: [Row; 10] = [
+    Told(Arrive(7), "ok 8"),
+    Told(Arrive(8), "ok 9"),
+    Told(Sync(2, 1), "ok 10"),
+    Told(Sync(2, 1), "E7"),
+    Told(Arrive(10), "ok 11"),
+    Shown(Syncs(2), ""),
+    Told(Arrive(11), "ok"),
+    Shown(Syncs(2), "1 1\n"),
+    Shown(Syncs(4), ""),
+    Told(Arrive(9), "ok"),
+];
+
+#[test]
+fn sync_delivers_what_the_leader_has(rt: HostRuntime) -> Result<(), Fail> {
+    let scripts: [&[Row]; 3] = [&FIRST_SUBMIT, &SYNCED, &FIRST_SHOWN];
     assert_eq!(rt; play(rt.alloc(), &scripts)?, None);
     Ok(())
 }

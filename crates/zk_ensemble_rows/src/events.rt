@@ -65,6 +65,7 @@ pub enum Happening {
     Submit(usize, u64, i64, Ask),
     /// Of the first session.
     Expire(usize, u64),
+    Sync(usize, u64),
     Read(By, Look, &'static str),
 }
 
@@ -226,6 +227,7 @@ pub fn event_of(alloc: Global, happening: Happening) -> Result<Event, Fail> {
             session: FIRST,
             now: 3000,
         },
+        Happening::Sync(server, tag) => zab_runs::Event::Sync { server, tag },
         Happening::Read(by, look, path) => {
             return Ok(Event::Read(question_of(alloc, by, look, path)?));
         }
@@ -256,13 +258,14 @@ fn fault_line(alloc: Global, fault: EnsembleFault) -> Result<String, NoMemory> {
     }
 }
 
-/// The number of the message that was sent.
+/// The numbers of the messages that were sent.
 fn moved_line(alloc: Global, moved: Moved) -> Result<String, NoMemory> {
-    match moved.count {
-        0 => Ok(String::from_str(alloc, "ok")?),
-        1 => Ok(format!(in alloc; "ok {}", moved.first)?),
-        count => Ok(format!(in alloc; "ok {} and {count} in all", moved.first)?),
+    let mut text = String::from_str(alloc, "ok")?;
+    for more in 0..moved.count {
+        let number = moved.first as u128 + more as u128;
+        write!(text, " {number}")?;
     }
+    Ok(text)
 }
 
 /// What an event is answered, spelled from a copy of the answer.

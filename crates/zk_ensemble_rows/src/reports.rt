@@ -15,13 +15,14 @@ use zk_table::Txn;
 use zk_tree::Tree;
 
 /// What is asked for: of a server, the entries that it has delivered, those that it has, those that its journal's bytes load
-/// to, what was answered, what was fired, or the tree; how many messages were sent; or what one of them says.
+/// to, what was answered, to calls or to syncs, what was fired, or the tree; how many messages were sent; or what one of them says.
 #[derive(Clone, Copy)]
 pub enum Report {
     Delivered(usize),
     History(usize),
     Loaded(usize),
     Answers(usize),
+    Syncs(usize),
     Events(usize),
     Tree(usize),
     Sent,
@@ -83,6 +84,17 @@ fn answers_at(alloc: Global, ensemble: &Ensemble, server: usize) -> Result<Strin
         write!(text, "{} {:016x} ", copy.tag, copy.session)?;
         push_result_line(&mut text, &copy.result)?;
         text.push('\n')?;
+    }
+    Ok(text)
+}
+
+/// Each sync that was answered: its tag and its length.
+fn syncs_at(alloc: Global, ensemble: &Ensemble, server: usize) -> Result<String, NoMemory>
+    requires { ensemble.now.failed ≡ false }
+{
+    let mut text = String::new(alloc);
+    for caught in ensemble.syncs(server) {
+        write!(text, "{} {}\n", caught.tag, caught.length)?;
     }
     Ok(text)
 }
@@ -158,6 +170,7 @@ pub fn report_of(alloc: Global, ensemble: &Ensemble, report: Report) -> Result<S
         Report::History(server) => Ok(history_at(alloc, ensemble, server)?),
         Report::Loaded(server) => loaded_at(alloc, ensemble, server),
         Report::Answers(server) => Ok(answers_at(alloc, ensemble, server)?),
+        Report::Syncs(server) => Ok(syncs_at(alloc, ensemble, server)?),
         Report::Events(server) => Ok(events_at(alloc, ensemble, server)?),
         Report::Tree(server) => tree_at(alloc, ensemble, server),
         Report::Sent => Ok(format!(in alloc; "{}", ensemble.messages().len())?),

@@ -1,5 +1,5 @@
 -- A first line is read just where it is spelled so.
-use Rattle.std.proofs.Common.{◌≡◌, ◌≢◌, ◌&&◌, ◌==◌, ◌⊎◌, inl, inr, ℕ, zero, suc, ◌^◌, ◌<◌, ◌≤◌, nat_le, Bool, true, false, List, [], ◌∷◌, ◌++◌, length, replicate, Option, Some, None, Result, Ok, Err, refl, sym, ap, subst, ◌∙◌, append_assoc, arith}
+use Rattle.std.proofs.Common.{◌≡◌, ◌≢◌, ◌&&◌, ◌==◌, inl, inr, ℕ, zero, suc, ◌^◌, ◌<◌, ◌≤◌, nat_le, Bool, true, false, List, [], ◌∷◌, ◌++◌, length, replicate, Option, Some, None, Result, Ok, Err, refl, sym, ap, subst, ◌∙◌, append_assoc, arith}
 use Rattle.std.proofs.lemmas.List.{append-nil, length-replicate}
 use Rattle.std.proofs.lemmas.Bool.Decides.{nat_tests}
 use Rattle.std.specs.Prelude.{if◌then◌else◌, IfOk, IfErr, codes, is_none}
@@ -15,7 +15,7 @@ use Rattle.zk_listing.proofs.Exact.{bind_some, first_is, second_is}
 use Rattle.zk_request_lines.specs.Reading.{number_at}
 use Rattle.zk_request_lines.proofs.Readings.{TakesBehind, by_word_takes, ReadsWhole, nothing_left}
 use Rattle.zk_first_line.specs.FirstLines.{field, SpellsWeights, SaysServers, ReadsServers}
-use Rattle.zk_first_line.specs.Reading.{servers_at, weights_of, listed_at, counted_weights, first_at, are_right, are_right_alone}
+use Rattle.zk_first_line.specs.Reading.{servers_at, weights_of, counted_weights, first_at, are_right, are_right_alone}
 use Rattle.zk_first_line.proofs.Weights.{Fit, spaced_number, if_some, listed_takes, listed_again}
 
 -- ---- the number of servers

@@ -10,7 +10,7 @@ use Rattle.zk_listing.specs.declared.fault.ListCause.TheVariants as causes
 abbrev pub field : ℕ → List ℕ
 field number = 32 ∷ decimal number
 
--- `servers N`, where each server weighs 1, or `servers N weights W1 .. WN`
+-- `servers N`, where each server weighs 1, or `servers N weights WEIGHT ..`
 abbrev pub SpellsWeights : List ℕ → List ℕ → Type 0
 SpellsWeights weights text =
     ((weights ≡ replicate (length weights) 1) × (text ≡ codes "servers " ++ decimal (length weights)))

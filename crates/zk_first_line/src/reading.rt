@@ -11,7 +11,7 @@ use zk_listing::ListCause;
 use zk_request_lines::{spaced_number, take_space, take_word};
 
 /// The weights of the servers that a script's first line says: `servers N`, where each weighs 1, or
-/// `servers N weights W1 .. WN`. Only the weights themselves take memory, once the whole line is read.
+/// `servers N weights WEIGHT ..`. Only the weights themselves take memory, once the whole line is read.
 pub fn read_servers(alloc: Global, line: &str) -> Result<Weighted, ListCause>
     ensures { ReadsServers line.now result }
 {

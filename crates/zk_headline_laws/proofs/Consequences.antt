@@ -90,6 +90,7 @@ fits_call passes (world.Follow server leader) call fit is = absurd (no_call call
 fits_call passes (world.Arrive message) call fit is = absurd (no_call call is)
 fits_call passes (world.Submit server asked) call fit is = subst (λ (c : Call). FitsSigned w64 c.session) (same_call asked call is) fit
 fits_call passes (world.Expire server tag session now) call fit is = subst (λ (c : Call). FitsSigned w64 c.session) (same_call _ call is) fit
+fits_call passes (world.Sync server tag) call fit is = absurd (no_call call is)
 fits_call passes (world.Crash server) call fit is = absurd (no_call call is)
 fits_call passes (world.Restart server) call fit is = absurd (no_call call is)
 

@@ -31,7 +31,7 @@ use Rattle.zk_runs.specs.declared.fault.EnsembleFault.{EnsembleFault}
 use Rattle.zk_runs.specs.declared.fault.EnsembleFault.TheVariants as faults
 use Rattle.zk_runs.specs.Ensembles.{Ensemble, Shown, Told, fresh, ensemble, new_ensemble, happens, moves, looks, reads, take_in, take_all, shown_then, shown_at, at_server, watching, waiting, reply_of}
 use Rattle.zk_headline_laws.specs.Headline.{Shows}
-use Rattle.zk_headline_laws.specs.Occasions.{Occasion, asked_by, met_then, met_from, entries_met, set_by, watches_from, watches_in, fired_from, fired_in}
+use Rattle.zk_headline_laws.specs.Occasions.{Occasion, met_then, met_from, entries_met, set_by, watches_from, watches_in, fired_from, fired_in}
 use Rattle.zk_headline_laws.specs.Occasions.Occasion.{Delivers, Answers}
 use Rattle.zk_runs.specs.Refusals.{ensemble_fault_of}
 use Rattle.zk_runs.specs.Runs.{after}
@@ -39,7 +39,6 @@ use Rattle.zk_table.specs.Histories.{state_after}
 use Rattle.zk_table.specs.States.{State, start_state}
 use Rattle.zk_table.specs.Steps.{step}
 use Rattle.zk_txn.specs.declared.read.ReadReply.{ReadReply}
-use Rattle.zk_watch.specs.declared.watch.Fired.{Fired}
 use Rattle.zk_watch.specs.declared.watch.Watch.{Watch}
 use Rattle.zk_watch.specs.Watching.{fired_by, left_after}
 

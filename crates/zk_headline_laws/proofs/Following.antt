@@ -3,6 +3,7 @@ use Rattle.std.proofs.Common.{◌≡◌, ℕ, Bool, List, [], ◌∷◌, ◌++�
 use Rattle.zab_quorums.specs.Quorums.{IsQuorumSystem}
 use Rattle.zab_move_laws.proofs.Telling.{all_append}
 use Rattle.zab_origin_laws.proofs.Origins.{tagged_once}
+use Rattle.zab_sync_laws.proofs.SyncRuns.{are_caught}
 use Rattle.zab_agreement_laws.proofs.AgreeRuns.{runs_agree}
 use Rattle.zk_primary.specs.Entries.{entry_zxid}
 use Rattle.zk_runs.specs.declared.event.Event.{Event}
@@ -29,4 +30,5 @@ follows passes system servers some before event next reached goes_on fit = recor
   worlds = world_then (profile_by passes) servers (some ++ event ∷ []);
   agrees = runs_agree (profile_by passes) entry_zxid system servers (in_world (some ++ event ∷ []));
   tagged = tagged_once (profile_by passes) (λ history call zxid. refl) servers (in_world (some ++ event ∷ []));
+  syncs = are_caught (profile_by passes) entry_zxid system servers (in_world (some ++ event ∷ []));
 }

@@ -9,6 +9,7 @@ use Rattle.zab_laws.specs.Prefixes.{IsPrefix, last_key}
 use Rattle.zab_agreement_laws.specs.Agreement.{Agrees}
 use Rattle.zab_agreement_laws.specs.Laws.{IsTaggedOnce}
 use Rattle.zab_agreement_laws.specs.Origins.{IsOrigin}
+use Rattle.zab_agreement_laws.specs.Syncs.{AreCaught}
 use Rattle.zab_runs.specs.Runs as zab
 use Rattle.zab_runs.specs.Worlds.{Profile, is_server}
 use Rattle.zk_machine.specs.Changes.{changes_of}
@@ -101,3 +102,4 @@ pub record IsNextInRun (profile : Profile Call) (servers : ℕ) (before : Ensemb
   pub worlds : HasWorldsOfRun profile servers (some ++ event ∷ [])
   pub agrees : Agrees profile servers (in_world (some ++ event ∷ []))
   pub tagged : IsTaggedOnce profile servers (in_world (some ++ event ∷ []))
+  pub syncs : AreCaught profile servers (in_world (some ++ event ∷ []))

@@ -1,7 +1,6 @@
 -- What fires a server's watches: the entries that it has delivered since it last started, and the reads that it answered between
 -- them. ZooKeeper Programmer's Guide, "ZooKeeper Watches".
-use Rattle.std.specs.Prelude.{ℕ, Bool, ◌==◌, List, [], ◌∷◌, ◌++◌, map, length, drop, take, Ok, if◌then◌else◌}
-use Rattle.std.specs.Int.{w64, cast_unsigned}
+use Rattle.std.specs.Prelude.{ℕ, ◌==◌, List, [], ◌∷◌, ◌++◌, map, length, drop, take, Ok, if◌then◌else◌}
 use Rattle.zab_epoch.specs.declared.history.Entry.{Entry}
 use Rattle.zab_runs.specs.Running.{is_running}
 use Rattle.zab_runs.specs.Runs.{delivered_of}

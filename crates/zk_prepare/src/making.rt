@@ -90,12 +90,7 @@ fn alone(made: Result<Sub, Refusal>) -> Result<Op, Refusal>
 }
 
 /// The operation that the parts of a multi are, under this header.
-fn multi_on(
-    nodes: Overlay<'_>,
-    header: &Txn,
-    auths: &[Id],
-    parts: &[Part],
-) -> Result<Op, NoMemory>
+fn multi_on(nodes: Overlay<'_>, header: &Txn, auths: &[Id], parts: &[Part]) -> Result<Op, NoMemory>
     ensures { IfOk result (λ op. op ≡ ops.Multi (parts_on header.now auths.now nodes.entry parts.now)) }
 {
     let parts = parts_on(nodes, header, auths, parts)?;

@@ -1,19 +1,15 @@
 -- A line of a run script is read just where it is spelled so.
-use Rattle.std.proofs.Common.{◌≡◌, ◌≢◌, ◌&&◌, ◌==◌, eqb, ℕ, ℤ, ◌^◌, ◌<◌, ◌≤◌, Bool, true, false, cond, List, [], ◌∷◌, ◌++◌, length, nat_le, Option, Some, None, Result, Ok, Err, refl, sym, ap, subst, ◌∙◌, append_assoc, arith}
-use Rattle.std.proofs.lemmas.List.{append-nil}
-use Rattle.std.proofs.lemmas.Bool.Decides.{nat_tests}
-use Rattle.std.specs.Prelude.{FitsSigned, IfErr, codes}
+use Rattle.std.proofs.Common.{◌≡◌, ℕ, ℤ, ◌^◌, ◌<◌, Bool, true, false, cond, List, [], ◌∷◌, ◌++◌, Some, None, Result, Ok, Err, refl, sym, ap, ◌∙◌, append_assoc}
+use Rattle.std.specs.Prelude.{FitsSigned, codes}
 use Rattle.std.specs.Fmt.{decimal, signed_decimal}
 use Rattle.std.specs.Int.{w32, w64}
 use Rattle.std.specs.List.{AllByRecursion}
-use Rattle.zab_runs.specs.declared.event.Event.TheVariants.{Lead, Follow, Arrive, Submit, Expire, Crash, Restart}
-use Rattle.zab_runs.specs.Worlds.{is_server}
+use Rattle.zab_runs.specs.declared.event.Event.TheVariants.{Lead, Follow, Arrive, Submit, Expire, Sync, Crash, Restart}
 use Rattle.zk_acl.specs.declared.acl.Id.{Id}
 use Rattle.zk_listing.specs.declared.fault.ListCause.{ListCause}
 use Rattle.zk_listing.specs.declared.fault.ListCause.TheVariants as causes
-use Rattle.zk_listing.specs.Reading.{front_of, back_of, spaced, both, mapped, Takes}
+use Rattle.zk_listing.specs.Reading.{front_of, back_of, spaced, both, Takes}
 use Rattle.zk_prepare.specs.declared.call.Call.{Call}
-use Rattle.zk_prepare.specs.declared.call.Request.{Request}
 use Rattle.zk_spelling.specs.Spelling.{id_digits}
 use Rattle.zk_request_lines.specs.declared.lookups.Lookup.{Lookup}
 use Rattle.zk_request_lines.specs.declared.lookups.Lookup.TheVariants as lookups
@@ -30,8 +26,8 @@ use Rattle.zk_run_script.specs.declared.command.Command.TheVariants as commands
 use Rattle.zk_run_script.specs.declared.command.Report.{Report}
 use Rattle.zk_run_script.specs.declared.command.Report.TheVariants as reports
 use Rattle.zk_run_script.specs.Commands.{IsNumber, SpellsNumber, SpellsSubmit, SpellsExpire, SpellsRead, report_word, SpellsCommand, IsAmong, Says, SaysNothing, ReadsCommand}
-use Rattle.zk_run_script.specs.Reading.{two_at, SubmitFields, submit_at, submitted, ExpireFields, expire_at, expired, ReadFields, read_at, read_by, reported_at, command_words, command_at, is_among, is_left_alone, among_result}
-use Rattle.zk_run_script.proofs.Wholes.{whole_last, whole_next, next_is, last_is, begins, behind_whole, mapped_whole, IsTested, tested_is, tested_only, tested_none, untold, and_both}
+use Rattle.zk_run_script.specs.Reading.{two_at, SubmitFields, submit_at, submitted, ExpireFields, expire_at, expired, ReadFields, read_at, read_by, command_words, command_at, is_among, is_left_alone, among_result}
+use Rattle.zk_run_script.proofs.Wholes.{whole_last, whole_next, next_is, last_is, begins, behind_whole, mapped_whole, IsTested, tested_is, tested_only, tested_none, untold}
 
 -- ---- fields
 
@@ -274,18 +270,24 @@ commands_made = (
             (
               behind_whole ExpireText expire_at whole_expire expired (codes "expire") SpellsCommand expire_made,
               (
-                behind_whole ReadText read_at whole_read read_by (codes "read") SpellsCommand read_made,
+                behind_whole TwoText two_at whole_two (λ x. commands.Happens (events.World (Sync x.0 x.1))) (codes "sync") SpellsCommand (λ x text t. (t.spells.0, t.follows.spells.0, ap (λ (b : List ℕ). codes "sync" ++ b) (two_is x text t) ∙ sym (append_assoc (codes "sync ") (decimal x.0) (32 ∷ decimal x.1)))),
                 (
-                  behind_whole (Next Number) (spaced number_at) whole_number (commands.Reports reports.Delivered) (codes "delivered") SpellsCommand (λ x text s. number_made (codes "delivered") x text s),
+                  behind_whole ReadText read_at whole_read read_by (codes "read") SpellsCommand read_made,
                   (
-                    behind_whole (Next Number) (spaced number_at) whole_number (commands.Reports reports.History) (codes "history") SpellsCommand (λ x text s. number_made (codes "history") x text s),
+                    behind_whole (Next Number) (spaced number_at) whole_number (commands.Reports reports.Delivered) (codes "delivered") SpellsCommand (λ x text s. number_made (codes "delivered") x text s),
                     (
-                      behind_whole (Next Number) (spaced number_at) whole_number (commands.Reports reports.Answers) (codes "answers") SpellsCommand (λ x text s. number_made (codes "answers") x text s),
+                      behind_whole (Next Number) (spaced number_at) whole_number (commands.Reports reports.History) (codes "history") SpellsCommand (λ x text s. number_made (codes "history") x text s),
                       (
-                        behind_whole (Next Number) (spaced number_at) whole_number (commands.Reports reports.Events) (codes "events") SpellsCommand (λ x text s. number_made (codes "events") x text s),
+                        behind_whole (Next Number) (spaced number_at) whole_number (commands.Reports reports.Answers) (codes "answers") SpellsCommand (λ x text s. number_made (codes "answers") x text s),
                         (
-                          behind_whole (Next Number) (spaced number_at) whole_number (commands.Reports reports.Tree) (codes "tree") SpellsCommand (λ x text s. number_made (codes "tree") x text s),
-                          tt,
+                          behind_whole (Next Number) (spaced number_at) whole_number (commands.Reports reports.Syncs) (codes "syncs") SpellsCommand (λ x text s. number_made (codes "syncs") x text s),
+                          (
+                            behind_whole (Next Number) (spaced number_at) whole_number (commands.Reports reports.Events) (codes "events") SpellsCommand (λ x text s. number_made (codes "events") x text s),
+                            (
+                              behind_whole (Next Number) (spaced number_at) whole_number (commands.Reports reports.Tree) (codes "tree") SpellsCommand (λ x text s. number_made (codes "tree") x text s),
+                              tt,
+                            ),
+                          ),
                         ),
                       ),
                     ),
@@ -305,6 +307,7 @@ unfolding command_at front_of back_of
 report_again reports.Delivered server text s = ap command_at s.1 ∙ mapped_whole (spaced number_at) (commands.Reports reports.Delivered) server (32 ∷ decimal server) (number_read server s.0)
 report_again reports.History server text s = ap command_at s.1 ∙ mapped_whole (spaced number_at) (commands.Reports reports.History) server (32 ∷ decimal server) (number_read server s.0)
 report_again reports.Answers server text s = ap command_at s.1 ∙ mapped_whole (spaced number_at) (commands.Reports reports.Answers) server (32 ∷ decimal server) (number_read server s.0)
+report_again reports.Syncs server text s = ap command_at s.1 ∙ mapped_whole (spaced number_at) (commands.Reports reports.Syncs) server (32 ∷ decimal server) (number_read server s.0)
 report_again reports.Events server text s = ap command_at s.1 ∙ mapped_whole (spaced number_at) (commands.Reports reports.Events) server (32 ∷ decimal server) (number_read server s.0)
 report_again reports.Tree server text s = ap command_at s.1 ∙ mapped_whole (spaced number_at) (commands.Reports reports.Tree) server (32 ∷ decimal server) (number_read server s.0)
 
@@ -321,6 +324,7 @@ command_again (commands.Happens (events.World (Crash server))) text s = ap comma
 command_again (commands.Happens (events.World (Restart server))) text s = ap command_at s.1 ∙ mapped_whole (spaced number_at) (λ n. commands.Happens (events.World (Restart n))) server (32 ∷ decimal server) (number_read server s.0)
 command_again (commands.Happens (events.World (Submit server call))) text s = ap command_at (submit_is server call text s) ∙ mapped_whole submit_at submitted (server, (call.tag, (call.session, (call.cxid, (call.now, (call.auths, call.request)))))) (submit_body server call.tag call.session call.cxid call.now s.ids s.asked) (submit_read server call text s)
 command_again (commands.Happens (events.World (Expire server tag session time))) text s = ap command_at (expire_is server tag session time text s) ∙ mapped_whole expire_at expired (server, (tag, (session, time))) (expire_body server tag session time) (expire_read server tag session time text s)
+command_again (commands.Happens (events.World (Sync server tag))) text s = ap command_at (s.2 ∙ append_assoc (codes "sync ") (decimal server) (32 ∷ decimal tag)) ∙ mapped_whole two_at (λ x. commands.Happens (events.World (Sync x.0 x.1))) (server, tag) (32 ∷ (decimal server ++ (32 ∷ decimal tag))) (two_read (server, tag) s.0 s.1)
 command_again (commands.Happens (events.Read question)) text s = asked_again question.server question.session question.seen question.auths (lookups.Asks question.call question.watch) text s
 command_again commands.ReadsNoPath text s = asked_again s.0 s.1 s.2 s.3 lookups.BadPath text s.4
 command_again (commands.Reports report server) text s = report_again report server text s

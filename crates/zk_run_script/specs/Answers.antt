@@ -3,6 +3,7 @@ use Rattle.std.specs.Prelude.{ℕ, ℤ, zero, suc, ◌+◌, List, [], ◌∷◌,
 use Rattle.std.specs.Fmt.{decimal}
 use Rattle.std.specs.FinMap.{entries}
 use Rattle.std.specs.List.{flat_map}
+use Rattle.zab_broadcast.specs.declared.syncs.Caught.{Caught}
 use Rattle.zab_runs.specs.declared.event.Moved.{Moved}
 use Rattle.zk_machine.specs.declared.change.ChangeKind.{ChangeKind}
 use Rattle.zk_machine.specs.declared.change.ChangeKind.TheVariants as kinds
@@ -63,6 +64,13 @@ answer_line answered = line (decimal answered.tag ++ 32 ∷ result_line answered
 
 abbrev pub answers_report : List Answered → List ℕ
 answers_report answers = lines_line (length answers) ++ flat_map answer_line answers
+
+-- the tag of a sync that was answered, and its length
+abbrev pub sync_line : Caught → List ℕ
+sync_line it = line (decimal it.tag ++ 32 ∷ decimal it.length)
+
+abbrev pub syncs_report : List Caught → List ℕ
+syncs_report syncs = lines_line (length syncs) ++ flat_map sync_line syncs
 
 -- ZooKeeper Programmer's Guide, "Semantics of Watches"; the numbers are those of its kinds of events
 abbrev pub kind_text : ChangeKind → List ℕ

@@ -1,12 +1,12 @@
 -- What an ensemble answers a command of a run script. This project's own.
 use Rattle.std.specs.Prelude.{◌≡◌, ◌≢◌, ◌++◌, ℕ, List, length, replicate, Bool, true, false, if◌then◌else◌, Result, Ok, Err, OnOk}
 use Rattle.zab_epoch.specs.Entries.{txns_of}
-use Rattle.zab_runs.specs.Runs.{delivered_of, history_of}
+use Rattle.zab_runs.specs.Runs.{delivered_of, history_of, syncs_of}
 use Rattle.zab_runs.specs.Worlds.{new_world}
 use Rattle.zk_ensemble.specs.Views.{EnsembleView, state_of, profile_in, IsRefused, tree_in, answers_in, events_in}
 use Rattle.zk_path.specs.declared.memory.NoMemory.{NoMemory}
 use Rattle.zk_request_lines.specs.ReplyLines.{refusal_text}
-use Rattle.zk_run_script.specs.Answers.{told_text, fault_text, listing_report, answers_report, events_report, counted_tree}
+use Rattle.zk_run_script.specs.Answers.{told_text, fault_text, listing_report, answers_report, syncs_report, events_report, counted_tree}
 use Rattle.zk_run_script.specs.declared.command.Command.{Command}
 use Rattle.zk_run_script.specs.declared.command.Command.TheVariants as commands
 use Rattle.zk_run_script.specs.declared.command.Report.{Report}
@@ -39,6 +39,7 @@ abbrev pub report_text : EnsembleView → Report → ℕ → List ℕ
 report_text it reports.Delivered server = listing_report (txns_of (delivered_of it.below.world server))
 report_text it reports.History server = listing_report (txns_of (history_of it.below.world server))
 report_text it reports.Answers server = answers_report (answers_in (shown_at it.shown server))
+report_text it reports.Syncs server = syncs_report (syncs_of it.below.world server)
 report_text it reports.Events server = events_report (events_in (shown_at it.shown server))
 report_text it reports.Tree server = counted_tree (tree_in (shown_at it.shown server))
 

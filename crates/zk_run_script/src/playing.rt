@@ -10,7 +10,7 @@ ghost use Rattle.zk_reports.specs.Reports.{line};
 ghost use Rattle.zk_txn.specs.Codes.{bad_arguments};
 
 use crate::command::{Command, Report};
-use crate::reports::{push_answers, push_counted_tree, push_events, push_listing};
+use crate::reports::{push_answers, push_counted_tree, push_events, push_listing, push_syncs};
 use crate::told::push_told;
 use zk_ensemble::Ensemble;
 use zk_path::NoMemory;
@@ -74,6 +74,7 @@ fn push_report(
         Report::Delivered => push_listing(answer, ensemble.delivered(server).txns()),
         Report::History => push_history(answer, ensemble, server),
         Report::Answers => push_answers(answer, ensemble.answers(server)),
+        Report::Syncs => push_syncs(answer, ensemble.syncs(server)),
         Report::Events => push_events(answer, ensemble.events_of(server)),
         Report::Tree => {
             let machine = ensemble.tree(server)?;

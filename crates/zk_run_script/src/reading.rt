@@ -6,7 +6,7 @@ ghost use Rattle.zk_run_script.specs.Commands.{ReadsCommand};
 ghost use Rattle.zk_run_script.specs.Reading.{two_at, submit_at, expire_at, read_at, submitted, expired, read_by, reported_at, command_at, is_among, among_result};
 ghost use Rattle.zk_run_script.specs.declared.command.Command.TheVariants as commands;
 ghost use Rattle.zk_runs.specs.declared.event.Event.TheVariants as events;
-ghost use Rattle.zab_runs.specs.declared.event.Event.TheVariants.{Follow as WorldFollow};
+ghost use Rattle.zab_runs.specs.declared.event.Event.TheVariants.{Follow as WorldFollow, Sync as WorldSync};
 
 use crate::command::{Command, Report};
 use std::alloc::Global;
@@ -69,10 +69,12 @@ fn command(alloc: Global, input: &mut &str) -> Result<Command, ListCause>
         })),
         "submit" => submit(alloc, input),
         "expire" => expire(input),
+        "sync" => sync(input),
         "read" => read(alloc, input),
         "delivered" => report(Report::Delivered, input),
         "history" => report(Report::History, input),
         "answers" => report(Report::Answers, input),
+        "syncs" => report(Report::Syncs, input),
         "events" => report(Report::Events, input),
         "tree" => report(Report::Tree, input),
         _ => Err(ListCause::Word),
@@ -130,6 +132,14 @@ fn expire(input: &mut &str) -> Result<Command, ListCause>
         session,
         now,
     }))
+}
+
+fn sync(input: &mut &str) -> Result<Command, ListCause>
+    ensures { Takes result input.new.now (mapped (λ x. commands.Happens (events.World (WorldSync x.0 x.1))) two_at input.old.now) }
+{
+    let server = place(input)?;
+    let tag = spaced_number(input)?;
+    Ok(happens(WorldEvent::Sync { server, tag }))
 }
 
 #[tactic(auto, unfolding(crate::specs::Reading::read_at))]

@@ -2,9 +2,10 @@
 ghost use Rattle.std.specs.Prelude.{◌≡◌, ◌++◌, false, IfOk, OnErr, OnOk};
 ghost use Rattle.std.specs.List.{flat_map};
 ghost use Rattle.std.specs.String.{string_bytes};
-ghost use Rattle.zk_run_script.specs.Answers.{lines_line, listing_report, answer_line, answers_report, kind_text, event_line, events_report, tree_lines, counted_tree};
+ghost use Rattle.zk_run_script.specs.Answers.{lines_line, listing_report, answer_line, answers_report, sync_line, syncs_report, kind_text, event_line, events_report, tree_lines, counted_tree};
 ghost use Rattle.zk_spelling.specs.Listings.{line_of};
 
+use zk_ensemble::Caught;
 use zk_listing::{push_digits, push_line, push_quoted, push_result_line};
 use zk_machine::{ChangeKind, Machine};
 use zk_path::NoMemory;
@@ -75,6 +76,37 @@ fn push_answer(page: &mut String, answered: &Answered) -> Result<(), NoMemory>
     write!(page, "{} ", answered.tag)?;
     push_result_line(page, &answered.result)?;
     page.push('\n')?;
+    Ok(())
+}
+
+/// Appends the report of the syncs that a server has answered: the tag of each, and its length.
+pub fn push_syncs(page: &mut String, syncs: &[Caught]) -> Result<(), NoMemory>
+    ensures appended { OnOk result
+        (string_bytes page.new ≡ string_bytes page.old ++ syncs_report syncs.now) }
+    ensures unchanged { OnErr result (string_bytes page.new ≡ string_bytes page.old) }
+{
+    let mut report = String::new(*page.allocator());
+    push_lines(&mut report, syncs.len())?;
+    push_sync_lines(&mut report, syncs)?;
+    page.push_str(report.as_str())?;
+    Ok(())
+}
+
+fn push_sync_lines(page: &mut String, syncs: &[Caught]) -> Result<(), NoMemory>
+    ensures { OnOk result
+        (string_bytes page.new ≡ string_bytes page.old ++ flat_map sync_line syncs.now) }
+{
+    for caught in syncs {
+        push_sync(page, *caught)?;
+    }
+    Ok(())
+}
+
+fn push_sync(page: &mut String, caught: Caught) -> Result<(), NoMemory>
+    ensures { OnOk result
+        (string_bytes page.new ≡ string_bytes page.old ++ sync_line caught) }
+{
+    write!(page, "{} {}\n", caught.tag, caught.length)?;
     Ok(())
 }
 

@@ -8,7 +8,7 @@ use zk_listing::ListCause;
 use zk_run_script::{Command, ScriptFault, read_command, run_command, run_script};
 
 /// Lines that each say a command, and what they are answered in turn by two new servers.
-static COMMANDS: [(&str, &str); 25] = [
+static COMMANDS: [(&str, &str); 30] = [
     ("lead 18446744073709551615", "E2\n"),
     ("lead 0", "E2\n"),
     ("arrive 0", "E3\n"),
@@ -33,6 +33,11 @@ static COMMANDS: [(&str, &str); 25] = [
     ("history 2", "lines 0\n"),
     ("answers 2", "lines 0\n"),
     ("events 1", "lines 0\n"),
+    ("sync 2 18446744073709551615", "ok 8\n"),
+    ("sync 2 18446744073709551615", "E7\n"),
+    ("syncs 2", "lines 0\n"),
+    ("sync 1 3", "ok\n"),
+    ("syncs 1", "lines 1\n3 0\n"),
     (
         "read 2 0000000000000001 0000000000000000 0 get -w \"/\"",
         "err -112\n",
@@ -78,8 +83,8 @@ static OTHERS: [&str; 30] = [
     "events",
     "tree 3",
     "history 3",
-    "sync 1 1",
-    "syncs 1",
+    "sync 1",
+    "syncs 3",
 ];
 
 /// Whether a command is answered this.

@@ -32,6 +32,10 @@ fn copy_of(event: &zab_runs::Event<Call>) -> Result<zab_runs::Event<Call>, NoMem
             session: *session,
             now: *now,
         }),
+        zab_runs::Event::Sync { server, tag } => Ok(zab_runs::Event::Sync {
+            server: *server,
+            tag: *tag,
+        }),
         zab_runs::Event::Crash { server } => Ok(zab_runs::Event::Crash { server: *server }),
         zab_runs::Event::Restart { server } => Ok(zab_runs::Event::Restart { server: *server }),
     }

@@ -46,7 +46,7 @@ what helps."#
 pub(crate) fn run_lines() -> &'static str {
     r#"Lines of a run script, one command each:
   servers N           the first line, and no other: so many servers start, 2 to 15
-  servers N weights W1 .. WN
+  servers N weights WEIGHT ..
                       the same, and each has its weight; else each weighs 1
   lead P              server P is told to lead
   follow P Q          server P is told to follow Q
@@ -57,11 +57,13 @@ pub(crate) fn run_lines() -> &'static str {
                       a client submits a request at P
   expire P TAG SESSION NOW
                       the end of a session is submitted at P
+  sync P TAG          a client asks at P to be brought up to the leader
   read P SESSION SEEN AUTHS READ
                       a client reads at P
   delivered P         the entries that P has delivered
   history P           the entries of its history, delivered or not
   answers P           what each delivered entry was answered
+  syncs P             the syncs that P has answered, with the length of each
   events P            what the watches at P have told
   tree P              the tree of P
 

@@ -108,12 +108,14 @@ fn with_order<'a>(
 
 /// The grammar of the program, with no order.
 fn program<'a>(alloc: Global) -> Result<Command<'a>, AllocError> {
-    Ok(Command::new(alloc, "zk")
-        .bin_name("zk")?
-        .version("0.1.0")
-        .about("Looks at transaction logs of ZooKeeper 3.4, and runs its servers")
-        .after_help(faults())
-        .subcommand_required(true))
+    Ok(
+        Command::new(alloc, "zk")
+            .bin_name("zk")?
+            .version("0.1.0")
+            .about("Looks at transaction logs of ZooKeeper 3.4, and runs its servers")
+            .after_help(faults())
+            .subcommand_required(true),
+    )
 }
 
 /// The grammar of `zk list`.
