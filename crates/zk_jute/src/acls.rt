@@ -36,7 +36,7 @@ fn entries(alloc: Global, count: u32, input: &mut &[u8]) -> Result<Acls, JuteFau
 /// A vector of `ACL`. Most vectors of a log are alike: where this one is `earlier`, its list shares the entries, and no
 /// memory is taken; any other is the earlier one from here on.
 #[tactic(auto, unfolding(crate::specs::Reading::vector_at))]
-pub(crate) fn acl_vector(
+pub fn acl_vector(
     alloc: Global,
     earlier: &mut Option<Acls>,
     input: &mut &[u8],

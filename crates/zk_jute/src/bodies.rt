@@ -13,15 +13,16 @@ use zk_table::{Content, Op, Sub};
 
 /// `CreateTxnV0`, and the front of `CreateTxn`.
 #[derive(Debug, Drop)]
-pub(crate) struct CreateTxnV0 {
-    path: Path,
-    content: Option<Content>,
-    acl: Acls,
-    ephemeral: bool,
+pub struct CreateTxnV0 {
+    pub path: Path,
+    pub content: Option<Content>,
+    pub acl: Acls,
+    pub ephemeral: bool,
 }
 
 impl CreateTxnV0 {
-    pub(crate) fn into_op(self) -> Op
+    /// The create of 3.3 that stands alone.
+    pub fn into_op(self) -> Op
         ensures { result ≡ old_create_op self }
     {
         let CreateTxnV0 {
@@ -41,13 +42,15 @@ impl CreateTxnV0 {
 
 /// `CreateTxn`.
 #[derive(Debug, Drop)]
-pub(crate) struct CreateTxn {
-    front: CreateTxnV0,
-    count: i32,
+pub struct CreateTxn {
+    pub front: CreateTxnV0,
+    /// How many children the parent has been given after this one, or -1 where the table is to count.
+    pub count: i32,
 }
 
 impl CreateTxn {
-    pub(crate) fn into_op(self) -> Op
+    /// The create that stands alone.
+    pub fn into_op(self) -> Op
         ensures { result ≡ create_op self }
     {
         let CreateTxn { front, count } = self;
@@ -66,7 +69,8 @@ impl CreateTxn {
         }
     }
 
-    pub(crate) fn into_part(self) -> Sub
+    /// The part of a multi.
+    pub fn into_part(self) -> Sub
         ensures { result ≡ create_part self }
     {
         let CreateTxn { front, count } = self;
@@ -88,14 +92,15 @@ impl CreateTxn {
 
 /// `SetDataTxn`.
 #[derive(Debug, Drop)]
-pub(crate) struct SetDataTxn {
-    path: Path,
-    content: Option<Content>,
-    version: i32,
+pub struct SetDataTxn {
+    pub path: Path,
+    pub content: Option<Content>,
+    pub version: i32,
 }
 
 impl SetDataTxn {
-    pub(crate) fn into_op(self) -> Op
+    /// The operation that stands alone.
+    pub fn into_op(self) -> Op
         ensures { result ≡ set_data_op self }
     {
         let SetDataTxn {
@@ -110,7 +115,8 @@ impl SetDataTxn {
         }
     }
 
-    pub(crate) fn into_part(self) -> Sub
+    /// The part of a multi.
+    pub fn into_part(self) -> Sub
         ensures { result ≡ set_data_part self }
     {
         let SetDataTxn {
@@ -146,8 +152,9 @@ fn create_front(
     })
 }
 
+/// A create as a part of a multi, where its count is never left out.
 #[tactic(auto, unfolding(crate::specs::Reading::create_at))]
-pub(crate) fn create(
+pub fn create(
     alloc: Global,
     earlier: &mut Option<Acls>,
     input: &mut &[u8],
@@ -161,7 +168,7 @@ pub(crate) fn create(
 
 /// A create that stands alone: one of 3.3 ends behind its boolean.
 #[tactic(auto, unfolding(crate::specs::Reading::created_at, crate::specs::Reading::ended_or_counted))]
-pub(crate) fn created(
+pub fn created(
     alloc: Global,
     earlier: &mut Option<Acls>,
     input: &mut &[u8],
@@ -176,8 +183,9 @@ pub(crate) fn created(
     Ok(CreateTxn { front, count }.into_op())
 }
 
+/// `SetDataTxn`, read.
 #[tactic(auto, unfolding(crate::specs::Reading::set_data_at))]
-pub(crate) fn set_data(alloc: Global, input: &mut &[u8]) -> Result<SetDataTxn, JuteFault>
+pub fn set_data(alloc: Global, input: &mut &[u8]) -> Result<SetDataTxn, JuteFault>
     ensures { Takes result input.new.now (set_data_at input.old.now) }
 {
     let path = path(alloc, input)?;

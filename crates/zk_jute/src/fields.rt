@@ -10,13 +10,15 @@ use zk_acl::Text;
 use zk_path::Path;
 use zk_table::Content;
 
-pub(crate) fn int(input: &mut &[u8]) -> Result<i32, JuteFault>
+/// Four bytes, in two's complement.
+pub fn int(input: &mut &[u8]) -> Result<i32, JuteFault>
     ensures { Takes result input.new.now (number_at w32 input.old.now) }
 {
     input.try_get_i32().map_err(|_| JuteFault::Short)
 }
 
-pub(crate) fn long(input: &mut &[u8]) -> Result<i64, JuteFault>
+/// Eight bytes, in two's complement.
+pub fn long(input: &mut &[u8]) -> Result<i64, JuteFault>
     ensures { Takes result input.new.now (number_at w64 input.old.now) }
 {
     input.try_get_i64().map_err(|_| JuteFault::Short)
@@ -24,7 +26,7 @@ pub(crate) fn long(input: &mut &[u8]) -> Result<i64, JuteFault>
 
 /// A length, or the number of elements of a vector.
 #[tactic(auto, unfolding(crate::specs::Reading::count_at))]
-pub(crate) fn count(input: &mut &[u8]) -> Result<u32, JuteFault>
+pub fn count(input: &mut &[u8]) -> Result<u32, JuteFault>
     ensures { Takes result input.new.now (count_at input.old.now) }
 {
     let count = int(input)?;
@@ -45,7 +47,7 @@ fn taken<'a>(input: &mut &'a [u8], len: usize) -> Result<&'a [u8], JuteFault>
 
 /// A length, and that many bytes.
 #[tactic(auto, unfolding(crate::specs::Reading::counted_at))]
-pub(crate) fn counted<'a>(input: &mut &'a [u8]) -> Result<&'a [u8], JuteFault>
+pub fn counted<'a>(input: &mut &'a [u8]) -> Result<&'a [u8], JuteFault>
     ensures { TakesBy (λ x. x.now) result input.new.now (counted_at input.old.now) }
 {
     let len = count(input)?;
@@ -54,7 +56,7 @@ pub(crate) fn counted<'a>(input: &mut &'a [u8]) -> Result<&'a [u8], JuteFault>
 
 /// A `ustring`, lent.
 #[tactic(auto, using(crate::proofs::Texts::is_text, crate::proofs::Texts::is_no_text), unfolding(crate::specs::Reading::text_at))]
-pub(crate) fn utf8<'a>(input: &mut &'a [u8]) -> Result<&'a str, JuteFault>
+pub fn utf8<'a>(input: &mut &'a [u8]) -> Result<&'a str, JuteFault>
     ensures { TakesBy (λ x. x.now) result input.new.now (text_at input.old.now) }
 {
     let bytes = counted(input)?;
@@ -62,7 +64,7 @@ pub(crate) fn utf8<'a>(input: &mut &'a [u8]) -> Result<&'a str, JuteFault>
 }
 
 /// A `ustring`.
-pub(crate) fn text(alloc: Global, input: &mut &[u8]) -> Result<Text, JuteFault>
+pub fn text(alloc: Global, input: &mut &[u8]) -> Result<Text, JuteFault>
     ensures { Takes result input.new.now (text_at input.old.now) }
 {
     let text = utf8(input)?;
@@ -71,7 +73,7 @@ pub(crate) fn text(alloc: Global, input: &mut &[u8]) -> Result<Text, JuteFault>
 
 /// A `ustring` that is the path of a node.
 #[tactic(auto, unfolding(crate::specs::Reading::path_at))]
-pub(crate) fn path(alloc: Global, input: &mut &[u8]) -> Result<Path, JuteFault>
+pub fn path(alloc: Global, input: &mut &[u8]) -> Result<Path, JuteFault>
     ensures { Takes result input.new.now (path_at input.old.now) }
 {
     let text = utf8(input)?;
@@ -80,7 +82,7 @@ pub(crate) fn path(alloc: Global, input: &mut &[u8]) -> Result<Path, JuteFault>
 
 /// A `buffer`, whose length -1 stands for null.
 #[tactic(auto, unfolding(crate::specs::Reading::content_at))]
-pub(crate) fn content(alloc: Global, input: &mut &[u8]) -> Result<Option<Content>, JuteFault>
+pub fn content(alloc: Global, input: &mut &[u8]) -> Result<Option<Content>, JuteFault>
     ensures { Takes result input.new.now (content_at input.old.now) }
 {
     let len = int(input)?;
@@ -92,8 +94,9 @@ pub(crate) fn content(alloc: Global, input: &mut &[u8]) -> Result<Option<Content
     Ok(Some(Content::read(alloc, bytes)?))
 }
 
+/// A byte that is 0 or 1.
 #[tactic(auto, unfolding(crate::specs::Reading::boolean_at))]
-pub(crate) fn boolean(input: &mut &[u8]) -> Result<bool, JuteFault>
+pub fn boolean(input: &mut &[u8]) -> Result<bool, JuteFault>
     ensures { Takes result input.new.now (boolean_at input.old.now) }
 {
     let byte = input.try_get_u8().map_err(|_| JuteFault::Short)?;

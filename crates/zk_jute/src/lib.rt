@@ -4,20 +4,20 @@
 //! one.
 #![tactic(auto)]
 
-mod acls;
-mod bodies;
+pub mod acls;
+pub mod bodies;
 mod fault;
-mod fields;
-mod kinds;
+pub mod fields;
+pub mod kinds;
 mod laws;
-mod multis;
-mod operations;
+pub mod multis;
+pub mod operations;
 mod reading;
 mod sizes;
 mod writing;
 
 pub use fault::JuteFault;
 pub use laws::{only_old_creates_begin_others, short_transactions_have_records};
-pub use reading::{read_txn, read_txn_sharing};
+pub use reading::{Header, read_txn, read_txn_sharing, txn_header};
 pub use sizes::size;
 pub use writing::write_txn;

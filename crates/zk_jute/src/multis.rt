@@ -37,7 +37,7 @@ fn part_kind(input: &mut &[u8]) -> Result<PartKind, JuteFault>
 
 /// `CheckVersionTxn`.
 #[tactic(auto, unfolding(crate::specs::Reading::check_at))]
-fn check(alloc: Global, input: &mut &[u8]) -> Result<Sub, JuteFault>
+pub fn check(alloc: Global, input: &mut &[u8]) -> Result<Sub, JuteFault>
     ensures { Takes result input.new.now (check_at input.old.now) }
 {
     let path = path(alloc, input)?;

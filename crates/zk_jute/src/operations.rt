@@ -25,7 +25,7 @@ fn set_acl(alloc: Global, earlier: &mut Option<Acls>, input: &mut &[u8]) -> Resu
 
 /// The body of a type of operation.
 #[tactic(auto, unfolding(crate::specs::Reading::op_at))]
-pub(crate) fn op(
+pub fn op(
     alloc: Global,
     earlier: &mut Option<Acls>,
     kind: i32,

@@ -1,8 +1,12 @@
-ghost use Rattle.std.specs.Prelude.{◌≡◌, ◌<◌};
+ghost use Rattle.std.specs.Prelude.{◌≡◌, ◌<◌, IsTrue};
+ghost use Rattle.std.specs.FinMap as finite;
+ghost use Rattle.zk_table.specs.States.{path_cmp};
 ghost use Rattle.zk_machine.specs.Undoing.{KeepsRoot};
 
 use crate::touched::Touched;
 use std::marker::Model;
+use zk_path::Path;
+use zk_table::Node;
 
 /// What a transaction had touched: the data by which the machine that applied it takes it back, as long as it is the
 /// last one. Dropped, its transaction can't be taken back any more.
@@ -47,6 +51,15 @@ impl Undo {
             session,
             touched,
         }
+    }
+
+    /// What a step back puts in place, in the order of the paths: each path that the transaction touched, with the node
+    /// that stood there before, or none. Lent, so that what follows a tree pays for what changed alone.
+    pub fn notes(&self) -> &[(Path, Option<Node>)]
+        ensures notes { result.now ≡ finite.entries self.now.touched }
+        ensures sorted { IsTrue (finite.is_sorted path_cmp result.now) }
+    {
+        self.touched.as_slice()
     }
 
     /// Which step it takes back, counted from 1.
