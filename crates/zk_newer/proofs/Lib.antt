@@ -1,0 +1,9 @@
+pub mod Closing
+pub mod Containers
+pub mod Forms
+pub mod KeptBodies
+pub mod MultiParts
+pub mod OldCreates
+pub mod Standing
+pub mod Turns
+pub mod Whole
