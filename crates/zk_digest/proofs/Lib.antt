@@ -1,0 +1,4 @@
+pub mod Crcs
+pub mod Totals
+pub mod Steps
+pub mod Start
