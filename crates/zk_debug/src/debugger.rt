@@ -15,7 +15,7 @@ use std::marker::Model;
 use zk_log::Loaded;
 use zk_machine::Machine;
 use zk_path::{NoMemory, Path};
-use zk_table::{Node, TxnResult};
+use zk_table::{Node, Txn, TxnResult};
 
 /// How many breakpoints can be set.
 const MOST_BREAKPOINTS: u32 = 65_535;
@@ -59,6 +59,14 @@ impl Debugger {
         ensures { result ≡ self.now.place }
     {
         self.walk.place()
+    }
+
+    /// The log's transactions.
+    pub fn txns(&self) -> &[Txn]
+        ensures txns { result.now ≡ self.now.txns }
+        ensures within { self.now.place ≤ length self.now.txns }
+    {
+        self.walk.txns()
     }
 
     /// The zxid of the transaction that leads to the place, and 0 at the start.

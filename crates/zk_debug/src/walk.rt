@@ -178,6 +178,14 @@ impl Walk {
         self.failed
     }
 
+    /// The log's transactions.
+    pub(crate) fn txns(&self) -> &[Txn]
+        ensures txns { result.now ≡ self.now.txns }
+        ensures within { self.now.place ≤ length self.now.txns }
+    {
+        self.txns.as_slice()
+    }
+
     /// How many transactions the log has.
     pub(crate) fn end(&self) -> usize
         ensures end { result ≡ length self.now.txns }

@@ -35,7 +35,7 @@ fn long(field: &str) -> Result<i64, CommandFault>
 
 /// A decimal from 0 to 4294967295.
 #[tactic(auto, unfolding(crate::specs::Reading::number_from))]
-pub(crate) fn number(field: &str) -> Result<u32, CommandFault>
+pub fn read_number(field: &str) -> Result<u32, CommandFault>
     ensures { Makes result (number_from field.now) }
 {
     let long = long(field)?;

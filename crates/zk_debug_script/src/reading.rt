@@ -5,7 +5,7 @@ ghost use Rattle.zk_debug_script.specs.Reading.{Makes, command_from, alone_from,
 
 use crate::command::Command;
 use crate::fault::CommandFault;
-use crate::fields::{id, number, path};
+use crate::fields::{id, path, read_number};
 use std::alloc::Global;
 use zk_debug::{Breakpoint, Kind};
 
@@ -52,7 +52,7 @@ fn command_with(alloc: Global, word: &str, field: &str) -> Result<Command, Comma
         "goto" => Ok(Command::Goto(id(field)?)),
         "node" => Ok(Command::Node(path(alloc, field)?)),
         "break" => Ok(Command::Break(breakpoint(alloc, field)?)),
-        "clear" => Ok(Command::Clear(number(field)?)),
+        "clear" => Ok(Command::Clear(read_number(field)?)),
         _ => Err(CommandFault::Malformed),
     }
 }

@@ -21,5 +21,5 @@ pub use assembling::asm;
 pub use debugging::debug;
 pub use fault_lines::{asm_line, log_line};
 pub use reporting::{Report, tell_log};
-pub use telling::{TURNS, tell};
+pub use telling::{TURNS, tell, tell_log_fault};
 pub use text::{TextFault, read_text};

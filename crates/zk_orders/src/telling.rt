@@ -14,7 +14,7 @@ use zk_path::NoMemory;
 pub const TURNS: u32 = 1_048_576;
 
 /// Tells why a log was refused. Answers the exit status.
-pub(crate) fn tell_log_fault<E: Write>(
+pub fn tell_log_fault<E: Write>(
     alloc: Global,
     fault: LogFault,
     faults: &mut Sink<E>,

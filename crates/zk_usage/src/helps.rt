@@ -1,21 +1,133 @@
-//! What stands behind the usage of an order's help.
+//! The orders of the program, as their helps show them.
 
-/// Where a line on the standard error is explained.
-pub(crate) fn faults() -> &'static str {
-    "docs/FAULTS.md tells what each line on the standard error means, and what helps."
+/// An order, as its help shows it.
+#[derive(Clone, Copy)]
+pub(crate) struct OrderHelp {
+    pub(crate) name: &'static str,
+    /// The program's name and the order's.
+    pub(crate) title: &'static str,
+    pub(crate) about: &'static str,
+    /// What stands behind the usage.
+    pub(crate) notes: &'static str,
+    pub(crate) values: &'static [ValueHelp],
+    pub(crate) flags: &'static [FlagHelp],
 }
 
+/// A value of an order, in its place.
+#[derive(Clone, Copy)]
+pub(crate) struct ValueHelp {
+    pub(crate) name: &'static str,
+    pub(crate) help: &'static str,
+    /// Whether it may not be left out.
+    pub(crate) required: bool,
+}
+
+/// An option of an order that takes no value.
+#[derive(Clone, Copy)]
+pub(crate) struct FlagHelp {
+    pub(crate) name: &'static str,
+    pub(crate) help: &'static str,
+    /// The value that it does not go with.
+    pub(crate) without: &'static str,
+}
+
+/// The orders, as the program's help lists them.
+pub(crate) const ORDERS: [OrderHelp; 5] = [SHOW, LIST, ASM, DEBUG, RUN];
+
+pub(crate) const SHOW: OrderHelp = OrderHelp {
+    name: "show",
+    title: "zk show",
+    about: "Shows the tree that a transaction log leads to",
+    notes: FAULTS,
+    values: &[
+        LOG,
+        ValueHelp {
+            name: "ZXID",
+            help: "The last transaction to count: sixteen lower-case hexadecimal digits, or `last`",
+            required: true,
+        },
+    ],
+    flags: &[],
+};
+
+const LIST: OrderHelp = OrderHelp {
+    name: "list",
+    title: "zk list",
+    about: "Lists the transactions of a log, one line for each",
+    notes: FAULTS,
+    values: &[LOG],
+    flags: &[],
+};
+
+const ASM: OrderHelp = OrderHelp {
+    name: "asm",
+    title: "zk asm",
+    about: "Makes the log, with dbid 0, that a listing spells",
+    notes: ASM_NOTES,
+    values: &[
+        ValueHelp {
+            name: "TEXT",
+            help: "The listing: a path, or @ for standard input",
+            required: true,
+        },
+        ValueHelp {
+            name: "FILE",
+            help: "The log, which is made or emptied: a path, or @ for standard output",
+            required: true,
+        },
+    ],
+    flags: &[],
+};
+
+pub(crate) const DEBUG: OrderHelp = OrderHelp {
+    name: "debug",
+    title: "zk debug",
+    about: "Answers the lines of a debug script over a log",
+    notes: DEBUG_LINES,
+    values: &[
+        LOG,
+        ValueHelp {
+            name: "SCRIPT",
+            help: "The script: a path, or @ for standard input",
+            required: true,
+        },
+    ],
+    flags: &[],
+};
+
+const RUN: OrderHelp = OrderHelp {
+    name: "run",
+    title: "zk run",
+    about: "Answers the lines of a run script",
+    notes: RUN_LINES,
+    values: &[ValueHelp {
+        name: "SCRIPT",
+        help: "The script: a path, or @ for standard input",
+        required: true,
+    }],
+    flags: &[],
+};
+
+/// The value that names a log to read.
+const LOG: ValueHelp = ValueHelp {
+    name: "FILE",
+    help: "The log: a path, or @ for standard input",
+    required: true,
+};
+
+/// Where a line on the standard error is explained.
+pub(crate) const FAULTS: &str =
+    "docs/FAULTS.md tells what each line on the standard error means, and what helps.";
+
 /// What `zk asm` does with its output, and where a line on the standard error is explained.
-pub(crate) fn asm_notes() -> &'static str {
+const ASM_NOTES: &str =
     "FILE is emptied before TEXT is read. So never write to what TEXT comes from:
 write a new file, and then `mv` it.
 
-docs/FAULTS.md tells what each line on the standard error means, and what helps."
-}
+docs/FAULTS.md tells what each line on the standard error means, and what helps.";
 
 /// The lines of a debug script.
-pub(crate) fn debug_lines() -> &'static str {
-    r#"Lines of a debug script, one command each:
+const DEBUG_LINES: &str = r#"Lines of a debug script, one command each:
   step                one place up
   back                one place down
   run                 up to the first place that matches a breakpoint, or to the end
@@ -39,12 +151,10 @@ A ZXID and an ID are sixteen lower-case hexadecimal digits, and a PATH stands in
 docs/FORMATS.md has the answers.
 
 docs/FAULTS.md tells what each line on the standard error means, each number in an answer, and
-what helps."#
-}
+what helps."#;
 
 /// The lines of a run script.
-pub(crate) fn run_lines() -> &'static str {
-    r#"Lines of a run script, one command each:
+const RUN_LINES: &str = r#"Lines of a run script, one command each:
   servers N           the first line, and no other: so many servers start, 2 to 15
   servers N weights WEIGHT ..
                       the same, and each has its weight; else each weighs 1
@@ -87,5 +197,4 @@ SESSION and SEEN are sixteen lower-case hexadecimal digits, a PATH stands in dou
 a number and so many quoted identities. docs/FORMATS.md has the fields and the answers.
 
 docs/FAULTS.md tells what each line on the standard error means, each number in an answer, and
-what helps."#
-}
+what helps."#;

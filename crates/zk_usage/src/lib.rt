@@ -6,11 +6,13 @@
 ghost use Rattle.std.specs.Prelude.{◌≢◌, ◌↔◌, IsTrue};
 ghost use Rattle.clap.specs.declared.error.kind.ErrorKind.TheVariants as kinds;
 
+mod grammar;
 mod helps;
 
+use clap::Error;
 pub use clap::error::ErrorKind;
-use clap::{Arg, Command, Error};
-use helps::{asm_notes, debug_lines, faults, run_lines};
+use grammar::{command, order_command};
+use helps::{DEBUG, SHOW};
 use std::alloc::{AllocError, Global};
 use std::fmt;
 
@@ -61,12 +63,12 @@ fn refused_by_clap<'a>(alloc: Global, words: &'a [&'a str]) -> Result<Option<Err
 /// What is wrong with the values of an order, which clap takes.
 fn value_fault(alloc: Global, is_debug: bool) -> Result<Error, AllocError> {
     if is_debug {
-        return debug_command(alloc)?.bin_name("zk debug")?.error(
+        return order_command(alloc, &DEBUG)?.bin_name(DEBUG.title)?.error(
             ErrorKind::ArgumentConflict,
             "FILE and SCRIPT cannot both be standard input",
         );
     }
-    show_command(alloc)?.bin_name("zk show")?.error(
+    order_command(alloc, &SHOW)?.bin_name(SHOW.title)?.error(
         ErrorKind::ValueValidation,
         "ZXID is neither sixteen lower-case hexadecimal digits nor `last`",
     )
@@ -87,98 +89,4 @@ fn refusal_by(alloc: Global, error: &Error) -> Result<Refusal, AllocError> {
     let mut text = String::new(alloc);
     write!(text, "{error}")?;
     Ok(Refusal { kind, text })
-}
-
-/// The command line's grammar.
-fn command<'a>(alloc: Global) -> Result<Command<'a>, AllocError> {
-    let command = with_order(program(alloc)?, show_command(alloc))?;
-    let command = with_order(command, list_command(alloc))?;
-    let command = with_order(command, asm_command(alloc))?;
-    let command = with_order(command, debug_command(alloc))?;
-    with_order(command, run_command(alloc))
-}
-
-/// A grammar with an order more.
-fn with_order<'a>(
-    command: Command<'a>,
-    order: Result<Command<'a>, AllocError>,
-) -> Result<Command<'a>, AllocError> {
-    command.subcommand(order?)
-}
-
-/// The grammar of the program, with no order.
-fn program<'a>(alloc: Global) -> Result<Command<'a>, AllocError> {
-    Ok(
-        Command::new(alloc, "zk")
-            .bin_name("zk")?
-            .version("0.1.0")
-            .about("Looks at transaction logs of ZooKeeper 3.4, and runs its servers")
-            .after_help(faults())
-            .subcommand_required(true),
-    )
-}
-
-/// The grammar of `zk list`.
-fn list_command<'a>(alloc: Global) -> Result<Command<'a>, AllocError> {
-    Command::new(alloc, "list")
-        .about("Lists the transactions of a log, one line for each")
-        .after_help(faults())
-        .arg(log_arg(alloc))
-}
-
-/// The grammar of `zk show`.
-fn show_command<'a>(alloc: Global) -> Result<Command<'a>, AllocError> {
-    let zxid = Arg::new(alloc, "ZXID").required(true).help(
-        "The last transaction to count: sixteen lower-case hexadecimal digits, or `last`",
-    );
-    Command::new(alloc, "show")
-        .about("Shows the tree that a transaction log leads to")
-        .after_help(faults())
-        .arg(log_arg(alloc))?
-        .arg(zxid)
-}
-
-/// The grammar of `zk asm`.
-fn asm_command<'a>(alloc: Global) -> Result<Command<'a>, AllocError> {
-    let text = Arg::new(alloc, "TEXT")
-        .required(true)
-        .help("The listing: a path, or @ for standard input");
-    let file = Arg::new(alloc, "FILE").required(true).help(
-        "The log, which is made or emptied: a path, or @ for standard output",
-    );
-    Command::new(alloc, "asm")
-        .about("Makes the log, with dbid 0, that a listing spells")
-        .after_help(asm_notes())
-        .arg(text)?
-        .arg(file)
-}
-
-/// The grammar of `zk debug`.
-fn debug_command<'a>(alloc: Global) -> Result<Command<'a>, AllocError> {
-    let script = Arg::new(alloc, "SCRIPT")
-        .required(true)
-        .help("The script: a path, or @ for standard input");
-    Command::new(alloc, "debug")
-        .about("Answers the lines of a debug script over a log")
-        .after_help(debug_lines())
-        .arg(log_arg(alloc))?
-        .arg(script)
-}
-
-/// The grammar of `zk run`.
-fn run_command<'a>(alloc: Global) -> Result<Command<'a>, AllocError> {
-    let script = Arg::new(alloc, "SCRIPT")
-        .required(true)
-        .help("The script: a path, or @ for standard input");
-    Command::new(alloc, "run")
-        .about("Answers the lines of a run script")
-        .after_help(run_lines())
-        .arg(script)
-}
-
-/// The argument that names a log to read.
-fn log_arg<'a>(alloc: Global) -> Arg<'a> {
-    Arg::new(alloc, "FILE")
-        .required(true)
-        .help("The log: a path, or @ for standard input")
 }

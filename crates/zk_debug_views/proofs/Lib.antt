@@ -1,0 +1,2 @@
+pub mod DiffLaws
+pub mod ListLaws
