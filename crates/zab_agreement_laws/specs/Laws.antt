@@ -1,5 +1,5 @@
 -- What holds of every run. Own.
-use Rattle.std.specs.Prelude.{◌≡◌, ℕ, List, [], ◌∷◌, ◌++◌}
+use Rattle.std.specs.Prelude.{◌≡◌, ℕ, List, ◌++◌}
 use Rattle.std.specs.List.{Contains}
 use Rattle.zab_epoch.specs.declared.history.Entry.{Entry}
 use Rattle.zab_runs.specs.declared.event.Event.{Event}
@@ -19,12 +19,12 @@ IsTaggedOnce profile servers events =
     → x.tag ≡ y.tag
     → x ≡ y
 
--- two worlds that follow one another in a run, by an event
-pub record IsNextInRun {C : Type 0} (profile : Profile C) (servers : ℕ) (before : World C) (event : Event C) (next : World C) : Type 0 where
+-- two worlds of which the second is the first after the events that count
+pub record IsNextInRun {C : Type 0} (profile : Profile C) (servers : ℕ) (before : World C) (counted : List (Event C)) (next : World C) : Type 0 where
   pub events : List (Event C)
   pub reached : before ≡ (run profile servers events).0
-  pub goes_on : next ≡ (run profile servers (events ++ event ∷ [])).0
-  pub tagged : IsTaggedOnce profile servers (events ++ event ∷ [])
-  pub agrees : Agrees profile servers (events ++ event ∷ [])
-  pub origins : ComeFromCalls profile servers (events ++ event ∷ [])
-  pub syncs : AreCaught profile servers (events ++ event ∷ [])
+  pub goes_on : next ≡ (run profile servers (events ++ counted)).0
+  pub tagged : IsTaggedOnce profile servers (events ++ counted)
+  pub agrees : Agrees profile servers (events ++ counted)
+  pub origins : ComeFromCalls profile servers (events ++ counted)
+  pub syncs : AreCaught profile servers (events ++ counted)

@@ -38,6 +38,13 @@ impl Tags {
         }
     }
 
+    /// How many tags there are.
+    pub fn len(&self) -> usize
+        ensures { result ≡ length self.now }
+    {
+        self.tags.len()
+    }
+
     /// Adds a tag. Where memory is refused they are as they were.
     pub fn push(&mut self, tag: u64) -> Result<(), NoMemory>
         ensures ok { OnOk result (self.new ≡ self.old ++ tag ∷ []) }
@@ -64,6 +71,16 @@ impl Tags {
             self.places.remove(&tag);
         }
         self.tags.truncate(last);
+    }
+
+    /// Keeps the first tags, so many; all of them, where there are no more. Takes no memory.
+    #[tactic(auto, using(crate::proofs::Cutting::take_less, crate::proofs::Cutting::take_all))]
+    pub fn cut(&mut self, count: usize)
+        ensures { self.new ≡ take count self.old }
+    {
+        while self.len() > count {
+            self.drop_last();
+        }
     }
 
     /// Whether a tag was first taken at a place, which is counted from 0.

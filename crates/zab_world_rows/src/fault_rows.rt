@@ -5,7 +5,7 @@ use zab_world::WorldFault;
 use zk_path::NoMemory;
 
 /// Each fault, and its number.
-static FAULTS: [(WorldFault, &str); 8] = [
+static FAULTS: [(WorldFault, &str); 9] = [
     (WorldFault::NoServer, "Z1"),
     (WorldFault::NoMessage, "Z2"),
     (WorldFault::Down, "Z3"),
@@ -14,6 +14,7 @@ static FAULTS: [(WorldFault, &str); 8] = [
     (WorldFault::DuplicateCall, "Z6"),
     (WorldFault::EpochFull, "Z7"),
     (WorldFault::NoMemory, "Z8"),
+    (WorldFault::Died(3), "Z9 3"),
 ];
 
 /// Whether a fault is shown so.

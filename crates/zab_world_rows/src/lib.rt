@@ -7,6 +7,8 @@
 #[cfg(test)]
 mod agreement_rows;
 #[cfg(test)]
+mod fail_rows;
+#[cfg(test)]
 mod fault_rows;
 #[cfg(test)]
 mod scripts;

@@ -1,8 +1,6 @@
 //! Scripts: what happens in a world of servers, with what that is answered, and what its servers show then. They are
 //! tables of plain values, of which events are made.
 
-ghost use Rattle.std.specs.Prelude.{◌≡◌, false};
-
 use std::alloc::Global;
 use zab_broadcast::{Echo, EchoCall};
 use zab_epoch::{Body, Entries, Majority, Quorums, WeightFault, Weighted};
@@ -77,13 +75,13 @@ pub fn event_of(happening: Happening) -> Event<EchoCall> {
     }
 }
 
-/// Whether an event is answered so, and no memory was refused.
+/// Whether an event is answered so.
 fn is_answered<Q: Quorums + Drop>(
     world: &mut World<Echo, Q>,
     happening: Happening,
     answer: Result<Moved, WorldFault>,
 ) -> bool {
-    world.step(event_of(happening)) == answer && !world.has_failed()
+    world.step(event_of(happening)) == answer
 }
 
 /// Whether entries have these tags and zxids.
@@ -102,9 +100,7 @@ fn are(entries: &Entries<'_>, expected: &[(u64, i64)]) -> bool {
 }
 
 /// Whether a server has these entries, delivered or not.
-fn has<Q: Quorums + Drop>(world: &World<Echo, Q>, server: usize, expected: &[(u64, i64)]) -> bool
-    requires { world.now.failed ≡ false }
-{
+fn has<Q: Quorums + Drop>(world: &World<Echo, Q>, server: usize, expected: &[(u64, i64)]) -> bool {
     match world.stable(server) {
         Some(stable) => are(&stable.history.entries(), expected),
         None => false,
@@ -119,16 +115,12 @@ fn are_caught(syncs: &[Caught], expected: &[(u64, u64)]) -> bool {
 }
 
 /// What the message with a number says; none, where there is no such message.
-fn body<Q: Quorums + Drop>(world: &World<Echo, Q>, message: usize) -> Option<&Body<EchoCall>>
-    requires { world.now.failed ≡ false }
-{
+fn body<Q: Quorums + Drop>(world: &World<Echo, Q>, message: usize) -> Option<&Body<EchoCall>> {
     Some(&world.messages().get(message.checked_sub(1)?)?.body)
 }
 
 /// What a NewLeader keeps, and how many entries come with it; none, where the message is no NewLeader.
-fn suffix<Q: Quorums + Drop>(world: &World<Echo, Q>, message: usize) -> Option<(i64, usize)>
-    requires { world.now.failed ≡ false }
-{
+fn suffix<Q: Quorums + Drop>(world: &World<Echo, Q>, message: usize) -> Option<(i64, usize)> {
     match body(world, message)? {
         Body::NewLeader { keep, rest, .. } => Some((*keep, rest.len())),
         _ => None,
@@ -136,9 +128,7 @@ fn suffix<Q: Quorums + Drop>(world: &World<Echo, Q>, message: usize) -> Option<(
 }
 
 /// The epoch of a NewEpoch; none, where the message is no NewEpoch.
-fn chosen<Q: Quorums + Drop>(world: &World<Echo, Q>, message: usize) -> Option<u32>
-    requires { world.now.failed ≡ false }
-{
+fn chosen<Q: Quorums + Drop>(world: &World<Echo, Q>, message: usize) -> Option<u32> {
     match body(world, message)? {
         Body::NewEpoch { epoch } => Some(*epoch),
         _ => None,
@@ -146,9 +136,7 @@ fn chosen<Q: Quorums + Drop>(world: &World<Echo, Q>, message: usize) -> Option<u
 }
 
 /// The epoch of an AckEpoch, and its vote; none, where the message is no AckEpoch.
-fn voted<Q: Quorums + Drop>(world: &World<Echo, Q>, message: usize) -> Option<(u32, bool)>
-    requires { world.now.failed ≡ false }
-{
+fn voted<Q: Quorums + Drop>(world: &World<Echo, Q>, message: usize) -> Option<(u32, bool)> {
     match body(world, message)? {
         Body::AckEpoch { epoch, vote, .. } => Some((*epoch, *vote)),
         _ => None,
@@ -156,9 +144,7 @@ fn voted<Q: Quorums + Drop>(world: &World<Echo, Q>, message: usize) -> Option<(u
 }
 
 /// Whether a world shows this.
-fn shows<Q: Quorums + Drop>(world: &World<Echo, Q>, report: Report) -> bool
-    requires { world.now.failed ≡ false }
-{
+fn shows<Q: Quorums + Drop>(world: &World<Echo, Q>, report: Report) -> bool {
     match report {
         Report::Delivered(server, expected) => are(&world.delivered(server), expected),
         Report::History(server, expected) => has(world, server, expected),
@@ -182,7 +168,7 @@ fn takes<Q: Quorums + Drop>(world: &mut World<Echo, Q>, row: Row) -> bool {
             is_answered(world, happening, Ok(Moved { first, count: 2 }))
         }
         Row::Refused(happening, fault) => is_answered(world, happening, Err(fault)),
-        Row::Shown(report) => !world.has_failed() && shows(world, report),
+        Row::Shown(report) => shows(world, report),
     }
 }
 

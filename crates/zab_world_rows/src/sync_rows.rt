@@ -8,7 +8,7 @@ use crate::world_rows::{FIRST, FIRST_COMMIT, FIRST_SUBMIT};
 use zab_world::WorldFault;
 
 /// The leader has delivered one entry, and tells it. Server 2 delivers it with that, and not with the commit.
-static TOLD: [Row; 10] = [
+pub static TOLD: [Row; 10] = [
     Sends(Sync(2, 1), 10),
     Sends(Arrive(10), 11),
     Shown(Caught(2, &[])),
@@ -22,7 +22,7 @@ static TOLD: [Row; 10] = [
 ];
 
 /// The leader answers at once. What it has delivered counts, and syncs are listed in the order of answers.
-static AT_THE_LEADER: [Row; 5] = [
+pub static AT_THE_LEADER: [Row; 5] = [
     Sends(Sync(1, 9), 0),
     Sends(Sync(1, 2), 0),
     Shown(Caught(1, &[(9, 1), (2, 1)])),

@@ -1,7 +1,5 @@
 //! Rows of worlds whose servers have weights.
 
-ghost use Rattle.std.specs.Prelude.{◌≡◌, false};
-
 use crate::scripts::Happening::{Arrive, Follow, Lead, Submit};
 use crate::scripts::Report::Delivered;
 use crate::scripts::Row::{Sends, SendsTwo, Shown};
@@ -58,11 +56,9 @@ fn events(alloc: Global) -> Result<Vec<Event<EchoCall>>, NoMemory> {
 }
 
 /// Whether server 1 has delivered the call where a world replays those events.
-fn delivers_alone(alloc: Global, world: &World<Echo, Weighted>) -> Result<bool, NoMemory>
-    requires { world.now.failed ≡ false }
-{
+fn delivers_alone(alloc: Global, world: &World<Echo, Weighted>) -> Result<bool, NoMemory> {
     let (after, _) = world.replay(events(alloc)?)?;
-    Ok(!after.has_failed() && after.delivered(1).len() == 1)
+    Ok(after.delivered(1).len() == 1)
 }
 
 /// The same of a new world.

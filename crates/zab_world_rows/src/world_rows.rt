@@ -1,7 +1,5 @@
 //! Rows of `zab_world`.
 
-ghost use Rattle.std.specs.Prelude.{◌≡◌, false};
-
 use crate::scripts::Happening::{Arrive, Crash, Expire, Follow, Lead, Restart, Submit};
 use crate::scripts::Report::{Chosen, Delivered, History, Runs, Sent, Suffix, Voted};
 use crate::scripts::Row::{Refused, Sends, SendsTwo, Shown};
@@ -61,7 +59,7 @@ fn repeated_new_leader_keeps(rt: HostRuntime) {
 }
 
 /// Both servers have the first entry; two more are submitted, and their acknowledgements come in the other order.
-static TWO_MORE: [Row; 7] = [
+pub static TWO_MORE: [Row; 7] = [
     Sends(Arrive(9), 0),
     Sends(Submit(1, 2), 10),
     Sends(Submit(1, 3), 11),
@@ -75,7 +73,7 @@ static TWO_MORE: [Row; 7] = [
 const THREE: [(u64, i64); 3] = [(1, 0x1_0000_0001), (2, 0x1_0000_0002), (3, 0x1_0000_0003)];
 
 /// A tag comes again, in a call and in a session's closing.
-static TAGS_AGAIN: [Row; 6] = [
+pub static TAGS_AGAIN: [Row; 6] = [
     Shown(Delivered(1, &THREE)),
     Refused(Submit(1, 2), WorldFault::DuplicateCall),
     Sends(Expire(1, 7), 15),
@@ -91,7 +89,7 @@ fn two_creates_of_one_path(rt: HostRuntime) {
 }
 
 /// A follower's call comes to the leader three times.
-static THREE_TIMES: [Row; 4] = [
+pub static THREE_TIMES: [Row; 4] = [
     Sends(Submit(2, 4), 15),
     Sends(Arrive(15), 16),
     Sends(Arrive(15), 0),
@@ -127,7 +125,7 @@ fn leader_restarts_before_sync(rt: HostRuntime) {
 }
 
 /// Server 1 crashes before its entry is acknowledged; servers 2 and 3 go on without it.
-static SECOND_LEADER: [Row; 12] = [
+pub static SECOND_LEADER: [Row; 12] = [
     Sends(Crash(1), 0),
     Sends(Lead(2), 0),
     Sends(Follow(3, 2), 8),
@@ -143,7 +141,7 @@ static SECOND_LEADER: [Row; 12] = [
 ];
 
 /// Server 1 starts again, and follows server 2.
-static FIRST_FOLLOWS: [Row; 8] = [
+pub static FIRST_FOLLOWS: [Row; 8] = [
     Sends(Restart(1), 0),
     Sends(Follow(1, 2), 17),
     Sends(Arrive(17), 18),
@@ -322,8 +320,7 @@ fn replayed_events(alloc: Global) -> Result<Vec<Event<EchoCall>>, NoMemory> {
 
 /// Whether a world stands as after those events, and was answered so.
 fn is_after(world: &EchoWorld, answers: &[Result<Moved, WorldFault>]) -> bool {
-    !world.has_failed()
-        && world.messages().len() == 1
+    world.messages().len() == 1
         && answers.len() == REPLAYED.len()
         && answers
             .iter()
@@ -332,9 +329,7 @@ fn is_after(world: &EchoWorld, answers: &[Result<Moved, WorldFault>]) -> bool {
 }
 
 /// Whether a replay of those events gives such a world.
-fn replays(alloc: Global, world: &EchoWorld) -> Result<bool, NoMemory>
-    requires { world.now.failed ≡ false }
-{
+fn replays(alloc: Global, world: &EchoWorld) -> Result<bool, NoMemory> {
     let (after, answers) = world.replay(replayed_events(alloc)?)?;
     Ok(is_after(&after, &answers))
 }
