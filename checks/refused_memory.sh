@@ -2,18 +2,18 @@
 # Refuses each growth of memory in turn, from the first on until a run meets none, while the proved program shows
 # examples/first_log_head.log, lists the first log, and makes it of its listing; and the same for a log with a path of 200
 # bytes and contents that are longer than a page of output. Each run must end with the whole output, or with `zk: memory`,
-# status 1, and a part of the output from its front. A debug script and a run script may also go on behind a line that tells
-# the refusal, `B4` or `E9`: a debugger that failed tells `B5` until it is reset, an ensemble that failed tells `E9` for good, and
-# where a breakpoint or a read with its watch is refused, the rest is as if its line were not there.
+# status 1, and a part of the output from its front. A debug script may also go on behind a line that tells the refusal, `B4`: a
+# debugger that failed tells `B5` until it is reset, and goes on from its start then with its breakpoints; and where a breakpoint is
+# refused, the rest is as if its line were not there. Run scripts have a check of their own, `refused_scripts.py`.
 set -euo pipefail
 work=$(mktemp -d)
 trap 'rm -rf "$work"' EXIT
 cc -shared -fPIC -O2 -o "$work/refuse.so" checks/refuse.c -ldl
 zk=crates/zk_cli/out/zk_cli
 
-# goes_on WHOLE FIRST LATER: whether the output is WHOLE but for a line FIRST and lines LATER right behind it
+# goes_on WHOLE: whether the output is WHOLE but for a line `B4` and lines `B5` right behind it
 goes_on() {
-    awk -v first="$2" -v later="$3" '
+    awk -v first=B4 -v later=B5 '
         FNR == NR { whole[++lines] = $0; next }
         { out[++told] = $0 }
         END {
@@ -60,8 +60,7 @@ refuse_each() {
             if ! cmp -s "$work/out" "$whole"; then
                 lines=$((lines + 1))
                 case $1 in
-                debug) goes_on "$whole" B4 B5 || is_left_out B4 "$@" ;;
-                run) goes_on "$whole" E9 E9 || is_left_out E9 "$@" ;;
+                debug) goes_on "$whole" || is_left_out B4 "$@" ;;
                 *) cmp "$work/out" "$whole" ;;
                 esac
             fi
@@ -101,8 +100,7 @@ refuse_each "$work/long.listing" list "$work/long.log"
 [ "$parts" -gt 0 ]
 refuse_each "$work/long.log" asm "$work/long.listing" @
 
-# a debug script without breakpoints, and a run script without watches: so a refused line alters no answer behind it, but by
-# failing
+# a debug script without breakpoints: so a refused line alters no answer behind it, but by failing
 "$zk" asm examples/lock.listing "$work/lock.log"
 cat >"$work/lock.script" <<END
 step
@@ -123,17 +121,9 @@ END
 "$zk" debug "$work/lock.log" "$work/lock.script" >"$work/lock.answers"
 refuse_each "$work/lock.answers" debug "$work/lock.log" "$work/lock.script"
 [ "$lines" -gt 0 ]
-refuse_each examples/runs/two_creates_of_one_path.answers run examples/runs/two_creates_of_one_path.script
-[ "$lines" -gt 0 ]
 
-# breakpoints of each kind, which stop the moves behind them
-cat >"$work/breaks.script" <<END
-break path "/lock/holder"
-break at 0000000100000005
-break session 0100000000000001
-break kind delete
-break error
-clear 3
+# breakpoints of each kind, which stop the moves behind them; and behind a reset the same moves once more
+cat >"$work/moves" <<END
 run
 last
 run
@@ -141,12 +131,21 @@ run
 runback
 node "/lock"
 run
-break path "/lock"
 END
+{
+    cat <<END
+break path "/lock/holder"
+break at 0000000100000005
+break session 0100000000000001
+break kind delete
+break error
+clear 3
+END
+    cat "$work/moves"
+    echo reset
+    cat "$work/moves"
+    echo 'break path "/lock"'
+} >"$work/breaks.script"
 "$zk" debug "$work/lock.log" "$work/breaks.script" >"$work/breaks.answers"
 refuse_each "$work/breaks.answers" debug "$work/lock.log" "$work/breaks.script"
-[ "$left_out" -gt 0 ]
-
-# multis, reads that are answered, and watches that are set and fired
-refuse_each examples/runs/multi_fires_watches.answers run examples/runs/multi_fires_watches.script
 [ "$left_out" -gt 0 ]

@@ -1,7 +1,6 @@
 -- What is seen of the code's ensembles and of their servers.
-use Rattle.std.specs.Prelude.{◌≡◌, ℕ, Bool, true, false, List, [], Option, Some, None, map, refl}
+use Rattle.std.specs.Prelude.{◌≡◌, ℕ, Bool, false, List, [], Option, Some, None, IfSome, refl}
 use Rattle.std.specs.Coded.{Coded, code_by, coded×, coded_list, coded_bool, coded_ℕ}
-use Rattle.std.specs.List.{AllByRecursion}
 use Rattle.zab_quorums.specs.Quorums.{is_heavy}
 use Rattle.zab_epoch.specs.declared.message.Message.{Message}
 use Rattle.zab_broadcast.specs.declared.state.State.{State as ServerState}
@@ -10,6 +9,7 @@ use Rattle.zab_runs.specs.Movers.{mover}
 use Rattle.zab_runs.specs.Runs.{Sight}
 use Rattle.zab_runs.specs.Standings.{Standing}
 use Rattle.zab_runs.specs.Worlds.{World, Profile}
+use Rattle.zk_machine.specs.Machines.{MachineView}
 use Rattle.zk_prepare.specs.declared.call.Call.{Call}
 use Rattle.zk_runs.specs.declared.answer.Answered.{Answered}
 use Rattle.zk_runs.specs.declared.event.Event.{Event}
@@ -24,39 +24,33 @@ use Rattle.zk_watch.specs.declared.watch.Watch.{Watch}
 
 -- ---- a server
 
--- what it shows; of one that has failed nothing is said
-pub record ReplicaView : Type 0 where
-  pub shown : Shown
-  pub failed : Bool
-
-abbrev pub replica : Shown → Bool → ReplicaView
-replica shown failed = record { shown = shown; failed = failed }
-
 abbrev pub shown_code : Coded Node → Coded Answered → Coded Watch → Coded Fired → Coded Shown
 shown_code node answered watch fired =
     code_by (State × (List Answered × (List Watch × List Fired))) (coded× (state_code node) (coded× (coded_list answered) (coded× (coded_list watch) (coded_list fired)))) (λ s. (s.tree, (s.answers, (s.watches, s.events)))) (λ p. record { tree = p.0; answers = p.1.0; watches = p.1.1.0; events = p.1.1.1 }) (λ _. refl)
 
-abbrev pub replica_code : Coded Node → Coded Answered → Coded Watch → Coded Fired → Coded ReplicaView
-replica_code node answered watch fired =
-    code_by (Shown × Bool) (coded× (shown_code node answered watch fired) coded_bool) (λ r. (r.shown, r.failed)) (λ p. record { shown = p.0; failed = p.1 }) (λ _. refl)
+-- the tree of a server's machine: one that has delivered nothing since it started may have none
+abbrev pub tree_by : Option MachineView → State
+tree_by None = start_state
+tree_by (Some machine) = machine.state
 
-abbrev pub AreRunning : List ReplicaView → Type 0
-AreRunning replicas = AllByRecursion (λ it. it.failed ≡ false) replicas
-
-abbrev pub shown_by : List ReplicaView → List Shown
-shown_by replicas = map (λ it. it.shown) replicas
-
-abbrev pub shown_in : Option ReplicaView → Option Shown
-shown_in None = None
-shown_in (Some it) = Some it.shown
+abbrev pub HasNotFailed : Option MachineView → Type 0
+HasNotFailed machine = IfSome machine (λ it. it.failed ≡ false)
 
 -- ---- an ensemble
 
--- the world under it, what its servers show, and whether it was refused memory
+-- which quorums the world under it has, how many servers, and the world
+pub record Below : Type 0 where
+  pub quorums : List ℕ
+  pub servers : ℕ
+  pub world : World Call
+
+abbrev pub below_by : Sight (List ℕ) Call → Below
+below_by it = record { quorums = it.quorums; servers = it.servers; world = it.world }
+
+-- the world under it, and what its servers show
 pub record EnsembleView : Type 0 where
-  pub below : Sight (List ℕ) Call
+  pub below : Below
   pub shown : List Shown
-  pub failed : Bool
 
 abbrev pub standing_code : Coded ServerState → Coded Standing
 standing_code state = code_by (Bool × ServerState) (coded× coded_bool state) (λ s. (s.up, s.state)) (λ p. record { up = p.0; state = p.1 }) (λ _. refl)
@@ -69,38 +63,31 @@ abbrev pub world_code : Coded ServerState → Coded (Message Call) → Coded (Wo
 world_code state message =
     code_by (List Standing × (List (Message Call) × Spent)) (coded× (coded_list (standing_code state)) (coded× (coded_list message) spent_code)) (λ w. (w.servers, (w.messages, w.tags))) (λ p. record { servers = p.0; messages = p.1.0; tags = p.1.1 }) (λ _. refl)
 
-abbrev pub below_code : Coded (World Call) → Coded (Sight (List ℕ) Call)
+abbrev pub below_code : Coded (World Call) → Coded Below
 below_code world =
-    code_by (List ℕ × (ℕ × (Bool × World Call))) (coded× (coded_list coded_ℕ) (coded× coded_ℕ (coded× coded_bool world))) (λ s. (s.quorums, (s.servers, (s.failed, s.world)))) (λ p. record { quorums = p.0; servers = p.1.0; failed = p.1.1.0; world = p.1.1.1 }) (λ _. refl)
+    code_by (List ℕ × (ℕ × World Call)) (coded× (coded_list coded_ℕ) (coded× coded_ℕ world)) (λ s. (s.quorums, (s.servers, s.world))) (λ p. record { quorums = p.0; servers = p.1.0; world = p.1.1 }) (λ _. refl)
 
-abbrev pub ensemble_code : Coded (Sight (List ℕ) Call) → Coded Shown → Coded EnsembleView
+abbrev pub ensemble_code : Coded Below → Coded Shown → Coded EnsembleView
 ensemble_code below shown =
-    code_by (Sight (List ℕ) Call × (List Shown × Bool)) (coded× below (coded× (coded_list shown) coded_bool)) (λ e. (e.below, (e.shown, e.failed))) (λ p. record { below = p.0; shown = p.1.0; failed = p.1.1 }) (λ _. refl)
+    code_by (Below × List Shown) (coded× below (coded_list shown)) (λ e. (e.below, e.shown)) (λ p. record { below = p.0; shown = p.1 }) (λ _. refl)
 
 abbrev pub state_of : EnsembleView → Ensemble
 state_of it = ensemble it.below.world it.shown
 
 -- its quorums are the sets of servers with more than half of the weight
-abbrev pub profile_in : Sight (List ℕ) Call → Profile Call
+abbrev pub profile_in : Below → Profile Call
 profile_in below = profile_by (is_heavy below.quorums)
 
--- one that has not failed is that of a run, of events whose sessions are numbers of 64 bits
-pub record IsOfRun (below : Sight (List ℕ) Call) (replicas : List ReplicaView) : Type 0 where
-  pub fine : below.failed ≡ false
-  pub running : AreRunning replicas
+-- it is that of a run, of events whose sessions are numbers of 64 bits
+pub record IsOfRun (below : Below) (shown : List Shown) : Type 0 where
   pub events : List Event
   pub fit : FitEvents events
-  pub reached : ensemble below.world (shown_by replicas) ≡ (run (profile_in below) below.servers events).0
+  pub reached : ensemble below.world shown ≡ (run (profile_in below) below.servers events).0
 
 -- the server that an event is about: the one that it may change, or that is read; 0 where there is no such message
 abbrev pub server_of : World Call → Event → ℕ
 server_of w (events.World event) = mover w event
 server_of w (events.Read question) = question.server
-
--- where an event is refused memory: a read leaves all as it was, and after another event the ensemble has failed
-abbrev pub IsRefused : Event → EnsembleView → EnsembleView → Type 0
-IsRefused (events.World event) old new = new.failed ≡ true
-IsRefused (events.Read question) old new = new ≡ old
 
 -- ---- what one of its servers shows; nothing where there is none
 

@@ -1,9 +1,9 @@
-ghost use Rattle.std.specs.Prelude.{◌≡◌, ◌≢◌, ℕ, length, true, false, Err};
+ghost use Rattle.std.specs.Prelude.{◌≡◌, ◌≢◌, length, true, false, Err};
 ghost use Rattle.zab_runs.specs.declared.fault.WorldFault.TheVariants as world_faults;
 ghost use Rattle.zk_headline_laws.specs.Consequences.{FitsInWorld};
 ghost use Rattle.zk_runs.specs.Ensembles.{of_world};
 
-use crate::moving::{catch_up, find, look, mover, peek};
+use crate::moving::{catch_up, find, look, peek};
 use crate::replica::Replica;
 use std::alloc::Global;
 use std::marker::Model;
@@ -20,18 +20,16 @@ use zk_watch::Fired;
 
 /// Servers with trees, and the messages between them, after some events. Servers are numbered from 1.
 ///
-/// Until it is refused memory by an event that is no read, an ensemble is that of a run: a list of events from a new ensemble
-/// on.
+/// An ensemble is always that of a run: a list of events from a new ensemble on. Memory that is refused leaves it as it was, or
+/// makes the event the crash of its server.
 #[derive(Drop)]
 pub struct Ensemble {
     alloc: Global,
-    failed: bool,
     world: World<Preparer, Weighted>,
     replicas: Vec<Replica>,
 }
 
 impl Model for Ensemble {
-    ghost use Rattle.std.specs.Prelude.{◌≡◌, false};
     ghost use Rattle.zab_epoch.specs.contracts.message.Message as message;
     ghost use Rattle.zab_broadcast.specs.contracts.state.State as state;
     ghost use Rattle.zk_prepare.specs.contracts.call.Call as call;
@@ -39,7 +37,7 @@ impl Model for Ensemble {
     ghost use Rattle.zk_runs.specs.contracts.answer.Answered as answered;
     ghost use Rattle.zk_watch.specs.contracts.watch.Watch as watch;
     ghost use Rattle.zk_watch.specs.contracts.watch.Fired as fired;
-    ghost use Rattle.zk_ensemble.specs.Views.{EnsembleView, world_code, below_code, shown_code, ensemble_code, shown_by, IsOfRun};
+    ghost use Rattle.zk_ensemble.specs.Views.{EnsembleView, world_code, below_code, shown_code, ensemble_code, below_by, IsOfRun};
 
     ghost Value = { EnsembleView };
 
@@ -47,9 +45,9 @@ impl Model for Ensemble {
         (below_code (world_code state.the_row.coded (message.the_row call.the_row).coded))
         (shown_code node.the_row.coded answered.the_row.coded watch.the_row.coded fired.the_row.coded) };
 
-    ghost view = { λ it. record { below = it.world; shown = shown_by it.replicas.items; failed = it.failed } };
+    ghost view = { λ it. record { below = below_by it.world; shown = it.replicas.items } };
 
-    ghost invariant = { λ it. it.failed ≡ false → IsOfRun it.world it.replicas.items };
+    ghost invariant = { λ it. IsOfRun (below_by it.world) it.replicas.items };
 }
 
 impl Ensemble {
@@ -60,11 +58,12 @@ impl Ensemble {
     ghost use Rattle.zab_epoch.specs.Entries.{txns_of};
     ghost use Rattle.zk_runs.specs.declared.event.Event.TheVariants as events;
     ghost use Rattle.zk_runs.specs.declared.fault.EnsembleFault.TheVariants as faults;
+    ghost use Rattle.zk_runs.specs.Counting.{counted, IsAnswered};
     ghost use Rattle.zk_runs.specs.Ensembles.{fresh, happens, shown_at};
     ghost use Rattle.zk_headline_laws.specs.Headline.{IsNextInRun};
-    ghost use Rattle.zk_runs.specs.Runs.{answered_of};
+    ghost use Rattle.zk_runs.specs.Runs.{after, answered_of};
     ghost use Rattle.zk_table.specs.Histories.{tree_of};
-    ghost use Rattle.zk_ensemble.specs.Views.{state_of, profile_in, server_of, IsRefused, answers_in, events_in, tree_in};
+    ghost use Rattle.zk_ensemble.specs.Views.{state_of, profile_in, server_of, answers_in, events_in, tree_in};
 
     /// A new ensemble of so many servers, all of them up, each of weight 1: the quorums are the majorities.
     pub fn new(alloc: Global, servers: usize) -> Result<Ensemble, NoMemory>
@@ -72,11 +71,9 @@ impl Ensemble {
           below = record {
             quorums = replicate servers 1;
             servers = servers;
-            failed = false;
             world = new_world servers;
           };
           shown = replicate servers fresh;
-          failed = false;
         }) }
     {
         Ensemble::with(alloc, Weighted::even(alloc, servers)?)
@@ -89,41 +86,39 @@ impl Ensemble {
           below = record {
             quorums = weights;
             servers = length weights;
-            failed = false;
             world = new_world (length weights);
           };
           shown = replicate (length weights) fresh;
-          failed = false;
         }) }
     {
         let servers = weights.servers();
         let world = World::with(alloc, servers, weights)?;
         let mut replicas = Vec::new(alloc);
         for _ in 0..servers {
-            replicas.push(Replica::new(alloc)?)?;
+            replicas.push(Replica::new(alloc))?;
         }
         Ok(Ensemble {
             alloc,
-            failed: false,
             world,
             replicas,
         })
     }
 
-    /// One event happens. A read that is refused memory changes nothing. Once memory was refused at another event, no event
-    /// happens any more, and each is refused so.
+    /// One event happens.
+    ///
+    /// Where memory was refused before anything happened, nothing has: [`EnsembleFault::NoMemory`]. Where it was refused behind
+    /// that, to what the event's server says or delivers, that server has crashed instead: [`EnsembleFault::Died`]. A read is
+    /// never answered so.
     pub fn step(&mut self, event: Event) -> Result<Answer, EnsembleFault>
-        ensures acts { result ≢ Err faults.NoMemory → (state_of self.new, result) ≡ happens (profile_in self.old.below) (state_of self.old) event }
-        ensures run { result ≢ Err faults.NoMemory
-            → IsNextInRun (profile_in self.old.below) self.old.below.servers (state_of self.old) event (state_of self.new) }
+        ensures counts { state_of self.new ≡ after (profile_in self.old.below) (state_of self.old) (counted event result) }
+        ensures answers { IsAnswered (profile_in self.old.below) (state_of self.old) event result }
+        ensures run { IsNextInRun (profile_in self.old.below) self.old.below.servers (state_of self.old) (counted event result)
+            (state_of self.new) }
+        ensures unchanged { result ≡ Err faults.NoMemory → self.new ≡ self.old }
         ensures same { (self.new.below.quorums ≡ self.old.below.quorums) × (self.new.below.servers ≡ self.old.below.servers) }
-        ensures fine { result ≢ Err faults.NoMemory → self.new.failed ≡ false }
-        ensures refused { result ≡ Err faults.NoMemory → IsRefused event self.old self.new }
-        ensures failed { self.old.failed ≡ true → result ≡ Err faults.NoMemory }
     {
-        if self.failed {
-            return Err(EnsembleFault::NoMemory);
-        }
+        // That it is of a run is known once a field is read.
+        let _alloc = self.alloc;
         match event {
             Event::World(event) => self.move_world(event),
             Event::Read(question) => self.look(&question),
@@ -132,32 +127,31 @@ impl Ensemble {
 
     /// An event of the world happens, and the server that it is about delivers what it has not yet.
     fn move_world(&mut self, event: zab_runs::Event<Call>) -> Result<Answer, EnsembleFault>
-        requires { self.old.failed ≡ false }
-        ensures acts { result ≢ Err faults.NoMemory → (state_of self.new, result) ≡ happens (profile_in self.old.below) (state_of self.old) (events.World event) }
+        ensures counts { state_of self.new
+            ≡ after (profile_in self.old.below) (state_of self.old) (counted (events.World event) result) }
+        ensures answers { IsAnswered (profile_in self.old.below) (state_of self.old) (events.World event) result }
+        ensures unchanged { result ≡ Err faults.NoMemory → self.new ≡ self.old }
         ensures fits { FitsInWorld event }
         ensures same { (self.new.below.quorums ≡ self.old.below.quorums) × (self.new.below.servers ≡ self.old.below.servers) }
-        ensures fine { result ≢ Err faults.NoMemory → self.new.failed ≡ false }
-        ensures fails { result ≡ Err faults.NoMemory → self.new.failed ≡ true }
     {
         know_session(&event);
-        let number = mover(self.world.messages(), &event);
+        let number = self.world.mover(&event);
         let before = self.world.delivered(number).len();
         let answer = self.world.step(event);
-        if is_no_memory(&answer)
-            || catch_up(self.alloc, &self.world, &mut self.replicas, number, before).is_err()
-        {
-            self.failed = true;
+        if is_no_memory(&answer) {
             return Err(EnsembleFault::NoMemory);
+        }
+        if catch_up(self.alloc, &self.world, &mut self.replicas, number, before).is_err() {
+            self.world.fail();
+            return Err(EnsembleFault::Died(number));
         }
         told(answer)
     }
 
     /// A client reads.
     fn look(&mut self, question: &Question) -> Result<Answer, EnsembleFault>
-        requires { self.old.failed ≡ false }
         ensures acts { result ≢ Err faults.NoMemory → (state_of self.new, result) ≡ happens (profile_in self.old.below) (state_of self.old) (events.Read question.now) }
         ensures below { self.new.below ≡ self.old.below }
-        ensures fine { self.new.failed ≡ false }
         ensures unchanged { result ≡ Err faults.NoMemory → self.new ≡ self.old }
     {
         if let Err(fault) = self.world.running(question.server) {
@@ -168,7 +162,6 @@ impl Ensemble {
 
     /// What a client would be answered that reads now. It sets no watch.
     pub fn peek(&self, question: &Question) -> Result<Answer, EnsembleFault>
-        requires { self.now.failed ≡ false }
         ensures { result ≢ Err faults.NoMemory → result ≡ (happens (profile_in self.now.below) (state_of self.now) (events.Read question.now)).1 }
     {
         if let Err(fault) = self.world.running(question.server) {
@@ -177,17 +170,9 @@ impl Ensemble {
         peek(&self.replicas, question)
     }
 
-    /// Whether memory was refused at an event that is no read.
-    pub fn has_failed(&self) -> bool
-        ensures { result ≡ self.now.failed }
-    {
-        self.failed
-    }
-
     /// What each entry that a server has delivered was answered, lent: the table's results, in order. None where no server
     /// has this number.
     pub fn answers(&self, number: usize) -> &[Answered]
-        requires { self.now.failed ≡ false }
         ensures shown { result.now ≡ answers_in (shown_at self.now.shown number) }
         ensures table { is_server self.now.below.servers number ≡ true → result.now ≡ answered_of (delivered_of self.now.below.world number) }
     {
@@ -199,7 +184,6 @@ impl Ensemble {
 
     /// What was fired at a server since it started, lent, in order; none where no server has this number.
     pub fn events_of(&self, number: usize) -> &[Fired]
-        requires { self.now.failed ≡ false }
         ensures { result.now ≡ events_in (shown_at self.now.shown number) }
     {
         match find(&self.replicas, number) {
@@ -211,7 +195,6 @@ impl Ensemble {
     /// The last transaction of a server's tree: 0 before the first, where the server is down, and where no server has this
     /// number.
     pub fn last(&self, number: usize) -> i64
-        requires { self.now.failed ≡ false }
         ensures { result ≡ (tree_in (shown_at self.now.shown number)).last }
     {
         match find(&self.replicas, number) {
@@ -222,11 +205,10 @@ impl Ensemble {
 
     /// The server that an event is about: the one that it may change, or that is read. 0 where there is no such message.
     pub fn server_of(&self, event: &Event) -> usize
-        requires { self.now.failed ≡ false }
         ensures { result ≡ server_of self.now.below.world event.now }
     {
         match event {
-            Event::World(event) => mover(self.world.messages(), event),
+            Event::World(event) => self.world.mover(event),
             Event::Read(question) => question.server,
         }
     }
@@ -234,20 +216,18 @@ impl Ensemble {
     /// A machine in the state of a server's tree, which is what its delivered list leads to: the start state where the server
     /// is down, or where no server has this number.
     pub fn tree(&self, number: usize) -> Result<Machine, NoMemory>
-        requires { self.now.failed ≡ false }
         ensures shown { IfOk result (λ machine. machine ≡ record { state = tree_in (shown_at self.now.shown number); steps = 0; failed = false }) }
         ensures table { is_server self.now.below.servers number ≡ true
             → IfOk result (λ machine. machine.state ≡ tree_of (txns_of (delivered_of self.now.below.world number))) }
     {
         match find(&self.replicas, number) {
-            Some(replica) => replica.tree(),
+            Some(replica) => replica.tree(self.alloc),
             None => Machine::new(self.alloc),
         }
     }
 
     /// The entries that a server has delivered, lent; none where no server has this number.
     pub fn delivered(&self, number: usize) -> Entries<'_>
-        requires { self.now.failed ≡ false }
         ensures { result ≡ delivered_of self.now.below.world number }
     {
         self.world.delivered(number)
@@ -256,7 +236,6 @@ impl Ensemble {
     /// The syncs that a server has answered since it started, in the order of answers, lent: the tag of each, and how
     /// many entries were to be delivered for it. None where no server has this number; a crash drops them.
     pub fn syncs(&self, number: usize) -> &[Caught]
-        requires { self.now.failed ≡ false }
         ensures { result.now ≡ syncs_of self.now.below.world number }
     {
         self.world.syncs(number)
@@ -265,7 +244,6 @@ impl Ensemble {
     /// The transactions of a server's history, with the bytes of their entries in a log, lent; those of a server that is down,
     /// too, and none where no server has this number.
     pub fn journal(&self, number: usize) -> Option<&Journal>
-        requires { self.now.failed ≡ false }
         ensures { option_copied result ≡ option_map (λ stable. txns_of stable.history) (stable_of self.now.below.world number) }
     {
         match self.world.stable(number) {
@@ -276,7 +254,6 @@ impl Ensemble {
 
     /// All messages ever sent, lent, from number 1 on.
     pub fn messages(&self) -> &[Message<Call>]
-        requires { self.now.failed ≡ false }
         ensures { result.now ≡ self.now.below.world.messages }
     {
         self.world.messages()

@@ -1,23 +1,25 @@
-ghost use Rattle.std.specs.Prelude.{◌≡◌, false, IfOk, OnOk, IfErr, OnErr};
-ghost use Rattle.zk_runs.specs.declared.fault.EnsembleFault.TheVariants as faults;
+ghost use Rattle.std.specs.Prelude.{◌≡◌, ◌<◌, length, false, IfOk, OnOk, OnErr};
+ghost use Rattle.zk_machine.specs.Changes.{changes_of};
 ghost use Rattle.zk_runs.specs.Ensembles.{fresh, waiting, take_in, take_all, kind_set, watching, reply_of};
-ghost use Rattle.zk_ensemble.specs.Views.{replica};
+ghost use Rattle.zk_table.specs.Steps.{step};
+ghost use Rattle.zk_ensemble.specs.Views.{tree_by, HasNotFailed};
 
 use std::alloc::Global;
 use std::marker::Model;
 use zab_epoch::Entries;
-use zk_machine::Machine;
+use zk_machine::{Applied, Machine};
 use zk_path::NoMemory;
-use zk_runs::{Answered, EnsembleFault, Question};
+use zk_runs::{Answered, Question};
 use zk_table::codes::{NO_NODE, SESSION_EXPIRED};
 use zk_table::{Op, ReadCall, ReadReply, Txn};
 use zk_watch::{Fired, WatchKind, Watches};
 
 /// What a server of an ensemble shows of what it has delivered: its tree, what each entry was answered, who watches there,
-/// and what was fired. After want of memory in the middle of an entry it is not used again: its ensemble has failed.
+/// and what was fired.
 #[derive(Drop)]
 pub(crate) struct Replica {
-    machine: Machine,
+    /// None before the first entry: what a server shows that is down takes no memory.
+    machine: Option<Machine>,
     answers: Vec<Answered>,
     watches: Watches,
     events: Vec<Fired>,
@@ -28,40 +30,36 @@ impl Model for Replica {
     ghost use Rattle.zk_runs.specs.contracts.answer.Answered as answered;
     ghost use Rattle.zk_watch.specs.contracts.watch.Watch as watch;
     ghost use Rattle.zk_watch.specs.contracts.watch.Fired as fired;
-    ghost use Rattle.zk_ensemble.specs.Views.{ReplicaView, replica_code};
+    ghost use Rattle.zk_runs.specs.Ensembles.{Shown};
+    ghost use Rattle.zk_ensemble.specs.Views.{shown_code, tree_by, HasNotFailed};
 
-    ghost Value = { ReplicaView };
+    ghost Value = { Shown };
 
-    ghost coded = { replica_code node.the_row.coded answered.the_row.coded watch.the_row.coded fired.the_row.coded };
+    ghost coded = { shown_code node.the_row.coded answered.the_row.coded watch.the_row.coded fired.the_row.coded };
 
-    ghost view = { λ it. record {
-      shown = record { tree = it.machine.state; answers = it.answers.items; watches = it.watches; events = it.events.items };
-      failed = it.machine.failed;
-    } };
+    ghost view = { λ it. record { tree = tree_by it.machine; answers = it.answers.items; watches = it.watches; events = it.events.items } };
+
+    ghost invariant = { λ it. HasNotFailed it.machine };
 }
 
 impl Replica {
-    /// One that has delivered nothing.
-    pub(crate) fn new(alloc: Global) -> Result<Replica, NoMemory>
-        ensures { IfOk result (λ it. it ≡ replica fresh false) }
+    /// One that has delivered nothing. It takes no memory.
+    pub(crate) fn new(alloc: Global) -> Replica
+        ensures { result ≡ fresh }
     {
-        Ok(Replica {
-            machine: Machine::new(alloc)?,
+        Replica {
+            machine: None,
             answers: Vec::new(alloc),
             watches: Watches::new(alloc),
             events: Vec::new(alloc),
-        })
+        }
     }
 
     /// Delivers an entry with this tag and this transaction.
-    fn take_in(&mut self, tag: u64, txn: &Txn) -> Result<(), NoMemory>
-        requires { self.old.failed ≡ false }
-        ensures { OnOk result (self.new ≡ replica (take_in self.old.shown (record { tag = tag; txn = txn.now })) false) }
+    fn take_in(&mut self, alloc: Global, tag: u64, txn: &Txn) -> Result<(), NoMemory>
+        ensures { OnOk result (self.new ≡ take_in self.old (record { tag = tag; txn = txn.now })) }
     {
-        self.machine.make_countable()?;
-        let Ok(applied) = self.machine.apply(txn) else {
-            return Err(NoMemory);
-        };
+        let applied = apply(alloc, &mut self.machine, txn)?;
         stop_waiting(&mut self.watches, txn);
         let mut fired = self.watches.fire(&applied.changes)?;
         self.events.append(&mut fired)?;
@@ -75,24 +73,26 @@ impl Replica {
 
     /// Delivers entries in turn.
     #[tactic(auto, using(crate::proofs::Lent::as_many_tags, crate::proofs::Lent::as_many_txns))]
-    pub(crate) fn take_all(&mut self, entries: &Entries<'_>) -> Result<(), NoMemory>
-        requires { self.old.failed ≡ false }
-        ensures { OnOk result (self.new ≡ replica (take_all self.old.shown entries.now) false) }
+    pub(crate) fn take_all(&mut self, alloc: Global, entries: &Entries<'_>) -> Result<(), NoMemory>
+        ensures taken { OnOk result (self.new ≡ take_all self.old entries.now) }
+        ensures some { OnErr result (0 < length entries.now) }
     {
         let tags = entries.tags();
         let txns = entries.txns();
         for index in 0..entries.len() {
-            self.take_in(tags[index], &txns[index])?;
+            self.take_in(alloc, tags[index], &txns[index])?;
         }
         Ok(())
     }
 
     /// The last transaction that was delivered, and 0 before the first.
     pub(crate) fn last(&self) -> i64
-        requires { self.now.failed ≡ false }
-        ensures { result ≡ self.now.shown.tree.last }
+        ensures { result ≡ self.now.tree.last }
     {
-        let Ok(last) = self.machine.last() else {
+        let Some(machine) = &self.machine else {
+            return 0;
+        };
+        let Ok(last) = machine.last() else {
             unreachable!()
         };
         last
@@ -100,26 +100,18 @@ impl Replica {
 
     /// What a client's question is told.
     pub(crate) fn reply_of(&self, question: &Question) -> Result<ReadReply, NoMemory>
-        requires { self.now.failed ≡ false }
-        ensures { IfOk result (λ reply. reply ≡ reply_of question.now self.now.shown.tree) }
+        ensures { IfOk result (λ reply. reply ≡ reply_of question.now self.now.tree) }
     {
-        let Ok(session) = self.machine.session(question.session.cast_unsigned()) else {
-            unreachable!()
-        };
-        if session.is_none() {
-            return Ok(ReadReply::Refused(SESSION_EXPIRED));
+        match &self.machine {
+            Some(machine) => read(machine, question),
+            None => Ok(ReadReply::Refused(SESSION_EXPIRED)),
         }
-        let Ok(reply) = self.machine.read(&question.call, question.auths.as_slice()) else {
-            return Err(NoMemory);
-        };
-        Ok(reply)
     }
 
     /// A client's question is told what stands in the tree, and sets its watch. After [`NoMemory`] nothing is changed.
     pub(crate) fn look(&mut self, question: &Question) -> Result<ReadReply, NoMemory>
-        requires { self.old.failed ≡ false }
-        ensures told { IfOk result (λ reply. reply ≡ reply_of question.now self.old.shown.tree) }
-        ensures watching { IfOk result (λ reply. self.new ≡ replica (watching question.now reply self.old.shown) false) }
+        ensures told { IfOk result (λ reply. reply ≡ reply_of question.now self.old.tree) }
+        ensures watching { IfOk result (λ reply. self.new ≡ watching question.now reply self.old) }
         ensures unchanged { OnErr result (self.new ≡ self.old) }
     {
         let reply = self.reply_of(question)?;
@@ -133,26 +125,65 @@ impl Replica {
     }
 
     /// A machine in the state of the tree.
-    pub(crate) fn tree(&self) -> Result<Machine, NoMemory>
-        requires { self.now.failed ≡ false }
-        ensures { IfOk result (λ machine. machine ≡ record { state = self.now.shown.tree; steps = 0; failed = false }) }
+    pub(crate) fn tree(&self, alloc: Global) -> Result<Machine, NoMemory>
+        ensures { IfOk result (λ machine. machine ≡ record { state = self.now.tree; steps = 0; failed = false }) }
     {
-        self.machine.copy()
+        match &self.machine {
+            Some(machine) => machine.copy(),
+            None => Machine::new(alloc),
+        }
     }
 
     /// What each delivered entry was answered, lent.
     pub(crate) fn answers(&self) -> &[Answered]
-        ensures { result.now ≡ self.now.shown.answers }
+        ensures { result.now ≡ self.now.answers }
     {
         self.answers.as_slice()
     }
 
     /// What was fired, lent.
     pub(crate) fn events(&self) -> &[Fired]
-        ensures { result.now ≡ self.now.shown.events }
+        ensures { result.now ≡ self.now.events }
     {
         self.events.as_slice()
     }
+}
+
+/// Applies a transaction to the tree of a machine, which is made where there is none. Where memory was refused, there is none
+/// any more.
+fn apply(alloc: Global, machine: &mut Option<Machine>, txn: &Txn) -> Result<Applied, NoMemory>
+    requires { HasNotFailed machine.old }
+    ensures stepped { IfOk result (λ applied. (tree_by machine.new, applied.result) ≡ step (tree_by machine.old) txn.now) }
+    ensures changes { IfOk result (λ applied. applied.changes.items ≡ changes_of (tree_by machine.old) txn.now) }
+    ensures fine { HasNotFailed machine.new }
+{
+    let mut it = match machine.take() {
+        Some(it) => it,
+        None => Machine::new(alloc)?,
+    };
+    it.make_countable()?;
+    let Ok(applied) = it.apply(txn) else {
+        return Err(NoMemory);
+    };
+    *machine = Some(it);
+    Ok(applied)
+}
+
+/// What a client's question is told by a machine.
+fn read(machine: &Machine, question: &Question) -> Result<ReadReply, NoMemory>
+    requires { machine.now.failed ≡ false }
+    ensures { IfOk result (λ reply. reply ≡ reply_of question.now machine.now.state) }
+{
+    let Ok(session) = machine.session(question.session.cast_unsigned()) else {
+        unreachable!()
+    };
+    if session.is_none() {
+        return Ok(ReadReply::Refused(SESSION_EXPIRED));
+    }
+    let Ok(reply) = machine.read(&question.call, question.auths.as_slice()) else {
+        return Err(NoMemory);
+    };
+    Ok(reply)
 }
 
 /// A session that closes is told nothing of it.

@@ -59,32 +59,24 @@ impl Load {
     }
 
     /// What a server has delivered.
-    pub(crate) fn delivered(&self, server: usize) -> Result<Entries<'_>, NoMemory> {
-        if self.ensemble.has_failed() {
-            return Err(NoMemory);
-        }
-        Ok(self.ensemble.delivered(server))
+    pub(crate) fn delivered(&self, server: usize) -> Entries<'_> {
+        self.ensemble.delivered(server)
     }
 
     /// How many of these were answered with an error there.
-    pub(crate) fn refused(&self, server: usize) -> Result<usize, NoMemory> {
-        if self.ensemble.has_failed() {
-            return Err(NoMemory);
-        }
+    pub(crate) fn refused(&self, server: usize) -> usize {
         let answers = self.ensemble.answers(server);
-        Ok(
-            answers
-                .iter()
-                .filter(|answered| answered.result.err != 0)
-                .count(),
-        )
+        answers
+            .iter()
+            .filter(|answered| answered.result.err != 0)
+            .count()
     }
 
     /// An event happens, or is refused.
     fn happens(&mut self, event: zab_runs::Event<zk_prepare::Call>) -> Result<(), NoMemory> {
         self.events = self.events.wrapping_add(1);
         match self.ensemble.step(Event::World(event)) {
-            Err(EnsembleFault::NoMemory) => Err(NoMemory),
+            Err(EnsembleFault::NoMemory | EnsembleFault::Died(_)) => Err(NoMemory),
             _ => Ok(()),
         }
     }
@@ -108,20 +100,15 @@ impl Load {
     }
 
     /// The number and the addressee of the next message that was not sent on.
-    fn next_message(&self) -> Result<Option<(usize, usize)>, NoMemory> {
-        if self.ensemble.has_failed() {
-            return Err(NoMemory);
-        }
-        match self.ensemble.messages().get(self.sent) {
-            Some(message) => Ok(Some((self.sent.saturating_add(1), message.addressee))),
-            None => Ok(None),
-        }
+    fn next_message(&self) -> Option<(usize, usize)> {
+        let message = self.ensemble.messages().get(self.sent)?;
+        Some((self.sent.saturating_add(1), message.addressee))
     }
 
     /// All messages are sent on, and those that these lead to.
     fn settle(&mut self) -> Result<()> {
         for _ in 0..ENOUGH {
-            let Some((message, addressee)) = self.next_message()? else {
+            let Some((message, addressee)) = self.next_message() else {
                 return Ok(());
             };
             self.sent = message;

@@ -54,7 +54,7 @@ fn main(rt: HostRuntime) -> Result<()> {
     // Whoever measures reads here what the calls took, before what they left is looked at and freed.
     wait_for_line(&rt)?;
     tell_servers(&rt, &load)?;
-    let delivered = load.delivered(load.leader())?;
+    let delivered = load.delivered(load.leader());
     let steps = apply_to_all(rt.alloc(), delivered.txns(), machines)?;
     println!(rt; "{machines} machines, {steps} steps")?;
     Ok(())
@@ -82,8 +82,8 @@ fn word(rt: &HostRuntime, place: usize, otherwise: u64) -> Result<u64> {
 /// A line for each server: what it has delivered, and how much of that was refused.
 fn tell_servers(rt: &HostRuntime, load: &Load) -> Result<()> {
     for server in 1..=SERVERS {
-        let once = delivered_once(&load.delivered(server)?)?;
-        let refused = load.refused(server)?;
+        let once = delivered_once(&load.delivered(server))?;
+        let refused = load.refused(server);
         println!(rt; "server {server}: {once} delivered once, {refused} of them refused")?;
     }
     Ok(())

@@ -5,7 +5,7 @@ use zk_ensemble::EnsembleFault;
 use zk_path::NoMemory;
 
 /// Each fault, and its number.
-static FAULTS: [(EnsembleFault, &str); 9] = [
+static FAULTS: [(EnsembleFault, &str); 10] = [
     (EnsembleFault::Behind { seen: 2, at: 1 }, "E1"),
     (EnsembleFault::NoServer, "E2"),
     (EnsembleFault::NoMessage, "E3"),
@@ -15,6 +15,7 @@ static FAULTS: [(EnsembleFault, &str); 9] = [
     (EnsembleFault::DuplicateCall, "E7"),
     (EnsembleFault::EpochFull, "E8"),
     (EnsembleFault::NoMemory, "E9"),
+    (EnsembleFault::Died(3), "E10 3"),
 ];
 
 /// Whether a fault is shown so.

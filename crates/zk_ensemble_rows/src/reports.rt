@@ -1,7 +1,5 @@
 //! What servers show, as text.
 
-ghost use Rattle.std.specs.Prelude.{◌≡◌, false};
-
 use std::alloc::Global;
 use std::test::Fail;
 use zab_epoch::Body;
@@ -39,9 +37,7 @@ fn listing_of(alloc: Global, txns: &[Txn]) -> Result<String, NoMemory> {
 }
 
 /// The listing of what a server has, delivered or not.
-fn history_at(alloc: Global, ensemble: &Ensemble, server: usize) -> Result<String, NoMemory>
-    requires { ensemble.now.failed ≡ false }
-{
+fn history_at(alloc: Global, ensemble: &Ensemble, server: usize) -> Result<String, NoMemory> {
     match ensemble.journal(server) {
         Some(journal) => listing_of(alloc, journal.txns()),
         None => Ok(String::from_str(alloc, "none")?),
@@ -65,9 +61,7 @@ fn loaded_from(alloc: Global, journal: &Journal) -> Result<String, Fail> {
     }
 }
 
-fn loaded_at(alloc: Global, ensemble: &Ensemble, server: usize) -> Result<String, Fail>
-    requires { ensemble.now.failed ≡ false }
-{
+fn loaded_at(alloc: Global, ensemble: &Ensemble, server: usize) -> Result<String, Fail> {
     match ensemble.journal(server) {
         Some(journal) => loaded_from(alloc, journal),
         None => Ok(String::from_str(alloc, "none")?),
@@ -75,9 +69,7 @@ fn loaded_at(alloc: Global, ensemble: &Ensemble, server: usize) -> Result<String
 }
 
 /// Each result, spelled from a copy, behind its tag and its session.
-fn answers_at(alloc: Global, ensemble: &Ensemble, server: usize) -> Result<String, NoMemory>
-    requires { ensemble.now.failed ≡ false }
-{
+fn answers_at(alloc: Global, ensemble: &Ensemble, server: usize) -> Result<String, NoMemory> {
     let mut text = String::new(alloc);
     for answered in ensemble.answers(server) {
         let copy = answered.copy()?;
@@ -89,9 +81,7 @@ fn answers_at(alloc: Global, ensemble: &Ensemble, server: usize) -> Result<Strin
 }
 
 /// Each sync that was answered: its tag and its length.
-fn syncs_at(alloc: Global, ensemble: &Ensemble, server: usize) -> Result<String, NoMemory>
-    requires { ensemble.now.failed ≡ false }
-{
+fn syncs_at(alloc: Global, ensemble: &Ensemble, server: usize) -> Result<String, NoMemory> {
     let mut text = String::new(alloc);
     for caught in ensemble.syncs(server) {
         write!(text, "{} {}\n", caught.tag, caught.length)?;
@@ -100,9 +90,7 @@ fn syncs_at(alloc: Global, ensemble: &Ensemble, server: usize) -> Result<String,
 }
 
 /// Each event behind its session.
-fn events_at(alloc: Global, ensemble: &Ensemble, server: usize) -> Result<String, NoMemory>
-    requires { ensemble.now.failed ≡ false }
-{
+fn events_at(alloc: Global, ensemble: &Ensemble, server: usize) -> Result<String, NoMemory> {
     let mut text = String::new(alloc);
     for fired in ensemble.events_of(server) {
         let (session, kind, path) = (fired.session, fired.kind, fired.path.text());
@@ -130,9 +118,7 @@ fn push_node(text: &mut String, tree: &Tree, path: &Path) -> Result<(), NoMemory
 }
 
 /// A tree's last transaction, sessions and nodes.
-fn tree_at(alloc: Global, ensemble: &Ensemble, server: usize) -> Result<String, Fail>
-    requires { ensemble.now.failed ≡ false }
-{
+fn tree_at(alloc: Global, ensemble: &Ensemble, server: usize) -> Result<String, Fail> {
     let machine = ensemble.tree(server)?;
     let mut text = String::new(alloc);
     push_head(&mut text, &machine)?;
@@ -152,9 +138,7 @@ fn body_line(alloc: Global, body: &Body<Call>) -> Result<String, NoMemory> {
     }
 }
 
-fn message_at(alloc: Global, ensemble: &Ensemble, number: usize) -> Result<String, NoMemory>
-    requires { ensemble.now.failed ≡ false }
-{
+fn message_at(alloc: Global, ensemble: &Ensemble, number: usize) -> Result<String, NoMemory> {
     match ensemble.messages().get(number.wrapping_sub(1)) {
         Some(message) => body_line(alloc, &message.body),
         None => Ok(String::from_str(alloc, "none")?),
@@ -162,9 +146,7 @@ fn message_at(alloc: Global, ensemble: &Ensemble, number: usize) -> Result<Strin
 }
 
 /// What is asked for.
-pub fn report_of(alloc: Global, ensemble: &Ensemble, report: Report) -> Result<String, Fail>
-    requires { ensemble.now.failed ≡ false }
-{
+pub fn report_of(alloc: Global, ensemble: &Ensemble, report: Report) -> Result<String, Fail> {
     match report {
         Report::Delivered(server) => Ok(listing_of(alloc, ensemble.delivered(server).txns())?),
         Report::History(server) => Ok(history_at(alloc, ensemble, server)?),

@@ -28,9 +28,6 @@ fn takes(alloc: Global, ensemble: &mut Ensemble, row: Row) -> Result<bool, Fail>
             Ok(told.as_str() == expected)
         }
         Row::Shown(report, expected) => {
-            if ensemble.has_failed() {
-                return Ok(false);
-            }
             let shown = report_of(alloc, ensemble, report)?;
             Ok(shown.as_str() == expected)
         }

@@ -1,5 +1,5 @@
 -- One ensemble follows another in a run.
-use Rattle.std.proofs.Common.{◌≡◌, ℕ, Bool, List, [], ◌∷◌, ◌++◌, refl}
+use Rattle.std.proofs.Common.{◌≡◌, ℕ, Bool, List, ◌++◌, refl}
 use Rattle.zab_quorums.specs.Quorums.{IsQuorumSystem}
 use Rattle.zab_move_laws.proofs.Telling.{all_append}
 use Rattle.zab_origin_laws.proofs.Origins.{tagged_once}
@@ -15,20 +15,22 @@ use Rattle.zk_headline_laws.proofs.Consequences.{consequences}
 use Rattle.zk_headline_laws.proofs.Headlines.{headline}
 use Rattle.zk_runs.proofs.Worlds.{world_then}
 
--- one event more, with sessions of 64 bits
-pub fit_more : (some : List Event) (event : Event) → FitEvents some → FitsEvent event → FitEvents (some ++ event ∷ [])
-fit_more some event fit fits = all_append FitsEvent some (event ∷ []) fit (fits, tt)
+-- more events, with sessions of 64 bits
+pub fit_more : (some more : List Event) → FitEvents some → FitEvents more → FitEvents (some ++ more)
+fit_more some more fit fits = all_append FitsEvent some more fit fits
 
-pub follows : (passes : List Bool → Bool) (system : IsQuorumSystem passes) (servers : ℕ) (some : List Event) (before : Ensemble) (event : Event) (next : Ensemble) → before ≡ (run (profile_by passes) servers some).0 → next ≡ (run (profile_by passes) servers (some ++ event ∷ [])).0 → FitEvents (some ++ event ∷ []) → IsNextInRun (profile_by passes) servers before event next
-follows passes system servers some before event next reached goes_on fit = record {
-  some = some;
-  reached = reached;
-  goes_on = goes_on;
-  headline = headline (profile_by passes) entry_zxid system (λ history call zxid. refl) servers (some ++ event ∷ []);
-  consequences = consequences passes system servers (some ++ event ∷ []);
-  fit = fit;
-  worlds = world_then (profile_by passes) servers (some ++ event ∷ []);
-  agrees = runs_agree (profile_by passes) entry_zxid system servers (in_world (some ++ event ∷ []));
-  tagged = tagged_once (profile_by passes) (λ history call zxid. refl) servers (in_world (some ++ event ∷ []));
-  syncs = are_caught (profile_by passes) entry_zxid system servers (in_world (some ++ event ∷ []));
-}
+pub follows : (passes : List Bool → Bool) (system : IsQuorumSystem passes) (servers : ℕ) (some : List Event) (before : Ensemble) (counted : List Event) (next : Ensemble) → before ≡ (run (profile_by passes) servers some).0 → next ≡ (run (profile_by passes) servers (some ++ counted)).0 → FitEvents (some ++ counted) → IsNextInRun (profile_by passes) servers before counted next
+follows passes system servers some before counted next reached goes_on fit =
+    let whole = some ++ counted in
+    record {
+      some = some;
+      reached = reached;
+      goes_on = goes_on;
+      headline = headline (profile_by passes) entry_zxid system (λ history call zxid. refl) servers whole;
+      consequences = consequences passes system servers whole;
+      fit = fit;
+      worlds = world_then (profile_by passes) servers whole;
+      agrees = runs_agree (profile_by passes) entry_zxid system servers (in_world whole);
+      tagged = tagged_once (profile_by passes) (λ history call zxid. refl) servers (in_world whole);
+      syncs = are_caught (profile_by passes) entry_zxid system servers (in_world whole);
+    }

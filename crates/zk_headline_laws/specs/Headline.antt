@@ -91,15 +91,16 @@ abbrev pub HasWorldsOfRun : Profile Call → ℕ → List Event → Type 0
 HasWorldsOfRun profile servers some =
     (count : ℕ) → (ensemble_after profile servers some count).world ≡ (zab.run profile servers (take (world_count count some) (in_world some))).0
 
--- two ensembles that follow one another in a run, by an event; and what holds of the run and of the world's run under it
-pub record IsNextInRun (profile : Profile Call) (servers : ℕ) (before : Ensemble) (event : Event) (next : Ensemble) : Type 0 where
+-- two ensembles of which the second is the first after the events that count; and what holds of the run and of the world's run
+-- under it
+pub record IsNextInRun (profile : Profile Call) (servers : ℕ) (before : Ensemble) (counted : List Event) (next : Ensemble) : Type 0 where
   pub some : List Event
   pub reached : before ≡ (run profile servers some).0
-  pub goes_on : next ≡ (run profile servers (some ++ event ∷ [])).0
-  pub headline : Headline profile servers (some ++ event ∷ [])
-  pub consequences : HasConsequences profile servers (some ++ event ∷ [])
-  pub fit : FitEvents (some ++ event ∷ [])
-  pub worlds : HasWorldsOfRun profile servers (some ++ event ∷ [])
-  pub agrees : Agrees profile servers (in_world (some ++ event ∷ []))
-  pub tagged : IsTaggedOnce profile servers (in_world (some ++ event ∷ []))
-  pub syncs : AreCaught profile servers (in_world (some ++ event ∷ []))
+  pub goes_on : next ≡ (run profile servers (some ++ counted)).0
+  pub headline : Headline profile servers (some ++ counted)
+  pub consequences : HasConsequences profile servers (some ++ counted)
+  pub fit : FitEvents (some ++ counted)
+  pub worlds : HasWorldsOfRun profile servers (some ++ counted)
+  pub agrees : Agrees profile servers (in_world (some ++ counted))
+  pub tagged : IsTaggedOnce profile servers (in_world (some ++ counted))
+  pub syncs : AreCaught profile servers (in_world (some ++ counted))

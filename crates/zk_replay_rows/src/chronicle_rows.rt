@@ -77,7 +77,6 @@ fn each_event_is_recorded_with_its_answer(rt: HostRuntime) -> Result<(), Fail> {
     assert_eq!(rt; add_all(alloc, &mut chronicle)?, None);
     assert_eq!(rt; records_differ(alloc, &chronicle)?, None);
     assert_eq!(rt; chronicle.records().len(), 20);
-    assert!(rt; !chronicle.has_failed());
     // the second server lost what it had delivered, the third never had any
     assert_eq!(rt; chronicle.delivered(1).len(), 1);
     assert_eq!(rt; chronicle.delivered(2).len(), 0);

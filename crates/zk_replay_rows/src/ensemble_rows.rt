@@ -1,7 +1,5 @@
 //! Which server an event is about, where that server stands, and what a read would be told.
 
-ghost use Rattle.std.specs.Prelude.{◌≡◌, false};
-
 use crate::events::{FIRST, Happening, answer_line, event_of, question};
 use std::alloc::Global;
 use std::test::Fail;
@@ -29,11 +27,11 @@ static ABOUT: [(Happening, usize, i64); 13] = [
 
 /// Whether the event is about this server, which then stands there.
 fn is_about(ensemble: &mut Ensemble, event: Event, server: usize, last: i64) -> bool {
-    if ensemble.has_failed() || ensemble.server_of(&event) != server {
+    if ensemble.server_of(&event) != server {
         return false;
     }
     let _answer = ensemble.step(event);
-    !ensemble.has_failed() && ensemble.last(server) == last
+    ensemble.last(server) == last
 }
 
 /// The place of an event that is about another server; none where all are as they are to be.
@@ -48,17 +46,13 @@ fn walk(alloc: Global, ensemble: &mut Ensemble) -> Result<Option<usize>, Fail> {
 }
 
 /// What a read would be answered.
-fn peeked(alloc: Global, ensemble: &Ensemble, server: usize, seen: i64) -> Result<String, Fail>
-    requires { ensemble.now.failed ≡ false }
-{
+fn peeked(alloc: Global, ensemble: &Ensemble, server: usize, seen: i64) -> Result<String, Fail> {
     let answer = ensemble.peek(&question(alloc, server, seen)?);
     Ok(answer_line(alloc, &answer)?)
 }
 
 /// What the first session would be told by each server, and by one that there is not.
-fn all_peeked(alloc: Global, ensemble: &Ensemble) -> Result<bool, Fail>
-    requires { ensemble.now.failed ≡ false }
-{
+fn all_peeked(alloc: Global, ensemble: &Ensemble) -> Result<bool, Fail> {
     let told = peeked(alloc, ensemble, 2, FIRST)?;
     let behind = peeked(alloc, ensemble, 3, FIRST)?;
     let nobody = peeked(alloc, ensemble, 4, FIRST)?;
@@ -69,6 +63,6 @@ fn all_peeked(alloc: Global, ensemble: &Ensemble) -> Result<bool, Fail>
 fn events_are_about_servers(rt: HostRuntime) -> Result<(), Fail> {
     let mut ensemble = Ensemble::new(rt.alloc(), 3)?;
     assert_eq!(rt; walk(rt.alloc(), &mut ensemble)?, None);
-    assert!(rt; !ensemble.has_failed() && all_peeked(rt.alloc(), &ensemble)?);
+    assert!(rt; all_peeked(rt.alloc(), &ensemble)?);
     Ok(())
 }

@@ -43,6 +43,7 @@ fault_text faults.NotServing = codes "E6"
 fault_text faults.DuplicateCall = codes "E7"
 fault_text faults.EpochFull = codes "E8"
 fault_text faults.NoMemory = codes "E9"
+fault_text (faults.Died number) = codes "E10 " ++ decimal number
 
 abbrev pub told_text : Result Answer EnsembleFault → List ℕ
 told_text (Ok (HasMoved moved)) = moved_text moved

@@ -1,11 +1,11 @@
 //! What an ensemble answers to a command.
-ghost use Rattle.std.specs.Prelude.{◌≡◌, ◌++◌, false, OnOk, OnErr};
+ghost use Rattle.std.specs.Prelude.{◌≡◌, ◌++◌, OnOk, OnErr};
 ghost use Rattle.std.specs.String.{string_bytes};
 ghost use Rattle.zab_epoch.specs.Entries.{txns_of};
 ghost use Rattle.zab_runs.specs.Runs.{history_of};
 ghost use Rattle.zk_request_lines.specs.ReplyLines.{refusal_text};
 ghost use Rattle.zk_run_script.specs.Answers.{listing_report};
-ghost use Rattle.zk_run_script.specs.Playing.{Obeys, reported};
+ghost use Rattle.zk_run_script.specs.Playing.{Obeys, report_text};
 ghost use Rattle.zk_reports.specs.Reports.{line};
 ghost use Rattle.zk_txn.specs.Codes.{bad_arguments};
 
@@ -64,12 +64,8 @@ fn push_report(
     report: Report,
     server: usize,
 ) -> Result<(), NoMemory>
-    ensures { OnOk result (string_bytes answer.new ≡ string_bytes answer.old ++ reported ensemble.now report server) }
+    ensures { OnOk result (string_bytes answer.new ≡ string_bytes answer.old ++ report_text ensemble.now report server) }
 {
-    if ensemble.has_failed() {
-        answer.push_str("E9\n")?;
-        return Ok(());
-    }
     match report {
         Report::Delivered => push_listing(answer, ensemble.delivered(server).txns()),
         Report::History => push_history(answer, ensemble, server),
@@ -86,7 +82,6 @@ fn push_report(
 /// Appends the report of a server's history.
 #[tactic(auto, using(crate::proofs::Kept::history_told, crate::proofs::Kept::none_told))]
 fn push_history(answer: &mut String, ensemble: &Ensemble, server: usize) -> Result<(), NoMemory>
-    requires { ensemble.now.failed ≡ false }
     ensures { OnOk result (string_bytes answer.new ≡ string_bytes answer.old
         ++ listing_report (txns_of (history_of ensemble.now.below.world server))) }
 {

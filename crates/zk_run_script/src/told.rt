@@ -72,6 +72,7 @@ fn push_fault(page: &mut String, fault: EnsembleFault) -> Result<(), NoMemory>
         EnsembleFault::DuplicateCall => page.push_str("E7")?,
         EnsembleFault::EpochFull => page.push_str("E8")?,
         EnsembleFault::NoMemory => page.push_str("E9")?,
+        EnsembleFault::Died(number) => write!(page, "E10 {number}")?,
     }
     Ok(())
 }

@@ -89,7 +89,7 @@ static MOVES: [(Moved, &str); 2] = [
     (Moved { first: 9, count: 3 }, "ok 9 10 11\n"),
 ];
 
-static FAULTS: [(EnsembleFault, &str); 9] = [
+static FAULTS: [(EnsembleFault, &str); 10] = [
     (
         EnsembleFault::Behind { seen: 16, at: -1 },
         "E1 0000000000000010 ffffffffffffffff\n",
@@ -102,6 +102,7 @@ static FAULTS: [(EnsembleFault, &str); 9] = [
     (EnsembleFault::DuplicateCall, "E7\n"),
     (EnsembleFault::EpochFull, "E8\n"),
     (EnsembleFault::NoMemory, "E9\n"),
+    (EnsembleFault::Died(12), "E10 12\n"),
 ];
 
 /// Whether what an event comes to is told by this line.

@@ -1,5 +1,5 @@
 -- The world under an ensemble is that of the events that are the world's.
-use Rattle.std.proofs.Common.{◌≡◌, ℕ, zero, suc, Bool, true, false, cond, List, [], ◌∷◌, ◌++◌, take, Option, Some, None, Result, Ok, Err, refl, ap, ◌∙◌, slice_get}
+use Rattle.std.proofs.Common.{◌≡◌, ℕ, zero, suc, Bool, true, false, cond, List, [], ◌∷◌, ◌++◌, take, Option, Some, None, Result, Ok, Err, refl, sym, ap, ◌∙◌, slice_get}
 use Rattle.zab_runs.specs.declared.fault.WorldFault.{WorldFault}
 use Rattle.zab_runs.specs.Runs as zab
 use Rattle.zab_runs.specs.Standings.{Standing}
@@ -61,6 +61,16 @@ history_then profile servers some count number = ap (λ w. zab.history_of w numb
 pub after_more : (profile : Profile Call) (x : Ensemble) (some : List Event) (event : Event) → after profile x (some ++ event ∷ []) ≡ (happens profile (after profile x some) event).0
 after_more profile x [] event = refl
 after_more profile x (e ∷ some) event = after_more profile (happens profile x e).0 some event
+
+-- and one after another
+pub after_all : (profile : Profile Call) (x : Ensemble) (some more : List Event) → after profile x (some ++ more) ≡ after profile (after profile x some) more
+after_all profile x [] more = refl
+after_all profile x (e ∷ some) more = after_all profile (happens profile x e).0 some more
+
+-- what comes after a run is more of it
+pub goes_on : (profile : Profile Call) (start x y : Ensemble) (some more : List Event) → x ≡ after profile start some → y ≡ after profile x more → y ≡ after profile start (some ++ more)
+goes_on profile start x y some more reached is =
+    is ∙ ap (λ v. after profile v more) reached ∙ sym (after_all profile start some more)
 
 -- what the event at a place was answered
 pub answer_at : (profile : Profile Call) (x : Ensemble) (some : List Event) (place : ℕ) (event : Event) → slice_get some place ≡ Some event → slice_get (answers profile x some) place ≡ Some (happens profile (after profile x (take place some)) event).1

@@ -13,3 +13,4 @@ ensemble_fault_of world.NotServing = faults.NotServing
 ensemble_fault_of world.DuplicateCall = faults.DuplicateCall
 ensemble_fault_of world.EpochFull = faults.EpochFull
 ensemble_fault_of world.NoMemory = faults.NoMemory
+ensemble_fault_of (world.Died number) = faults.Died number

@@ -34,9 +34,13 @@ pub enum EnsembleFault {
     /// No number is left for a new epoch, or for a new entry in its epoch. The server has stopped leading.
     #[error("E8")]
     EpochFull,
-    /// Memory was refused. A read changed nothing; after another event the ensemble has failed, and answers nothing else.
+    /// Memory was refused. Nothing has happened.
     #[error("E9")]
     NoMemory,
+    /// Memory was refused behind the step of the server with this number. The ensemble is the one after the crash of that
+    /// server in place of the event. No read is refused so.
+    #[error("E10 {0}")]
+    Died(usize),
 }
 
 impl From<NoMemory> for EnsembleFault {
@@ -60,6 +64,7 @@ impl From<WorldFault> for EnsembleFault {
             WorldFault::DuplicateCall => EnsembleFault::DuplicateCall,
             WorldFault::EpochFull => EnsembleFault::EpochFull,
             WorldFault::NoMemory => EnsembleFault::NoMemory,
+            WorldFault::Died(number) => EnsembleFault::Died(number),
         }
     }
 }

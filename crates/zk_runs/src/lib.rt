@@ -9,7 +9,9 @@ mod answer;
 mod copies;
 mod event;
 mod fault;
+mod same;
 
 pub use answer::{Answer, Answered};
 pub use event::{Event, Question};
 pub use fault::EnsembleFault;
+pub use same::Same;

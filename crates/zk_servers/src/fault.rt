@@ -5,10 +5,10 @@ use std::alloc::AllocError;
 use thiserror::Error;
 use zk_path::NoMemory;
 
-/// Why an event is refused before it happens. Nothing is recorded.
+/// Why an event is refused before it happens. Nothing is recorded, and all is as it was.
 #[derive(Clone, Copy, Debug, PartialEq, Eq, Error)]
 pub enum CallFault {
-    /// Memory was refused. A read changed nothing; at another event the ensemble has failed, and answers nothing else.
+    /// Memory was refused.
     #[error("S1")]
     NoMemory,
     /// As many events are recorded as there are numbers for them.

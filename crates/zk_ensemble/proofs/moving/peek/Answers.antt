@@ -1,6 +1,5 @@
-use Rattle.std.proofs.Common.{false, refl, sym, ap, ◌∙◌}
+use Rattle.std.proofs.Common.{refl, sym, ap, ◌∙◌}
 use Rattle.zk_runs.specs.Ensembles.{Ensemble, Told, watching}
-use Rattle.zk_ensemble.specs.Views.{replica}
 use Rattle.zk_ensemble.proofs.Replicas.{is_here, behind, answers}
 use Rattle.zk_ensemble.proofs.moving.peek.Goals as goal
 
@@ -14,4 +13,4 @@ pub returns : goal.returns
 returns c = λ w kept.
     let rs = c.args.replicas.now in
     let here = is_here rs c.args.question.now.server c.index-replicas-number.result c.if-number-eq0.false c.if-number-replicas.false c.index-replicas-number.is in
-    ap (λ (p : Ensemble × Told). p.1) (answers w rs c.args.question.now _ (replica (watching c.args.question.now c.in_ok-reply_of.field-0 c.index-replicas-number.result.shown) false) c.in_ok-reply_of.field-0 here (sym c.in_default.is ∙ c.behind.ensures) c.in_ok-reply_of.ensures refl)
+    ap (λ (p : Ensemble × Told). p.1) (answers w rs c.args.question.now _ (watching c.args.question.now c.in_ok-reply_of.field-0 c.index-replicas-number.result) c.in_ok-reply_of.field-0 here (sym c.in_default.is ∙ c.behind.ensures) c.in_ok-reply_of.ensures refl)

@@ -9,11 +9,10 @@ use Rattle.zk_run_script.proofs.playing.obey.Goals as goal
 pub returns-in-Happens : goal.returns-in-Happens
 returns-in-Happens c =
     let happened : Happened c.args.ensemble.now c.in-Happens.event c.step-told.result c.step-told.new.self = record {
-      acts = c.step-told.ensures.acts;
+      counts = c.step-told.ensures.counts;
+      answers = c.step-told.ensures.answers;
+      unchanged = c.step-told.ensures.unchanged;
       same = c.step-told.ensures.same;
-      fine = c.step-told.ensures.fine;
-      refused = c.step-told.ensures.refused;
-      failed = c.step-told.ensures.failed;
     } in
     let answer : List ℕ = line (told_text c.step-told.result) in
     let answered : Answers c.args.ensemble.now (commands.Happens c.in-Happens.event) answer c.step-told.new.self = (c.step-told.result, happened, refl) in

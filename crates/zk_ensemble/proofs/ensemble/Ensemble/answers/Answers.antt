@@ -1,19 +1,19 @@
 use Rattle.std.proofs.Common.{sym, ap, ◌∙◌}
 use Rattle.std.specs.Option.{option_copied}
 use Rattle.zk_runs.specs.Ensembles.{shown_at}
-use Rattle.zk_ensemble.specs.Views.{shown_by, shown_in, answers_in}
+use Rattle.zk_ensemble.specs.Views.{below_by, answers_in}
 use Rattle.zk_ensemble.proofs.Runs.{answers_of_table}
 use Rattle.zk_ensemble.proofs.ensemble.Ensemble.answers.Goals as goal
 
 pub returns-in-Some-clause-table : goal.returns-in-Some-clause-table
 returns-in-Some-clause-table c = rw (← c.self.view_is) (λ one.
     c.answers.ensures
-    ∙ ap (λ o. answers_in (shown_in (option_copied o))) (sym c.in-Some.is)
-    ∙ ap answers_in (c.find.ensures.shown ∙ ap (λ rs. shown_at (shown_by rs) c.args.number) c.deref.ensures.value)
-    ∙ answers_of_table c.self.inside.world c.self.inside.replicas.items c.args.number (c.self.invariant (ap (λ v. v.failed) c.self.view_is ∙ c.requires)) one)
+    ∙ ap (λ o. answers_in (option_copied o)) (sym c.in-Some.is)
+    ∙ ap answers_in (c.find.ensures ∙ ap (λ rs. shown_at rs c.args.number) c.deref.ensures.value)
+    ∙ answers_of_table (below_by c.self.inside.world) c.self.inside.replicas.items c.args.number c.self.invariant one)
 
 pub returns-in-None-clause-table : goal.returns-in-None-clause-table
 returns-in-None-clause-table c = rw (← c.self.view_is) (λ one.
-    ap (λ o. answers_in (shown_in (option_copied o))) (sym c.in-None.is)
-    ∙ ap answers_in (c.find.ensures.shown ∙ ap (λ rs. shown_at (shown_by rs) c.args.number) c.deref.ensures.value)
-    ∙ answers_of_table c.self.inside.world c.self.inside.replicas.items c.args.number (c.self.invariant (ap (λ v. v.failed) c.self.view_is ∙ c.requires)) one)
+    ap (λ o. answers_in (option_copied o)) (sym c.in-None.is)
+    ∙ ap answers_in (c.find.ensures ∙ ap (λ rs. shown_at rs c.args.number) c.deref.ensures.value)
+    ∙ answers_of_table (below_by c.self.inside.world) c.self.inside.replicas.items c.args.number c.self.invariant one)

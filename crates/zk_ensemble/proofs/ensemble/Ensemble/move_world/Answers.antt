@@ -1,39 +1,181 @@
-use Rattle.std.proofs.Common.{◌≤◌, length, sym, ap, subst, ◌∙◌}
+use Rattle.std.proofs.Common.{◌≡◌, ◌≤◌, length, Err, refl, sym, ap, subst, ◌∙◌}
 use Rattle.std.proofs.lemmas.List.{with_items_is}
 use Rattle.zab_runs.specs.Runs.{delivered_of}
 use Rattle.zk_runs.specs.declared.event.Event.TheVariants as events
-use Rattle.zk_runs.specs.Ensembles.{of_world}
-use Rattle.zk_ensemble.specs.Views.{IsOfRun}
-use Rattle.zk_ensemble.proofs.Runs.{no_shorter, ok_of, of_run, went_on, went_on_so}
+use Rattle.zk_runs.specs.declared.fault.EnsembleFault.TheVariants as faults
+use Rattle.zk_runs.specs.Counting.{counted, IsAnswered}
+use Rattle.zk_runs.specs.Ensembles.{Told, ensemble, of_world}
+use Rattle.zk_ensemble.specs.Views.{below_by, profile_in}
+use Rattle.zk_ensemble.proofs.Runs.{IsStepped, no_shorter, ok_of, err_of, of_run, went_on, acted, fallen_is, is_some, fell, has_died, answered_on, fit_counted}
 use Rattle.zk_ensemble.proofs.ensemble.Ensemble.move_world.Goals as goal
 
-pub catch_up-requires-clause-grown : goal.catch_up-requires-clause-grown
-catch_up-requires-clause-grown c = λ runs.
-    let kept = c.is_no_memory.ensures.no c.if-is_no_memory.false in
-    let fine = ap (λ v. v.failed) c.self.view_is ∙ c.requires in
-    subst (λ n. n ≤ length (delivered_of c.step-answer.new.self.world c.mover-number.result)) (sym (c.len-before.ensures.value ∙ ap length c.delivered.ensures))
-    (no_shorter c.self.inside.world c.self.inside.replicas.items c.args.event c.step-answer.new.self.world c.step-answer.result c.mover-number.result (c.self.invariant fine) (c.step-answer.ensures.acts kept) runs)
+pub catch_up-requires : goal.catch_up-requires
+catch_up-requires c =
+    let below = below_by c.self.inside.world in
+    let w = below.world in
+    let shown = c.self.inside.replicas.items in
+    let event = c.args.event in
+    let answer = c.step-answer.result in
+    let next = c.step-answer.new.self.world in
+    let number = c.mover-number.result in
+    let before = c.len-before.result in
+    let stepped : IsStepped (profile_in below) w event answer next = record {
+      counts = c.step-answer.ensures.counts;
+      answers = c.step-answer.ensures.answers;
+      kept = c.is_no_memory.ensures.no c.if-is_no_memory.false;
+    } in
+    let had : before ≡ length (delivered_of w number) = c.len-before.ensures.value ∙ ap length c.delivered.ensures in
+    record { grown = λ runs. subst (λ n. n ≤ length (delivered_of next number)) (sym had) (no_shorter below shown event answer next number c.self.invariant stepped runs) }
 
-pub invariant_of-self : goal.invariant_of-self
-invariant_of-self c = λ fine.
-    let kept = c.is_no_memory.ensures.no c.if-is_no_memory.false in
-    let below = c.self.inside.world in
-    let rs = c.self.inside.replicas.items in
+pub fail-requires : goal.fail-requires
+fail-requires c =
+    let below = below_by c.self.inside.world in
+    let w = below.world in
+    let shown = c.self.inside.replicas.items in
+    let given = c.deref_mut.result.now in
     let news = c.catch_up.new.replicas in
-    let acts = went_on below c.step-answer.new.self rs c.deref_mut.result.now news c.args.event c.step-answer.result c.messages.result.now c.len-before.result c.mover-number.result
-    c.deref_mut.ensures.value c.messages.ensures (c.mover-number.ensures below.world.servers below.world.tags) (c.len-before.ensures.value ∙ ap length c.delivered.ensures) (c.step-answer.ensures.acts kept)
-    (ok_of c.catch_up.result c.catch_up.ensures.shown (sym c.is_err.ensures.value ∙ c.if-is_err.false)) in
-    subst (IsOfRun c.step-answer.new.self) (sym (with_items_is c.self.inside.replicas news (c.catch_up.ensures.count ∙ c.deref_mut.ensures.len)))
-    (of_run below c.step-answer.new.self rs news (events.World c.args.event) (of_world c.step-answer.result) (c.self.invariant fine) c.know_session.ensures c.step-answer.ensures.same.0 c.step-answer.ensures.same.1 (c.step-answer.ensures.fine kept)
-    (ok_of c.catch_up.result c.catch_up.ensures.running (sym c.is_err.ensures.value ∙ c.if-is_err.false)) acts)
+    let event = c.args.event in
+    let answer = c.step-answer.result in
+    let next = c.step-answer.new.self.world in
+    let number = c.mover-number.result in
+    let before = c.len-before.result in
+    let stepped : IsStepped (profile_in below) w event answer next = record {
+      counts = c.step-answer.ensures.counts;
+      answers = c.step-answer.ensures.answers;
+      kept = c.is_no_memory.ensures.no c.if-is_no_memory.false;
+    } in
+    let had : before ≡ length (delivered_of w number) = c.len-before.ensures.value ∙ ap length c.delivered.ensures in
+    let refused = sym c.is_err.ensures.value ∙ c.if-is_err.true in
+    let a = acted (profile_in below) w event answer next number before c.mover-number.ensures had stepped (err_of c.catch_up.result c.catch_up.ensures.runs refused) (err_of c.catch_up.result c.catch_up.ensures.news refused) in
+    let fallen = fallen_is (profile_in below) w event answer c.step-answer.new.self.fallen a c.step-answer.ensures.falls in
+    is_some c.step-answer.new.self.fallen _ fallen
 
-pub returns-clause-acts : goal.returns-clause-acts
-returns-clause-acts c = rw (← c.self.view_is) (λ _.
-    let kept = c.is_no_memory.ensures.no c.if-is_no_memory.false in
-    let below = c.self.inside.world in
-    let rs = c.self.inside.replicas.items in
+pub invariant_of-self-then-is_err : goal.invariant_of-self-then-is_err
+invariant_of-self-then-is_err c =
+    let below = below_by c.self.inside.world in
+    let w = below.world in
+    let shown = c.self.inside.replicas.items in
+    let given = c.deref_mut.result.now in
     let news = c.catch_up.new.replicas in
-    went_on_so below c.step-answer.new.self rs c.deref_mut.result.now news c.args.event c.step-answer.result c.messages.result.now c.len-before.result c.mover-number.result _ c.told.result
-    c.deref_mut.ensures.value c.messages.ensures (c.mover-number.ensures below.world.servers below.world.tags) (c.len-before.ensures.value ∙ ap length c.delivered.ensures) (c.step-answer.ensures.acts kept)
-    (ok_of c.catch_up.result c.catch_up.ensures.shown (sym c.is_err.ensures.value ∙ c.if-is_err.false))
-    (with_items_is c.self.inside.replicas news (c.catch_up.ensures.count ∙ c.deref_mut.ensures.len)) c.told.ensures)
+    let event = c.args.event in
+    let answer = c.step-answer.result in
+    let next = c.step-answer.new.self.world in
+    let number = c.mover-number.result in
+    let before = c.len-before.result in
+    let stepped : IsStepped (profile_in below) w event answer next = record {
+      counts = c.step-answer.ensures.counts;
+      answers = c.step-answer.ensures.answers;
+      kept = c.is_no_memory.ensures.no c.if-is_no_memory.false;
+    } in
+    let had : before ≡ length (delivered_of w number) = c.len-before.ensures.value ∙ ap length c.delivered.ensures in
+    let refused = sym c.is_err.ensures.value ∙ c.if-is_err.true in
+    let a = acted (profile_in below) w event answer next number before c.mover-number.ensures had stepped (err_of c.catch_up.result c.catch_up.ensures.runs refused) (err_of c.catch_up.result c.catch_up.ensures.news refused) in
+    let fallen = fallen_is (profile_in below) w event answer c.step-answer.new.self.fallen a c.step-answer.ensures.falls in
+    let keeps = with_items_is c.self.inside.replicas news (c.catch_up.ensures.count ∙ c.deref_mut.ensures.len) in
+    let counts = fell (profile_in below) w shown given news _ event c.step-answer.new.self.fallen c.fail.new.self.world number c.deref_mut.ensures.value c.mover-number.ensures fallen c.fail.ensures.fell (err_of c.catch_up.result c.catch_up.ensures.forgets refused) keeps in
+    let told : Told = Err (faults.Died number) in
+    of_run below (below_by c.fail.new.self) shown _ (counted (events.World event) told) c.self.invariant (fit_counted (events.World event) told c.know_session.ensures)
+    (c.fail.ensures.same.0 ∙ c.step-answer.ensures.same.0) (c.fail.ensures.same.1 ∙ c.step-answer.ensures.same.1) counts
+
+pub returns-then-is_err-clause-counts : goal.returns-then-is_err-clause-counts
+returns-then-is_err-clause-counts c = rw (← c.self.view_is) (
+    let below = below_by c.self.inside.world in
+    let w = below.world in
+    let shown = c.self.inside.replicas.items in
+    let given = c.deref_mut.result.now in
+    let news = c.catch_up.new.replicas in
+    let event = c.args.event in
+    let answer = c.step-answer.result in
+    let next = c.step-answer.new.self.world in
+    let number = c.mover-number.result in
+    let before = c.len-before.result in
+    let stepped : IsStepped (profile_in below) w event answer next = record {
+      counts = c.step-answer.ensures.counts;
+      answers = c.step-answer.ensures.answers;
+      kept = c.is_no_memory.ensures.no c.if-is_no_memory.false;
+    } in
+    let had : before ≡ length (delivered_of w number) = c.len-before.ensures.value ∙ ap length c.delivered.ensures in
+    let refused = sym c.is_err.ensures.value ∙ c.if-is_err.true in
+    let a = acted (profile_in below) w event answer next number before c.mover-number.ensures had stepped (err_of c.catch_up.result c.catch_up.ensures.runs refused) (err_of c.catch_up.result c.catch_up.ensures.news refused) in
+    let fallen = fallen_is (profile_in below) w event answer c.step-answer.new.self.fallen a c.step-answer.ensures.falls in
+    let keeps = with_items_is c.self.inside.replicas news (c.catch_up.ensures.count ∙ c.deref_mut.ensures.len) in
+    let counts = fell (profile_in below) w shown given news _ event c.step-answer.new.self.fallen c.fail.new.self.world number c.deref_mut.ensures.value c.mover-number.ensures fallen c.fail.ensures.fell (err_of c.catch_up.result c.catch_up.ensures.forgets refused) keeps in
+    counts)
+
+pub returns-then-is_err-clause-answers : goal.returns-then-is_err-clause-answers
+returns-then-is_err-clause-answers c = rw (← c.self.view_is) (
+    let below = below_by c.self.inside.world in
+    let w = below.world in
+    let shown = c.self.inside.replicas.items in
+    let given = c.deref_mut.result.now in
+    let news = c.catch_up.new.replicas in
+    let event = c.args.event in
+    let answer = c.step-answer.result in
+    let next = c.step-answer.new.self.world in
+    let number = c.mover-number.result in
+    let before = c.len-before.result in
+    let stepped : IsStepped (profile_in below) w event answer next = record {
+      counts = c.step-answer.ensures.counts;
+      answers = c.step-answer.ensures.answers;
+      kept = c.is_no_memory.ensures.no c.if-is_no_memory.false;
+    } in
+    let had : before ≡ length (delivered_of w number) = c.len-before.ensures.value ∙ ap length c.delivered.ensures in
+    let refused = sym c.is_err.ensures.value ∙ c.if-is_err.true in
+    let a = acted (profile_in below) w event answer next number before c.mover-number.ensures had stepped (err_of c.catch_up.result c.catch_up.ensures.runs refused) (err_of c.catch_up.result c.catch_up.ensures.news refused) in
+    let fallen = fallen_is (profile_in below) w event answer c.step-answer.new.self.fallen a c.step-answer.ensures.falls in
+    has_died (profile_in below) w event answer number c.mover-number.ensures c.step-answer.ensures.answers a)
+
+pub invariant_of-self-else-is_err : goal.invariant_of-self-else-is_err
+invariant_of-self-else-is_err c =
+    let below = below_by c.self.inside.world in
+    let w = below.world in
+    let shown = c.self.inside.replicas.items in
+    let given = c.deref_mut.result.now in
+    let news = c.catch_up.new.replicas in
+    let event = c.args.event in
+    let answer = c.step-answer.result in
+    let next = c.step-answer.new.self.world in
+    let number = c.mover-number.result in
+    let before = c.len-before.result in
+    let stepped : IsStepped (profile_in below) w event answer next = record {
+      counts = c.step-answer.ensures.counts;
+      answers = c.step-answer.ensures.answers;
+      kept = c.is_no_memory.ensures.no c.if-is_no_memory.false;
+    } in
+    let had : before ≡ length (delivered_of w number) = c.len-before.ensures.value ∙ ap length c.delivered.ensures in
+    let keeps = with_items_is c.self.inside.replicas news (c.catch_up.ensures.count ∙ c.deref_mut.ensures.len) in
+    let counts = went_on (profile_in below) w shown given news _ event answer next number before (of_world answer) c.deref_mut.ensures.value c.mover-number.ensures had stepped
+    (ok_of c.catch_up.result c.catch_up.ensures.shown (sym c.is_err.ensures.value ∙ c.if-is_err.false)) keeps refl in
+    of_run below (below_by c.step-answer.new.self) shown _ (counted (events.World event) (of_world answer)) c.self.invariant (fit_counted (events.World event) (of_world answer) c.know_session.ensures)
+    c.step-answer.ensures.same.0 c.step-answer.ensures.same.1 counts
+
+pub returns-clause-counts : goal.returns-clause-counts
+returns-clause-counts c = rw (← c.self.view_is) (
+    let below = below_by c.self.inside.world in
+    let w = below.world in
+    let shown = c.self.inside.replicas.items in
+    let given = c.deref_mut.result.now in
+    let news = c.catch_up.new.replicas in
+    let event = c.args.event in
+    let answer = c.step-answer.result in
+    let next = c.step-answer.new.self.world in
+    let number = c.mover-number.result in
+    let before = c.len-before.result in
+    let stepped : IsStepped (profile_in below) w event answer next = record {
+      counts = c.step-answer.ensures.counts;
+      answers = c.step-answer.ensures.answers;
+      kept = c.is_no_memory.ensures.no c.if-is_no_memory.false;
+    } in
+    let had : before ≡ length (delivered_of w number) = c.len-before.ensures.value ∙ ap length c.delivered.ensures in
+    let keeps = with_items_is c.self.inside.replicas news (c.catch_up.ensures.count ∙ c.deref_mut.ensures.len) in
+    let counts = went_on (profile_in below) w shown given news _ event answer next number before c.told.result c.deref_mut.ensures.value c.mover-number.ensures had stepped
+    (ok_of c.catch_up.result c.catch_up.ensures.shown (sym c.is_err.ensures.value ∙ c.if-is_err.false)) keeps c.told.ensures in
+    counts)
+
+pub returns-clause-answers : goal.returns-clause-answers
+returns-clause-answers c = rw (← c.self.view_is) (
+    let below = below_by c.self.inside.world in
+    let w = below.world in
+    let shown = c.self.inside.replicas.items in
+    subst (λ (t : Told). IsAnswered (profile_in below) (ensemble w shown) (events.World c.args.event) t) (sym c.told.ensures)
+    (answered_on (profile_in below) w shown c.args.event c.step-answer.result c.step-answer.ensures.answers))

@@ -2,7 +2,7 @@ use Rattle.std.proofs.Common.{sym, ap, ◌∙◌}
 use Rattle.std.proofs.lemmas.Result.{IfOk-weaker}
 use Rattle.std.specs.Option.{option_copied}
 use Rattle.zk_runs.specs.Ensembles.{shown_at}
-use Rattle.zk_ensemble.specs.Views.{shown_by, shown_in, tree_in}
+use Rattle.zk_ensemble.specs.Views.{below_by, tree_in}
 use Rattle.zk_ensemble.proofs.Runs.{tree_of_table}
 use Rattle.zk_ensemble.proofs.ensemble.Ensemble.tree.Goals as goal
 
@@ -10,14 +10,14 @@ pub returns-in-Some-clause-table : goal.returns-in-Some-clause-table
 returns-in-Some-clause-table c = rw (← c.self.view_is) (λ one.
     IfOk-weaker c.tree.result _ _ (λ machine is.
     ap (λ m. m.state) is
-    ∙ ap (λ o. tree_in (shown_in (option_copied o))) (sym c.in-Some.is)
-    ∙ ap tree_in (c.find.ensures.shown ∙ ap (λ rs. shown_at (shown_by rs) c.args.number) c.deref.ensures.value)
-    ∙ tree_of_table c.self.inside.world c.self.inside.replicas.items c.args.number (c.self.invariant (ap (λ v. v.failed) c.self.view_is ∙ c.requires)) one) c.tree.ensures)
+    ∙ ap (λ o. tree_in (option_copied o)) (sym c.in-Some.is)
+    ∙ ap tree_in (c.find.ensures ∙ ap (λ rs. shown_at rs c.args.number) c.deref.ensures.value)
+    ∙ tree_of_table (below_by c.self.inside.world) c.self.inside.replicas.items c.args.number c.self.invariant one) c.tree.ensures)
 
 pub returns-in-None-clause-table : goal.returns-in-None-clause-table
 returns-in-None-clause-table c = rw (← c.self.view_is) (λ one.
     IfOk-weaker c.new.result _ _ (λ machine is.
     ap (λ m. m.state) is
-    ∙ ap (λ o. tree_in (shown_in (option_copied o))) (sym c.in-None.is)
-    ∙ ap tree_in (c.find.ensures.shown ∙ ap (λ rs. shown_at (shown_by rs) c.args.number) c.deref.ensures.value)
-    ∙ tree_of_table c.self.inside.world c.self.inside.replicas.items c.args.number (c.self.invariant (ap (λ v. v.failed) c.self.view_is ∙ c.requires)) one) c.new.ensures)
+    ∙ ap (λ o. tree_in (option_copied o)) (sym c.in-None.is)
+    ∙ ap tree_in (c.find.ensures ∙ ap (λ rs. shown_at rs c.args.number) c.deref.ensures.value)
+    ∙ tree_of_table (below_by c.self.inside.world) c.self.inside.replicas.items c.args.number c.self.invariant one) c.new.ensures)

@@ -1,7 +1,6 @@
 use Rattle.std.proofs.Common.{◌≡◌, replicate}
 use Rattle.zk_runs.specs.Ensembles.{fresh}
-use Rattle.zk_ensemble.specs.Views.{AreRunning, shown_by}
 use Rattle.zk_ensemble.proofs.ensemble.Ensemble.with.Given as goal
 
 abbrev pub invariant-loop : goal.invariant-loop
-invariant-loop l = (shown_by l.replicas.items ≡ replicate l.counter fresh) × AreRunning l.replicas.items
+invariant-loop l = l.replicas.items ≡ replicate l.counter fresh

@@ -1,0 +1,187 @@
+//! Tables that are refused memory are as they were.
+
+ghost use Rattle.std.specs.Prelude.{◌≡◌, pos, IsTrue, Some, false};
+ghost use Rattle.std.specs.FinMap as finite;
+ghost use Rattle.std.specs.Option.{ForSome};
+ghost use Rattle.zk_path.specs.Paths.{parent_of};
+ghost use Rattle.zk_tree.specs.Trees.{owner_at};
+
+use crate::machines::txns;
+use crate::seen::Seen;
+use std::alloc::Global;
+use zk_jute::size;
+use zk_log::{Journal, NotPushed};
+use zk_machine::{Change, ChangeKind};
+use zk_path::{NoMemory, Path};
+use zk_prepare::Tracker;
+use zk_table::{Node, Txn};
+use zk_tree::{Refused, Tree};
+use zk_watch::{Fired, WatchKind, Watches};
+
+fn path_of(alloc: Global, text: &str) -> Result<Path, NoMemory> {
+    Path::read(alloc, text).map_err(|_| NoMemory)
+}
+
+// ---- the sessions of a leader
+
+/// The sessions that are over at some time, in order.
+fn over(tracker: &Tracker) -> Result<Vec<i64>, NoMemory> {
+    tracker.expired(1_000_000)
+}
+
+/// A session is heard of.
+fn touched(tracker: &mut Tracker, session: i64) -> Result<Option<bool>, NoMemory> {
+    let before = over(tracker)?;
+    if tracker.touch(session, 4000, 1000).is_ok() {
+        return Ok(None);
+    }
+    Ok(Some(over(tracker)?.as_slice() == before.as_slice()))
+}
+
+pub(crate) fn touch(alloc: Global) -> Result<Seen, NoMemory> {
+    let mut tracker = Tracker::new(alloc);
+    for session in 1..=9 {
+        if let Some(holds) = touched(&mut tracker, session)? {
+            return Ok(Seen::refused(holds));
+        }
+    }
+    Ok(Seen::done(over(&tracker)?.len() == 9))
+}
+
+// ---- watches
+
+/// The watches, as they are shown for debugging.
+fn shown(alloc: Global, watches: &Watches) -> Result<String, NoMemory> {
+    Ok(format!(in alloc; "{:?}", watches.as_slice())?)
+}
+
+/// Paths at which sessions wait.
+const PATHS: [&str; 5] = ["/a", "/", "/a/b", "/c", "/a"];
+
+/// Another session waits at a path.
+fn waits(
+    alloc: Global,
+    watches: &mut Watches,
+    session: u64,
+    path: &str,
+) -> Result<Option<bool>, NoMemory> {
+    let before = shown(alloc, watches)?;
+    let path = path_of(alloc, path)?;
+    if watches.set(session, WatchKind::Content, &path).is_ok() {
+        return Ok(None);
+    }
+    Ok(Some(shown(alloc, watches)?.as_str() == before.as_str()))
+}
+
+/// Sessions wait, each at a path; or one that was refused memory, and whether it left all as it was.
+fn wait_all(alloc: Global, watches: &mut Watches) -> Result<Option<bool>, NoMemory> {
+    for (session, path) in PATHS.iter().enumerate() {
+        if let Some(holds) = waits(alloc, watches, session as u64, path)? {
+            return Ok(Some(holds));
+        }
+    }
+    Ok(None)
+}
+
+pub(crate) fn set(alloc: Global) -> Result<Seen, NoMemory> {
+    let mut watches = Watches::new(alloc);
+    match wait_all(alloc, &mut watches)? {
+        Some(holds) => Ok(Seen::refused(holds)),
+        None => Ok(Seen::done(watches.as_slice().len() == PATHS.len())),
+    }
+}
+
+/// The content at `/a`, at which two sessions wait, changes.
+pub(crate) fn fire(alloc: Global) -> Result<Seen, NoMemory> {
+    let mut watches = Watches::new(alloc);
+    if wait_all(alloc, &mut watches)?.is_some() {
+        return Err(NoMemory);
+    }
+    let before = shown(alloc, &watches)?;
+    let change = Change {
+        path: path_of(alloc, "/a")?,
+        kind: ChangeKind::DataChanged,
+    };
+    match watches.fire(&[change]) {
+        Ok(told) => Ok(Seen::done(told.len() == 2 && watches.as_slice().len() == 3)),
+        Err(NoMemory) => Ok(Seen::refused(shown(alloc, &watches)?.as_str() == before.as_str())),
+    }
+}
+
+// ---- a tree
+
+/// Whether a node may be put at a path.
+fn can_put(tree: &Tree, path: &Path) -> bool
+    ensures free { IsTrue result → finite.contains_key tree.now path.now ≡ false }
+    ensures below { IsTrue result → ForSome (parent_of path.now) (λ parent. owner_at tree.now parent ≡ Some (pos 0)) }
+{
+    let Some(parent) = path.parent() else {
+        return false;
+    };
+    let Some(above) = tree.get_by_text(parent) else {
+        return false;
+    };
+    above.owner == 0 && tree.get(path).is_none()
+}
+
+/// The paths of a tree, as they are shown for debugging.
+fn paths(alloc: Global, tree: &Tree) -> Result<String, NoMemory> {
+    Ok(format!(in alloc; "{:?}", tree.paths()?.as_slice())?)
+}
+
+/// A node is put at a path. Where memory is refused, whether the tree is as it was, and both come back.
+fn is_put(alloc: Global, tree: &mut Tree, text: &str) -> Result<Option<bool>, NoMemory> {
+    let before = paths(alloc, tree)?;
+    let path = path_of(alloc, text)?;
+    let node = Node::first(alloc)?;
+    if !can_put(tree, &path) {
+        return Ok(Some(false));
+    }
+    match tree.put(path, node) {
+        Ok(()) => Ok(None),
+        Err(Refused { path, node }) => Ok(Some(
+            path.text() == text
+                && node.owner == 0
+                && paths(alloc, tree)?.as_str() == before.as_str(),
+        )),
+    }
+}
+
+pub(crate) fn put(alloc: Global) -> Result<Seen, NoMemory> {
+    let mut tree = Tree::new(alloc)?;
+    for text in &["/a", "/b", "/a/b", "/a/c", "/c", "/d"] {
+        if let Some(holds) = is_put(alloc, &mut tree, text)? {
+            return Ok(Seen::refused(holds));
+        }
+    }
+    Ok(Seen::Done)
+}
+
+// ---- a journal
+
+/// A transaction is appended. Where memory is refused, whether the journal is as it was, and the transaction comes back.
+fn is_pushed(alloc: Global, journal: &mut Journal, txn: Txn) -> Result<Option<bool>, NoMemory> {
+    let before = Vec::from_slice(alloc, journal.bytes())?;
+    let (count, zxid) = (journal.txns().len(), txn.zxid);
+    if zxid <= journal.last_zxid() || size(&txn) > 16_777_216 {
+        return Ok(Some(false));
+    }
+    match journal.push(txn) {
+        Ok(()) => Ok(None),
+        Err(NotPushed { txn }) => Ok(Some(
+            txn.zxid == zxid
+                && journal.txns().len() == count
+                && journal.bytes() == before.as_slice(),
+        )),
+    }
+}
+
+pub(crate) fn push(alloc: Global) -> Result<Seen, NoMemory> {
+    let mut journal = Journal::new(alloc);
+    for txn in txns(alloc)? {
+        if let Some(holds) = is_pushed(alloc, &mut journal, txn)? {
+            return Ok(Seen::refused(holds));
+        }
+    }
+    Ok(Seen::Done)
+}
