@@ -1,0 +1,5 @@
+pub mod Words
+pub mod Texts
+pub mod Answering
+pub mod Hearing
+pub mod Prompts
