@@ -1,5 +1,6 @@
--- What a server had is the front of its history after each event, but for the arrival of a NewLeader.
-use Rattle.std.proofs.Common.{◌≡◌, ◌≢◌, ℕ, zero, suc, pred, ℤ, ◌-◌, ◌&&◌, ◌==◌, nat_lt, max, not, ◌⊎◌, inl, inr, Bool, true, false, cond, List, [], ◌∷◌, ◌++◌, length, take, set, Option, Some, None, Result, Ok, Err, refl, sym, ap, subst}
+-- What a server had is the front of its history after each event, but for the arrival of a NewLeader that cuts.
+use Rattle.std.proofs.Common.{◌≡◌, ◌≢◌, ℕ, zero, suc, pred, ℤ, ◌-◌, ◌&&◌, ◌==◌, nat_lt, int_lt, max, not, ◌⊎◌, inl, inr, Bool, true, false, cond, List, [], ◌∷◌, ◌++◌, length, take, set, Option, Some, None, Result, Ok, Err, refl, sym, ap, subst, arith}
+use Rattle.std.proofs.lemmas.Bool.Decides.{nat_tests}
 use Rattle.zab_epoch.specs.declared.fault.RuleFault.{RuleFault}
 use Rattle.zab_epoch.specs.declared.history.Entry.{Entry}
 use Rattle.zab_epoch.specs.declared.message.Body.{Body}
@@ -9,6 +10,7 @@ use Rattle.zab_epoch.specs.declared.peer.Peer.{Peer}
 use Rattle.zab_epoch.specs.declared.role.Role.{Role}
 use Rattle.zab_epoch.specs.declared.role.Role.TheVariants.{Looking, Discover, Choose, Sync, Broadcast, Following}
 use Rattle.zab_epoch.specs.declared.votes.Vote.{Vote}
+use Rattle.zab_epoch.specs.Entries.{up_to}
 use Rattle.zab_epoch.specs.Roles.{follows, is_choosing}
 use Rattle.zab_epoch.specs.Rules as epoch_rules
 use Rattle.zab_epoch.specs.Tables.{put, marks_of}
@@ -19,7 +21,7 @@ use Rattle.zab_broadcast.specs.Syncs.{is_asked}
 use Rattle.zab_runs.specs.declared.event.Event.{Event}
 use Rattle.zab_runs.specs.declared.event.Event.TheVariants as events
 use Rattle.zab_runs.specs.declared.fault.WorldFault.{WorldFault}
-use Rattle.zab_runs.specs.Replacing.{is_new_leader, has_new_leader, replaces}
+use Rattle.zab_runs.specs.Replacing.{is_cut_by, cuts, replaces}
 use Rattle.zab_runs.specs.Runs.{history_list, history_of}
 use Rattle.zab_runs.specs.Standings.{Standing, standing}
 use Rattle.zab_runs.specs.Worlds.{World, Profile, Answer, is_server, server_at, running, resting, told, said, with_server, acts, receives, message_at, arrives, spends, submits, spends_sync, syncs, crashed, crashes, restarts, happens}
@@ -86,6 +88,36 @@ ack_epoch_front : (C : Type 0) (passes : List Bool → Bool) (peer : Peer) (from
 ack_epoch_front C passes peer from epoch vote told =
     by_test (Keeps {C = C} peer) (epoch == peer.stable.promised) _ _
     (ack_epoch_as_front C passes peer from vote told peer.role) (same peer.stable.history)
+
+not_shorter : (a b : ℕ) → nat_lt (suc a) (suc b) ≡ false → nat_lt a b ≡ false
+not_shorter a b e = grind (arith, nat_tests)
+
+some_more : (n : ℕ) → nat_lt zero (suc n) ≡ false → ⊥
+some_more n e = grind (arith, nat_tests)
+
+-- a history up to a zxid that leaves none out
+all_up_to : (keep : ℤ) (own : List Entry) → nat_lt (length (up_to keep own)) (length own) ≡ false → up_to keep own ≡ own
+all_up_to keep [] e = refl
+all_up_to keep (x ∷ own) e = by_case (int_lt keep x.txn.zxid) (all_up_to keep own) e
+  where
+    by_case : (b : Bool) → (nat_lt (length (up_to keep own)) (length own) ≡ false → up_to keep own ≡ own) → nat_lt (length (cond b [] (x ∷ up_to keep own))) (suc (length own)) ≡ false → cond b [] (x ∷ up_to keep own) ≡ x ∷ own
+    by_case true on e = absurd (some_more (length own) e)
+    by_case false on e = ap (λ l. x ∷ l) (on (not_shorter (length (up_to keep own)) (length own) e))
+
+takes_front : (C : Type 0) (peer : Peer) (from epoch : ℕ) (history : List Entry) → IsFront peer.stable.history history → Keeps {C = C} peer (epoch_rules.takes_history peer from epoch history)
+takes_front C peer from epoch history front =
+    by_test (Keeps {C = C} peer) (epoch_rules.is_behind peer.stable epoch (length history)) _ _ front (same peer.stable.history)
+
+meant_front : (own : List Entry) (keep : ℤ) (rest : List Entry) → up_to keep own ≡ own → IsFront own (epoch_rules.meant own keep rest)
+meant_front own keep rest all = subst (λ l. IsFront own (l ++ rest)) (sym all) (longer own rest)
+
+new_leader_front : (C : Type 0) (peer : Peer) (from epoch : ℕ) (keep : ℤ) (rest : List Entry) → up_to keep peer.stable.history ≡ peer.stable.history → Keeps {C = C} peer (epoch_rules.new_leader peer from epoch keep rest)
+new_leader_front C peer from epoch keep rest all =
+    by_test (Keeps {C = C} peer) (follows peer.role from && (epoch == peer.stable.promised)) _ _
+    (by_test (Keeps {C = C} peer) (epoch_rules.goes_on peer.stable.history keep rest) _ _
+    (takes_front C peer from epoch (epoch_rules.meant peer.stable.history keep rest) (meant_front peer.stable.history keep rest all))
+    (same peer.stable.history))
+    (same peer.stable.history)
 
 -- ---- the same at a server, and broadcast
 
@@ -171,15 +203,17 @@ sync_ask_front C state from epoch tag (Choose votes joiners) = stays state
 sync_ask_front C state from epoch tag Sync = stays state
 sync_ask_front C state from epoch tag (Following leader synced) = stays state
 
--- a message that is no NewLeader
-pub receives_front : {C : Type 0} (setting : Setting C) (from : ℕ) (body : Body C) (state : State) → is_new_leader body ≡ false → KeepsBy state (receives setting from body state)
+-- a message that cuts nothing
+pub receives_front : {C : Type 0} (setting : Setting C) (from : ℕ) (body : Body C) (state : State) → is_cut_by body state.peer.stable.history ≡ false → KeepsBy state (receives setting from body state)
 receives_front {C} setting from (CEpoch promised) state e = c_epoch_front C setting.passes state.peer from promised state.peer.role
 receives_front {C} setting from (NewEpoch epoch) state e = new_epoch_front C state.peer from epoch
 receives_front {C} setting from (AckEpoch epoch vote current last) state e =
     let told : Vote = record { current = current; last = last } in
     let peer : Keeps {C = C} state.peer (epoch_rules.ack_epoch setting.passes state.peer from epoch vote told) = ack_epoch_front C setting.passes state.peer from epoch vote told in
     by_test (KeepsBy {C = C} state) (is_choosing state.peer.role) _ _ peer peer
-receives_front {C} setting from (NewLeader epoch keep rest) state e = absurd cc
+receives_front {C} setting from (NewLeader epoch keep rest) state e =
+    by_test (KeepsBy {C = C} state) (follows state.peer.role from) _ _
+    (new_leader_front C state.peer from epoch keep rest (all_up_to keep state.peer.stable.history e)) (stays state)
 receives_front {C} setting from (AckLeader epoch count) state e =
     by_test (KeepsBy {C = C} state) (epoch == state.peer.stable.promised) _ _
     (ack_leader_front C setting.passes state from count state.peer.role) (stays state)
@@ -235,16 +269,18 @@ spends_sync_front t w n p it stands (Err fault) is front = stands_front w.server
 nothing : {C : Type 0} (w : World C) (p : ℕ) → IsFront (history_of w p) (history_of w p)
 nothing w p = same (history_of w p)
 
-acts_front : {C : Type 0} (w : World C) (n p : ℕ) (rule : State → rules.Acts C) (r : Result Standing WorldFault) → ((it : Standing) → r ≡ Ok it → server_at w.servers n ≡ Some it) → ((state : State) → KeepsBy state (rule state)) → Fronts w (acts w n rule r) p
+acts_front : {C : Type 0} (w : World C) (n p : ℕ) (rule : State → rules.Acts C) (r : Result Standing WorldFault) → ((it : Standing) → r ≡ Ok it → server_at w.servers n ≡ Some it) → ((it : Standing) → r ≡ Ok it → KeepsBy it.state (rule it.state)) → Fronts w (acts w n rule r) p
 acts_front w n p rule (Ok it) is keeps =
-    told_front w n p it (standing it.up (rule it.state).0) (rule it.state).1 (is it refl) (keeps it.state)
+    told_front w n p it (standing it.up (rule it.state).0) (rule it.state).1 (is it refl) (keeps it refl)
 acts_front w n p rule (Err fault) is keeps = nothing w p
 
-arrives_front : {C : Type 0} (setting : Setting C) (w : World C) (p : ℕ) (m : Option (Message C)) → has_new_leader m ≡ false → Fronts w (arrives setting w m) p
+arrives_front : {C : Type 0} (setting : Setting C) (w : World C) (p : ℕ) (m : Option (Message C)) → cuts w m ≡ false → Fronts w (arrives setting w m) p
 arrives_front setting w p None e = nothing w p
 arrives_front setting w p (Some m) e =
     acts_front w m.addressee p (receives setting m.sender m.body) (running w.servers m.addressee)
-    (λ it is. up_is (server_at w.servers m.addressee) it is) (λ state. receives_front setting m.sender m.body state e)
+    (λ it is. up_is (server_at w.servers m.addressee) it is)
+    (λ it is. receives_front setting m.sender m.body it.state
+    (subst (λ o. is_cut_by m.body (history_list o) ≡ false) (up_is (server_at w.servers m.addressee) it is) e))
 
 submits_front : {C : Type 0} (setting : Setting C) (w : World C) (n p : ℕ) (call : C) (r : Result Standing WorldFault) → ((it : Standing) → r ≡ Ok it → server_at w.servers n ≡ Some it) → Fronts w (submits setting w n call r) p
 submits_front setting w n p call (Err fault) is = nothing w p
@@ -277,10 +313,10 @@ runs w n it is = up_is (server_at w.servers n) it is
 
 -- an event other than the arrival of a NewLeader leaves what each server had as the front of its history
 pub happens_front : {C : Type 0} (profile : Profile C) (w : World C) (event : Event C) (p : ℕ) → replaces w event ≡ false → take (length (history_of w p)) (history_of (happens profile w event).0 p) ≡ history_of w p
-happens_front profile w (events.Lead n) p e = acts_front w n p rules.lead (running w.servers n) (runs w n) (λ state. stays state)
+happens_front profile w (events.Lead n) p e = acts_front w n p rules.lead (running w.servers n) (runs w n) (λ it is. stays it.state)
 happens_front {C} profile w (events.Follow n leader) p e =
     by_test (λ (q : World C × Answer). Fronts w q p) (is_server (length w.servers) leader && not (n == leader)) _ _
-    (acts_front w n p (λ state. rules.follow state leader) (running w.servers n) (runs w n) (λ state. stays state)) (nothing w p)
+    (acts_front w n p (λ state. rules.follow state leader) (running w.servers n) (runs w n) (λ it is. stays it.state)) (nothing w p)
 happens_front profile w (events.Arrive number) p e = arrives_front profile.setting w p (message_at w.messages number) e
 happens_front profile w (events.Submit n call) p e = submits_front profile.setting w n p call (running w.servers n) (runs w n)
 happens_front profile w (events.Expire n tag session now) p e =

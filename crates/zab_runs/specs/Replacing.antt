@@ -1,21 +1,25 @@
--- Which events may replace a server's history. Own; Zab's followers take their leader's at a NewLeader.
-use Rattle.std.specs.Prelude.{Bool, true, false, Option, Some, None}
+-- Which events make a server drop entries. Own; Zab's followers cut to what they share with their leader, at a NewLeader.
+use Rattle.std.specs.Prelude.{Bool, true, false, nat_lt, List, length, Option, Some, None}
+use Rattle.zab_epoch.specs.declared.history.Entry.{Entry}
 use Rattle.zab_epoch.specs.declared.message.Body.{Body}
 use Rattle.zab_epoch.specs.declared.message.Body.TheVariants.{NewLeader}
 use Rattle.zab_epoch.specs.declared.message.Message.{Message}
+use Rattle.zab_epoch.specs.Entries.{up_to}
 use Rattle.zab_runs.specs.declared.event.Event.{Event}
 use Rattle.zab_runs.specs.declared.event.Event.TheVariants.{Arrive}
+use Rattle.zab_runs.specs.Runs.{history_of}
 use Rattle.zab_runs.specs.Worlds.{World, message_at}
 
-abbrev pub is_new_leader : {C : Type 0} → Body C → Bool
-is_new_leader (NewLeader epoch keep rest) = true
-is_new_leader body = false
+-- a server with such a history has entries behind those that what it hears keeps
+abbrev pub is_cut_by : {C : Type 0} → Body C → List Entry → Bool
+is_cut_by (NewLeader epoch keep rest) own = nat_lt (length (up_to keep own)) (length own)
+is_cut_by body own = false
 
-abbrev pub has_new_leader : {C : Type 0} → Option (Message C) → Bool
-has_new_leader None = false
-has_new_leader (Some it) = is_new_leader it.body
+abbrev pub cuts : {C : Type 0} → World C → Option (Message C) → Bool
+cuts w None = false
+cuts w (Some it) = is_cut_by it.body (history_of w it.addressee)
 
 -- every other event leaves what a server had as the front of its history
 abbrev pub replaces : {C : Type 0} → World C → Event C → Bool
-replaces w (Arrive number) = has_new_leader (message_at w.messages number)
+replaces w (Arrive number) = cuts w (message_at w.messages number)
 replaces w event = false

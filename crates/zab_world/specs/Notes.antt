@@ -17,7 +17,7 @@ use Rattle.zab_world.specs.declared.note.Note.{Note}
 
 -- ---- what is noted
 
--- what a server keeps; its history whole where that may be replaced, else its length
+-- what a server keeps; its history whole where it may drop some of that, else its length
 abbrev pub kept_at : Bool → State → Kept
 kept_at replaced state = record {
   servers = state.peer.servers;

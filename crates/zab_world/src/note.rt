@@ -28,7 +28,7 @@ pub(crate) struct Kept {
     pub(crate) current: u32,
     /// How many entries it had, where they are the first ones still;
     pub(crate) length: usize,
-    /// its history, where the step may replace that.
+    /// its history, where the step makes it drop some.
     pub(crate) replaced: Option<History>,
 }
 
@@ -36,7 +36,7 @@ impl Kept {
     ghost use Rattle.std.specs.Prelude.{◌≡◌, IfOk};
     ghost use Rattle.zab_world.specs.Notes.{kept_at};
 
-    /// What a server keeps; its history whole where that may be replaced, else its length.
+    /// What a server keeps; its history whole where it may drop some of that, else its length.
     pub(crate) fn of(state: &State, replaced: bool) -> Result<Kept, NoMemory>
         ensures { IfOk result (λ kept. kept ≡ kept_at replaced state.now) }
     {
