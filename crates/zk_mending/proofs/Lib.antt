@@ -1,5 +1,8 @@
 -- Lemmas of this crate.
 pub mod Ends
+pub mod OldLogs
+pub mod OneWay
 pub mod Refusals
 pub mod Steps
 pub mod Walks
+pub mod Wholes

@@ -1,10 +1,66 @@
--- What a walk over a log's entries tells of its reader.
-use Rattle.std.specs.Prelude.{◌≡◌, ℕ, ◌+◌, Result, Err}
+-- What mending a log promises, over the bytes that its reader has, where they are known.
+use Rattle.std.specs.Prelude.{◌≡◌, ℕ, ◌+◌, ℤ, List, ◌++◌, Option, None, Some, Result, Ok, Err, FitsSigned}
+use Rattle.std.specs.Int.{w64}
 use Rattle.zk_log.specs.Devices.{reads_of, read_failures_of}
+use Rattle.zk_log.specs.Logs.{header_of, HasNoHeader}
 use Rattle.zk_log.specs.declared.fault.LogFault.TheVariants as log_faults
 use Rattle.zk_log.specs.declared.source.Source.{Source}
+use Rattle.zk_newer.specs.declared.newer.Newer.{Newer}
+use Rattle.zk_mending.specs.NewerLogs.{start_place, after_all, txns_in, Mends}
 use Rattle.zk_mending.specs.declared.fault.MendFault.{MendFault}
 use Rattle.zk_mending.specs.declared.fault.MendFault.TheVariants as faults
+use Rattle.zk_mending.specs.declared.mended.Mended.{Mended}
+
+-- ---- whole logs
+
+-- The entries behind a header, of records that each may come next, and a rest that is an ending: what is mended of them is
+-- the list of the transactions that the records stand for.
+pub record IsMendedBody (body : List ℕ) (mended : Mended) : Type 0 where
+  pub newers : List Newer
+  pub mends : Mends start_place body newers (Ok mended.ending)
+  pub journal : mended.journal ≡ txns_in newers
+  pub told : mended.told ≡ (after_all start_place newers).told
+
+-- A newer server's log: the header, and such entries.
+pub record IsMended (bytes : List ℕ) (mended : Mended) : Type 0 where
+  pub dbid_fits : FitsSigned w64 mended.dbid
+  pub body : List ℕ
+  pub spelled : bytes ≡ header_of mended.dbid ++ body
+  pub entries : IsMendedBody body mended
+
+-- A log that may be mended up to the place of the fault.
+pub record IsUnmendedAt (bytes : List ℕ) (fault : MendFault) : Type 0 where
+  pub dbid : ℤ
+  pub dbid_fits : FitsSigned w64 dbid
+  pub body : List ℕ
+  pub spelled : bytes ≡ header_of dbid ++ body
+  pub newers : List Newer
+  pub entries : Mends start_place body newers (Err fault)
+
+-- what a file is refused for
+abbrev pub IsUnmended : List ℕ → MendFault → Type 0
+IsUnmended bytes (faults.Log log_faults.Header) = HasNoHeader bytes
+IsUnmended bytes fault = IsUnmendedAt bytes fault
+
+-- ---- what is answered
+
+-- the reader failed, all turns were used, or memory ran out: nothing is said of the bytes
+abbrev pub Answers : Option (List ℕ) → Result Mended MendFault → Type 0
+Answers None answer = Unit {0}
+Answers (Some bytes) (Ok mended) = IsMended bytes mended
+Answers (Some bytes) (Err (faults.Log log_faults.Read)) = Unit {0}
+Answers (Some bytes) (Err (faults.Log log_faults.Endless)) = Unit {0}
+Answers (Some bytes) (Err (faults.Log log_faults.NoMemory)) = Unit {0}
+Answers (Some bytes) (Err fault) = IsUnmended bytes fault
+
+-- the same of what stands behind a header
+abbrev pub AnswersBody : Option (List ℕ) → Result Mended MendFault → Type 0
+AnswersBody None answer = Unit {0}
+AnswersBody (Some body) (Ok mended) = IsMendedBody body mended
+AnswersBody (Some body) (Err (faults.Log log_faults.Read)) = Unit {0}
+AnswersBody (Some body) (Err (faults.Log log_faults.Endless)) = Unit {0}
+AnswersBody (Some body) (Err (faults.Log log_faults.NoMemory)) = Unit {0}
+AnswersBody (Some body) (Err fault) = (newers : List Newer) × Mends start_place body newers (Err fault)
 
 -- Failures are counted where they are told, and all turns are used where that is told.
 abbrev pub Tells : {R T : Type 0} → Source R → ℕ → Result T MendFault → Source R → Type 0

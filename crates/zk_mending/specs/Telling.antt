@@ -37,6 +37,10 @@ nothing_told = record {
   kept_body = no_tally;
 }
 
+-- so many records went over byte for byte, and no other came
+abbrev pub unchanged_told : ℕ → Told
+unchanged_told count = record nothing_told { records = count; unchanged = count }
+
 -- ---- digests
 
 -- the server's claim is this sum, or is another
