@@ -1,0 +1,3 @@
+-- Lemmas.
+pub mod AnswerLaws
+pub mod OutsideMultis

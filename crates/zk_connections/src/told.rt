@@ -1,0 +1,65 @@
+ghost use Rattle.std.specs.Prelude.{◌≡◌};
+
+use std::marker::Model;
+use zk_machine::Change;
+use zk_table::{ReadReply, TxnResult};
+
+/// What happened that a session waited for, in order, seen as its list.
+#[derive(Debug, Drop)]
+pub struct Events {
+    events: Vec<Change>,
+}
+
+impl Model for Events {
+    ghost use Rattle.std.specs.Prelude.{List};
+    ghost use Rattle.zk_machine.specs.declared.change.Change.{Change};
+
+    ghost Value = { List Change };
+
+    ghost view = { λ events. events.events.items };
+}
+
+impl Events {
+    /// These events, without memory.
+    pub fn new(events: Vec<Change>) -> Events
+        ensures { result ≡ events.items }
+    {
+        Events { events }
+    }
+
+    /// The events, lent.
+    pub fn as_slice(&self) -> &[Change]
+        ensures { result.now ≡ self.now }
+    {
+        self.events.as_slice()
+    }
+}
+
+/// What the service answers to an ask.
+#[derive(Debug, Drop)]
+pub enum Reply {
+    /// To a write: what its transaction answered.
+    Wrote(TxnResult),
+    /// To a read: what it was told, and the last transaction of the server that was read.
+    Looked { reply: ReadReply, zxid: i64 },
+    /// To a sync: the server has caught up.
+    Caught,
+}
+
+/// What the service tells: the events of the session that it was not told before, and the answer.
+#[derive(Debug, Drop)]
+pub struct Told {
+    pub events: Events,
+    pub reply: Reply,
+}
+
+/// Why an ask is told nothing.
+#[derive(Clone, Copy, Debug, PartialEq, Eq)]
+pub enum ServiceFault {
+    /// The server could not answer.
+    Server,
+    /// The client has seen more than the server.
+    Behind,
+    /// Memory was refused.
+    Memory,
+}
