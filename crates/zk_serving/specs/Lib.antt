@@ -1,0 +1,4 @@
+-- What the contracts of this crate cite.
+pub mod Fronts
+pub mod Reaching
+pub mod Serving
