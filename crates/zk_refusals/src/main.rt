@@ -6,6 +6,7 @@
 //! status is 3 where something else was left, 2 where there is no such case, and 1 where memory was refused elsewhere.
 #![tactic(auto)]
 
+mod chronicles;
 mod machines;
 mod seen;
 mod tables;
@@ -58,6 +59,7 @@ fn case(alloc: Global, word: &str) -> Result<Option<Seen>, NoMemory> {
         "put" => tables::put(alloc)?,
         "push" => tables::push(alloc)?,
         "step" => worlds::step(alloc)?,
+        "add" => chronicles::add(alloc)?,
         _ => return Ok(None),
     };
     Ok(Some(seen))
