@@ -1,0 +1,17 @@
+-- The line on standard error that tells why a log was not mended: a fault's number, then its place in decimal.
+use Rattle.std.specs.Prelude.{ℕ, List, ◌++◌, codes}
+use Rattle.std.specs.Fmt.{decimal}
+use Rattle.zk_mending.specs.declared.fault.MendFault.{MendFault}
+use Rattle.zk_mending.specs.declared.fault.MendFault.TheVariants as faults
+use Rattle.zk_orders.specs.FaultLines.{line_of_log_fault}
+
+abbrev pub place_line : List ℕ → ℕ → List ℕ
+place_line number at = codes "zk: " ++ number ++ codes " " ++ decimal at ++ codes "\n"
+
+-- what a loader refuses keeps its line
+abbrev pub line_of_mend_fault : MendFault → List ℕ
+line_of_mend_fault (faults.Log fault) = line_of_log_fault fault
+line_of_mend_fault (faults.Record at) = place_line (codes "G3") at
+line_of_mend_fault (faults.NoReason at) = place_line (codes "N1") at
+line_of_mend_fault (faults.OtherNodes at) = place_line (codes "N2") at
+line_of_mend_fault (faults.TooLong at) = place_line (codes "N3") at

@@ -1,0 +1,4 @@
+-- What the contracts of this crate cite.
+pub mod FaultLines
+pub mod Mends
+pub mod Reports

@@ -1,0 +1,37 @@
+-- What is reported of a log that was mended. Own words.
+use Rattle.std.specs.Prelude.{ℕ, List, [], ◌++◌, nat_eq, if◌then◌else◌, codes}
+use Rattle.std.specs.Fmt.{decimal}
+use Rattle.zk_log.specs.declared.loaded.Ending.{Ending}
+use Rattle.zk_log.specs.declared.loaded.Ending.TheVariants.{Whole, Padding, Torn}
+use Rattle.zk_mending.specs.declared.told.Tally.{Tally}
+use Rattle.zk_mending.specs.declared.told.Told.{Told}
+
+-- how many records there are, and how many of them went over byte for byte
+abbrev pub count_lines : Told → List ℕ
+count_lines told = codes "records " ++ decimal told.records ++ codes "\nunchanged " ++ decimal told.unchanged ++ codes "\n"
+
+-- a change that came: its word, how often it came, and the offset of the first entry with one
+abbrev pub tally_line : List ℕ → Tally → List ℕ
+tally_line word tally = if nat_eq tally.times 0 then [] else word ++ codes " " ++ decimal tally.times ++ codes " " ++ decimal tally.first ++ codes "\n"
+
+-- digests that are the sum of the table's tree, and others
+abbrev pub digest_lines : Told → List ℕ
+digest_lines told = tally_line (codes "digest") told.digest ++ tally_line (codes "otherDigest") told.other_digest
+
+-- operations that 3.4 doesn't know
+abbrev pub kind_lines : Told → List ℕ
+kind_lines told =
+    tally_line (codes "create2") told.create2 ++ tally_line (codes "createContainer") told.create_container ++ tally_line (codes "createTtl") told.create_ttl ++ tally_line (codes "deleteContainer") told.delete_container
+    ++ tally_line (codes "reconfig") told.reconfig
+
+abbrev pub other_lines : Told → List ℕ
+other_lines told = tally_line (codes "check") told.check ++ tally_line (codes "closePaths") told.close_paths ++ tally_line (codes "otherPaths") told.other_paths ++ tally_line (codes "keptBody") told.kept_body
+
+-- how the log ends
+abbrev pub end_lines : Ending → List ℕ
+end_lines Whole = codes "end whole\n"
+end_lines Padding = codes "end padding\n"
+end_lines (Torn at) = codes "end torn " ++ decimal at ++ codes "\n"
+
+unfoldable pub mend_report : Told → Ending → List ℕ
+mend_report told ending = count_lines told ++ digest_lines told ++ kind_lines told ++ other_lines told ++ end_lines ending
