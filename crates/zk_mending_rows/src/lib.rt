@@ -1,0 +1,5 @@
+//! Rows of `zk_mending`.
+#![tactic(auto)]
+
+#[cfg(test)]
+mod mending_rows;
