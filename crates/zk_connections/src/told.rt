@@ -1,7 +1,9 @@
 ghost use Rattle.std.specs.Prelude.{◌≡◌};
+ghost use Rattle.zk_connections.specs.declared.told.ServiceFault.TheVariants as faults;
 
 use std::marker::Model;
 use zk_machine::Change;
+use zk_path::NoMemory;
 use zk_table::{ReadReply, TxnResult};
 
 /// What happened that a session waited for, in order, seen as its list.
@@ -62,4 +64,12 @@ pub enum ServiceFault {
     Behind,
     /// Memory was refused.
     Memory,
+}
+
+impl From<NoMemory> for ServiceFault {
+    ghost from_gives = { λ _ e. e ≡ faults.Memory };
+
+    fn from(_refused: NoMemory) -> ServiceFault {
+        ServiceFault::Memory
+    }
 }
