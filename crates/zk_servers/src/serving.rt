@@ -1,0 +1,130 @@
+ghost use Rattle.std.specs.Prelude.{◌≡◌, ◌++◌, ◌∷◌, [], true, false};
+ghost use Rattle.zk_servers.specs.Calls.{made};
+ghost use Rattle.zk_servers.specs.Turns.{DidTurns};
+
+use crate::inbox::{Inbox, Senders};
+use crate::record::Receipt;
+use crate::seat::Seat;
+use crate::shared::Shared;
+use std::alloc::Global;
+use std::sync::Wait;
+use std::sync::ledger::Ledger;
+use zab_runs::Moved;
+use zk_ensemble::{Answer, Event};
+
+/// What each thread passes before each of its turns.
+pub trait Gate {
+    fn enter(&self, server: usize, turn: u32);
+}
+
+/// What a server's thread begins with.
+#[derive(Drop)]
+pub struct Worker<L: Ledger> {
+    pub server: usize,
+    pub seat: Seat<L>,
+    pub inbox: Inbox,
+    pub jobs: Vec<Event>,
+}
+
+/// What a server's thread hands back.
+#[derive(Drop)]
+pub struct Worked<L: Ledger> {
+    pub seat: Seat<L>,
+    pub receipts: Vec<Receipt>,
+    pub passed: usize,
+}
+
+/// A server's turns.
+pub(crate) fn serve<L: Ledger, G: Gate, R: Wait>(
+    rt: &R,
+    alloc: Global,
+    shared: &Shared<L>,
+    gate: &G,
+    senders: &Senders,
+    worker: Worker<L>,
+    turns: u32,
+) -> Worked<L>
+    ensures { DidTurns worker.seat worker.jobs.items turns result.seat result.receipts.items result.passed }
+{
+    let Worker {
+        server,
+        seat,
+        inbox,
+        jobs,
+    } = worker;
+    let mut seat = seat;
+    let mut jobs = jobs;
+    jobs.truncate(turns as usize);
+    let first = jobs.len() as u32;
+    let mut receipts = Vec::new(alloc);
+    let mut passed: usize = 0;
+    let mut turn: u32 = 0;
+    for job in jobs {
+        gate.enter(server, turn);
+        turn += 1;
+        if !call_once(rt, shared, senders, &mut seat, &mut receipts, job) {
+            passed += 1;
+        }
+    }
+    for turn in first..turns {
+        gate.enter(server, turn);
+        let Some(message) = inbox.next(rt) else {
+            break;
+        };
+        call_once(
+            rt,
+            shared,
+            senders,
+            &mut seat,
+            &mut receipts,
+            Event::World(zab_runs::Event::Arrive { message }),
+        );
+    }
+    Worked {
+        seat,
+        receipts,
+        passed,
+    }
+}
+
+/// One call, whose new messages go to their addressees. Whether it was made.
+fn call_once<L: Ledger, R: Wait>(
+    rt: &R,
+    shared: &Shared<L>,
+    senders: &Senders,
+    seat: &mut Seat<L>,
+    receipts: &mut Vec<Receipt>,
+    event: Event,
+) -> bool
+    ensures made { result ≡ true → (receipt : Receipt) × (receipts.new.items ≡ receipts.old.items ++ receipt ∷ []) × (seat.new ≡ seat.old ++ made receipt.number event ∷ []) }
+    ensures refused { result ≡ false → (receipts.new.items ≡ receipts.old.items) × (seat.new ≡ seat.old) }
+{
+    if receipts.reserve(1).is_err() {
+        return false;
+    }
+    let Ok(receipt) = shared.call(rt, seat, event) else {
+        return false;
+    };
+    let sent = sent_by(&receipt);
+    receipts.push_reserved(receipt);
+    send_new(rt, shared, senders, sent);
+    true
+}
+
+/// The messages that an event sent.
+fn sent_by(receipt: &Receipt) -> Moved {
+    match &receipt.answer {
+        Ok(Answer::Moved(moved)) => *moved,
+        _ => Moved { first: 0, count: 0 },
+    }
+}
+
+/// New messages go to their addressees.
+fn send_new<L: Ledger, R: Wait>(rt: &R, shared: &Shared<L>, senders: &Senders, sent: Moved) {
+    for more in 0..sent.count {
+        let Some(message) = sent.first.checked_add(more) else {
+            return;
+        };
+        senders.send(rt, shared.addressee(rt, message), message);
+    }
+}
