@@ -1,0 +1,4 @@
+pub mod BytesLaws
+pub mod LineLaws
+pub mod TurnLaws
+pub mod TalkLaws

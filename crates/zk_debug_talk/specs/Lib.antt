@@ -1,0 +1,4 @@
+pub mod Lines
+pub mod Hearing
+pub mod Talking
+pub mod Holding
