@@ -1,19 +1,13 @@
 -- How a walk over the entries ends, and what the reader tells.
-use Rattle.std.proofs.Common.{◌≡◌, ℕ, ◌+◌, ◌<◌, ◌≤◌, List, ◌++◌, length, drop, Option, None, Some, Result, Ok, Err, refl, sym, ap, ◌∙◌, subst, arith, length-append}
+use Rattle.std.proofs.Common.{◌≡◌, ℕ, ◌+◌, ◌<◌, ◌≤◌, List, ◌++◌, length, drop, Option, None, Some, Err, ap, ◌∙◌, arith, length-append}
 use Rattle.std.specs.Io.KnownBytes.{prepend_known}
 use Rattle.zk_log.proofs.Framing.{length-framed, states}
 use Rattle.zk_log.specs.Cutting.{IsEntry}
-use Rattle.zk_log.specs.Devices.{reads_of, read_failures_of}
-use Rattle.zk_log.specs.Filling.{Fills}
 use Rattle.zk_log.specs.Logs.{framed, has_head, most_bytes, stated_length}
-use Rattle.zk_log.specs.declared.fault.LogFault.{LogFault}
 use Rattle.zk_log.specs.declared.fault.LogFault.TheVariants as log_faults
-use Rattle.zk_log.specs.declared.source.Source.{Source}
 use Rattle.zk_mending.proofs.Walks.{length-newer_entry}
-use Rattle.zk_mending.specs.Mending.{Tells}
 use Rattle.zk_mending.specs.NewerLogs.{Place, start_place, after_all}
-use Rattle.zk_mending.specs.Walking.{IsAt, IsOwnFault, Takes, Walked, Walks}
-use Rattle.zk_mending.specs.declared.fault.MendFault.{MendFault}
+use Rattle.zk_mending.specs.Walking.{IsAt, Takes, Walked, Walks}
 use Rattle.zk_mending.specs.declared.fault.MendFault.TheVariants as faults
 use Rattle.zk_mending.specs.declared.walk.Walk.{Walk}
 

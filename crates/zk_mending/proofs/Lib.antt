@@ -1,5 +1,6 @@
 -- Lemmas of this crate.
 pub mod Ends
+pub mod NewerTrees
 pub mod OldLogs
 pub mod OneWay
 pub mod Refusals

@@ -1,23 +1,21 @@
 -- A log of 3.4 is mended to itself.
-use Rattle.std.proofs.Common.{◌≡◌, ℕ, suc, ◌+◌, ◌-◌, ◌<◌, ◌≤◌, ◌^◌, min, ℤ, pos, ◌<ℤ◌, Bool, true, false, not, cond, List, [], ◌∷◌, ◌++◌, length, map, Option, None, Some, Ok, refl, sym, ap, ◌∙◌, subst, arith, length-append}
+use Rattle.std.proofs.Common.{◌≡◌, ℕ, ◌+◌, ◌≤◌, ℤ, ◌<ℤ◌, Bool, true, false, not, cond, List, [], ◌∷◌, ◌++◌, length, map, None, Some, refl, sym, ap, ◌∙◌, subst, arith, length-append}
 use Rattle.std.proofs.lemmas.Bool.Decides.{nat_tests}
 use Rattle.std.proofs.lemmas.Int.{ints}
 use Rattle.std.proofs.lemmas.List.Sums.{sum_by-cons}
 use Rattle.std.specs.List.{flat_map, list_all, AllByRecursion}
 use Rattle.std.specs.Prelude.{count_by, int_le, nat_lt}
 use Rattle.zk_digest.specs.Digests.{tree_digest}
-use Rattle.zk_jute.specs.Records.{record_of, IsRecordOf}
+use Rattle.zk_jute.specs.Records.{record_of}
 use Rattle.zk_jute.specs.Sizes.{capped, size_of}
 use Rattle.zk_log.specs.Checksum.{adler_of}
-use Rattle.zk_log.specs.Logs.{framed, entry_of, most_bytes, HasEntry, Rises, Holds, Ends, IsLogOf}
+use Rattle.zk_log.specs.Logs.{framed, entry_of, most_bytes, HasEntry, Rises, Ends, IsLogOf}
 use Rattle.zk_log.specs.declared.loaded.Ending.{Ending}
 use Rattle.zk_newer.proofs.Standing.{old_ones_stand}
-use Rattle.zk_newer.specs.Changes.{count_of, count_in, is_own_part, is_part_change, is_unchanged}
+use Rattle.zk_newer.specs.Changes.{is_own_part, is_part_change}
 use Rattle.zk_newer.specs.Newer.{newer_record, own, own_form, own_part_form, tells_why, IsNewer, IsSpelled}
 use Rattle.zk_newer.specs.declared.changes.Change.{Change}
 use Rattle.zk_newer.specs.declared.changes.Change.TheVariants as changes
-use Rattle.zk_newer.specs.declared.newer.Form.TheVariants as forms
-use Rattle.zk_newer.specs.declared.newer.Newer.{Newer}
 use Rattle.zk_table.specs.States.{NodeMap}
 use Rattle.zk_table.specs.Steps.{step}
 use Rattle.zk_txn.specs.declared.sub.Sub.{Sub}
@@ -25,7 +23,7 @@ use Rattle.zk_txn.specs.declared.txn.Op.{Op}
 use Rattle.zk_txn.specs.declared.txn.Op.TheVariants as ops
 use Rattle.zk_txn.specs.declared.txn.Txn.{Txn}
 use Rattle.zk_mending.specs.Mending.{IsMended}
-use Rattle.zk_mending.specs.NewerLogs.{Place, start_place, after_all, after_record, owners_next, newer_entry, txns_in, refusal, closes_others, lists_others, AllMayCome, HasNewerEntry, MayCome, Mends}
+use Rattle.zk_mending.specs.NewerLogs.{Place, start_place, after_all, after_record, owners_next, newer_entry, txns_in, closes_others, lists_others, AllMayCome, HasNewerEntry, MayCome}
 use Rattle.zk_mending.specs.Telling.{added, told_after, unchanged_told}
 use Rattle.zk_mending.specs.declared.fault.MendFault.{MendFault}
 use Rattle.zk_mending.specs.declared.told.Told.{Told}

@@ -1,5 +1,5 @@
 -- The same bytes are mended in one way.
-use Rattle.std.proofs.Common.{◌≡◌, ◌≢◌, ℕ, ◌+◌, ◌*◌, ◌%◌, ◌^◌, ◌<◌, ◌≤◌, ℤ, pos, negsuc, inl, inr, ◌⊎◌, List, [], ◌∷◌, ◌++◌, length, take, drop, Option, None, Some, Result, Ok, Err, FitsSigned, refl, sym, ap, ◌∙◌, subst, append_assoc, arith, length-append, to_z, of_z, w64}
+use Rattle.std.proofs.Common.{◌≡◌, ℕ, ◌+◌, ◌*◌, ◌%◌, ◌^◌, ◌<◌, ◌≤◌, ℤ, pos, negsuc, inl, inr, ◌⊎◌, List, [], ◌∷◌, ◌++◌, length, take, drop, Option, None, Some, Result, Ok, Err, FitsSigned, refl, sym, ap, ◌∙◌, subst, append_assoc, arith, to_z, of_z, w64}
 use Rattle.std.proofs.lemmas.Int.{to_z-of_z}
 use Rattle.std.proofs.lemmas.List.{append_cancel_left}
 use Rattle.std.proofs.lemmas.Nat.{from_be_bytes-to_be_bytes_8}
@@ -9,8 +9,7 @@ use Rattle.zk_jute.specs.Records.{long}
 use Rattle.zk_log.proofs.OnlyLaws.{IsSame, one_record, like_stop}
 use Rattle.zk_log.proofs.Verdicts.{rank, verdict_on, stops_verdict, stands_entry}
 use Rattle.zk_log.specs.Checksum.{adler_of, sum_one, sum_two}
-use Rattle.zk_log.specs.Logs.{framed, header_of, HasNoHeader, Stands, Ends}
-use Rattle.zk_log.specs.declared.fault.LogFault.{LogFault}
+use Rattle.zk_log.specs.Logs.{header_of, HasNoHeader, Stands, Ends}
 use Rattle.zk_log.specs.declared.fault.LogFault.TheVariants as log_faults
 use Rattle.zk_log.specs.declared.loaded.Ending.{Ending}
 use Rattle.zk_log.specs.declared.loaded.Ending.TheVariants.{Whole, Padding, Torn}

@@ -1,7 +1,5 @@
 -- What is known of a record that may come next, or is refused.
-use Rattle.std.proofs.Common.{◌≡◌, ◌≢◌, ℕ, ◌<◌, ◌≤◌, ℤ, pos, ◌<ℤ◌, ◌≤ℤ◌, Bool, true, false, not, cond, List, Option, None, Some, Result, Ok, Err, IfErr, refl, sym, ap, ◌∙◌, subst}
-use Rattle.zk_jute.specs.Records.{record_of}
-use Rattle.zk_jute.specs.Sizes.{size_of}
+use Rattle.std.proofs.Common.{◌≡◌, ◌≢◌, ℕ, ℤ, Bool, true, false, not, cond, List, Option, None, Some, Result, Ok, Err, IfErr, refl, sym, subst}
 use Rattle.zk_log.proofs.Framing.{entry_stands}
 use Rattle.zk_log.specs.Checksum.{adler_of}
 use Rattle.zk_log.specs.Cutting.{IsEntry}
@@ -17,7 +15,7 @@ use Rattle.zk_mending.specs.declared.fault.MendFault.TheVariants as faults
 use Rattle.zk_mending.specs.declared.walk.Walk.{Walk}
 
 -- one test of a refusal: it passed, and the next ones did
-passed : (test : Bool) (fault : MendFault) (next : Option MendFault) → cond test (Some fault) next ≡ None → (test ≡ false) × (next ≡ None)
+pub passed : (test : Bool) (fault : MendFault) (next : Option MendFault) → cond test (Some fault) next ≡ None → (test ≡ false) × (next ≡ None)
 passed true fault next e = absurd (no_some fault e)
   where
     no_some : (fault : MendFault) → (let found : Option MendFault = Some fault in found ≡ None) → ⊥

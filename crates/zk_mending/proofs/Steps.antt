@@ -1,5 +1,5 @@
 -- One record: what a walk is after it.
-use Rattle.std.proofs.Common.{◌≡◌, ℕ, ◌+◌, ◌≤◌, ℤ, pos, Bool, false, List, [], ◌∷◌, ◌++◌, length, refl, sym, ap, ◌∙◌, subst, arith}
+use Rattle.std.proofs.Common.{◌≡◌, ℕ, ◌+◌, ℤ, pos, Bool, false, List, [], ◌∷◌, ◌++◌, length, refl, sym, ap, ◌∙◌, subst, arith}
 use Rattle.zk_digest.specs.Digests.{Owners, tree_digest}
 use Rattle.zk_digest.specs.Following.{IsDigestOf, owners_after}
 use Rattle.zk_log.specs.Logs.{last_of}
@@ -10,7 +10,7 @@ use Rattle.zk_txn.specs.declared.txn.Txn.{Txn}
 use Rattle.zk_table.specs.States.{State}
 use Rattle.zk_table.specs.Steps.{step}
 use Rattle.zk_mending.proofs.Walks.{length-newer_entry}
-use Rattle.zk_mending.specs.NewerLogs.{Place, after_record, owners_next, lists_others}
+use Rattle.zk_mending.specs.NewerLogs.{Place, owners_next, lists_others}
 use Rattle.zk_mending.specs.Telling.{told_after}
 use Rattle.zk_mending.specs.Walking.{IsAt, Follows}
 use Rattle.zk_mending.specs.declared.walk.Walk.{Walk}

@@ -1,5 +1,5 @@
 -- What a walk over entries carries from one to the next.
-use Rattle.std.proofs.Common.{◌≡◌, ◌≢◌, ℕ, ◌+◌, ◌<◌, ◌≤◌, ℤ, pos, List, [], ◌∷◌, ◌++◌, length, drop, map, Option, None, Some, Result, Ok, Err, refl, sym, ap, ◌∙◌, subst, append_assoc, append-nil, arith, length-append}
+use Rattle.std.proofs.Common.{◌≡◌, ◌≢◌, ℕ, ◌+◌, ◌≤◌, List, [], ◌∷◌, ◌++◌, length, drop, Option, None, Some, Ok, Err, refl, sym, ap, ◌∙◌, subst, append_assoc, append-nil, arith, length-append}
 use Rattle.std.proofs.lemmas.Grind.{flat_map-append}
 use Rattle.std.proofs.lemmas.List.{drop-append-le}
 use Rattle.std.specs.Io.KnownBytes.{Keeps, Consumes, IsAtEnd, prepend_known}
@@ -8,17 +8,14 @@ use Rattle.zk_log.proofs.Carried.{part_ends}
 use Rattle.zk_log.proofs.Framing.{length-framed}
 use Rattle.zk_log.specs.Checksum.{adler_of}
 use Rattle.zk_log.specs.Cutting.{IsEntry}
-use Rattle.zk_log.specs.Filling.{Fills}
 use Rattle.zk_log.specs.Loading.{ending_of_part}
 use Rattle.zk_log.specs.Logs.{framed, most_bytes, Ends, IsPart}
-use Rattle.zk_log.specs.declared.fault.LogFault.{LogFault}
 use Rattle.zk_log.specs.declared.fault.LogFault.TheVariants as log_faults
 use Rattle.zk_log.specs.declared.loaded.Ending.{Ending}
-use Rattle.zk_log.specs.declared.source.Source.{Source}
 use Rattle.zk_newer.specs.Newer.{newer_record, IsSpelled}
 use Rattle.zk_newer.specs.declared.newer.Newer.{Newer}
 use Rattle.zk_mending.specs.NewerLogs.{Place, start_place, after_all, after_record, newer_entry, txns_in, AllMayCome, HasNewerEntry, MayCome, IsMendFault, Mends}
-use Rattle.zk_mending.specs.Walking.{IsAt, Takes, Refuses, Walked, WalksTo, Walks}
+use Rattle.zk_mending.specs.Walking.{IsAt, Takes, Refuses, Walked, Walks}
 use Rattle.zk_mending.specs.declared.fault.MendFault.{MendFault}
 use Rattle.zk_mending.specs.declared.fault.MendFault.TheVariants as faults
 use Rattle.zk_mending.specs.declared.walk.Walk.{Walk}

@@ -1,5 +1,5 @@
 -- A whole file: its header, its entries, and the reads that were made.
-use Rattle.std.proofs.Common.{◌≡◌, ℕ, ◌+◌, ℤ, List, ◌++◌, Option, None, Some, Result, Ok, Err, IfOk, FitsSigned, refl, sym, ap, ◌∙◌, subst, arith, w64}
+use Rattle.std.proofs.Common.{◌≡◌, ℕ, ◌+◌, ℤ, List, ◌++◌, Option, None, Some, Result, Ok, Err, IfOk, FitsSigned, sym, ap, ◌∙◌, subst, arith, w64}
 use Rattle.std.specs.Io.KnownBytes.{Consumes}
 use Rattle.zk_log.specs.Devices.{reads_of, read_failures_of}
 use Rattle.zk_log.specs.Loading.{Heads, HeaderTells}
@@ -9,7 +9,7 @@ use Rattle.zk_log.specs.declared.fault.LogFault.TheVariants as log_faults
 use Rattle.zk_log.specs.declared.loaded.Ending.{Ending}
 use Rattle.zk_log.specs.declared.source.Source.{Source}
 use Rattle.zk_mending.proofs.Refusals.{refusal_own}
-use Rattle.zk_mending.specs.Mending.{IsMendedBody, IsMended, IsUnmended, Answers, AnswersBody, Tells}
+use Rattle.zk_mending.specs.Mending.{Answers, AnswersBody, Tells}
 use Rattle.zk_mending.specs.NewerLogs.{after_all, start_place, Mends}
 use Rattle.zk_mending.specs.Walking.{Walks}
 use Rattle.zk_mending.specs.declared.fault.MendFault.{MendFault}

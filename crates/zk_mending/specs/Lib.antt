@@ -4,5 +4,6 @@ pub use Rattle.zk_newer.specs.Newer
 pub mod Laws
 pub mod Mending
 pub mod NewerLogs
+pub mod NewerTables
 pub mod Telling
 pub mod Walking

@@ -1,6 +1,6 @@
 -- The logs of newer servers: entries as in 3.4, of records that each stand for a transaction of 3.4, as far as they may be
 -- mended one after the other.
-use Rattle.std.specs.Prelude.{◌≡◌, ◌≢◌, ℕ, ◌+◌, ◌<◌, ◌≤◌, ℤ, pos, List, [], ◌∷◌, ◌++◌, length, Bool, true, false, not, ◌&&◌, Option, Some, None, map, nat_lt, int_le, Result, Ok, Err, if◌then◌else◌}
+use Rattle.std.specs.Prelude.{◌≡◌, ◌≢◌, ℕ, ◌+◌, ◌<◌, ◌≤◌, ℤ, pos, List, [], ◌∷◌, ◌++◌, length, Bool, false, not, ◌&&◌, Option, Some, None, map, nat_lt, int_le, Result, Ok, Err, if◌then◌else◌}
 use Rattle.std.specs.FinMap.{get}
 use Rattle.std.specs.List.{flat_map, list_any, list_all}
 use Rattle.std.specs.Ordering.{int_eq}

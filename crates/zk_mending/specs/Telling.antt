@@ -1,5 +1,5 @@
 -- What is told of a log that was mended: how often each change came, and where it came first.
-use Rattle.std.specs.Prelude.{ℕ, ℤ, ◌+◌, ◌-◌, ◌^◌, min, Bool, true, false, not, Option, Some, None, nat_eq, if◌then◌else◌}
+use Rattle.std.specs.Prelude.{ℕ, ℤ, ◌+◌, ◌-◌, ◌^◌, min, Bool, false, not, Option, Some, None, nat_eq, if◌then◌else◌}
 use Rattle.std.specs.Int.{w64, cast_unsigned}
 use Rattle.zk_newer.specs.Changes.{count_of, is_unchanged, once}
 use Rattle.zk_newer.specs.declared.changes.Change.TheVariants as changes

@@ -1,5 +1,5 @@
 -- The walk over a log's entries.
-use Rattle.std.specs.Prelude.{◌≡◌, ℕ, ◌+◌, ◌≤◌, ℤ, pos, false, List, [], ◌∷◌, ◌++◌, length, Bool, true, Option, Some, None, Result, Ok, Err}
+use Rattle.std.specs.Prelude.{◌≡◌, ℕ, ◌≤◌, pos, false, List, [], ◌∷◌, ◌++◌, Option, Some, None, Result, Ok, Err}
 use Rattle.std.specs.Io.KnownBytes.{Consumes}
 use Rattle.std.specs.List.{flat_map}
 use Rattle.zk_digest.specs.Following.{IsDigestOf}
@@ -10,7 +10,6 @@ use Rattle.zk_log.specs.declared.fault.LogFault.TheVariants as log_faults
 use Rattle.zk_log.specs.declared.loaded.Ending.{Ending}
 use Rattle.zk_newer.specs.Newer.{IsSpelled}
 use Rattle.zk_newer.specs.declared.newer.Newer.{Newer}
-use Rattle.zk_txn.specs.declared.txn.Txn.{Txn}
 use Rattle.zk_mending.specs.NewerLogs.{Place, start_place, after_all, after_record, newer_entry, txns_in, refusal, refusal_by, lists_others, AllMayCome, IsMendFault, Mends}
 use Rattle.zk_mending.specs.declared.fault.MendFault.{MendFault}
 use Rattle.zk_mending.specs.declared.fault.MendFault.TheVariants as faults

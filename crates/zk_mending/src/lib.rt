@@ -13,7 +13,7 @@ mod told;
 mod walk;
 
 pub use fault::MendFault;
-pub use laws::{mended_in_one_way, old_logs_come_back};
+pub use laws::{mended_in_one_way, mended_tree_is_the_servers, old_logs_come_back};
 pub use mended::{Mended, mend};
 pub use mending::walk_entries;
 pub use told::{Tally, Told};

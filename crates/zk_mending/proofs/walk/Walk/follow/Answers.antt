@@ -1,5 +1,4 @@
-use Rattle.std.proofs.Common.{rules, ap, ◌∙◌, refl}
-use Rattle.zk_mending.specs.Telling.{told_after}
+use Rattle.std.proofs.Common.{rules}
 use Rattle.zk_mending.proofs.Steps.{followed}
 use Rattle.zk_mending.proofs.walk.Walk.follow.Goals as goal
 
