@@ -2,3 +2,4 @@ pub mod BytesLaws
 pub mod LineLaws
 pub mod TurnLaws
 pub mod TalkLaws
+pub mod ScriptLaws

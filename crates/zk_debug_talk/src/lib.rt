@@ -4,7 +4,9 @@
 
 mod hearing;
 mod holding;
+mod laws;
 mod line;
 mod talking;
 
 pub use holding::hold_session;
+pub use laws::sessions_answer_scripts;
