@@ -35,8 +35,9 @@ refuses "zk show <FILE> <ZXID>" show examples/first_log.log 1
 refuses "zk show <FILE> <ZXID>" show examples/first_log.log 000000010000000A
 refuses "zk show <FILE> <ZXID>" show examples/first_log.log last last
 refuses "zk list <FILE>" list -x
-refuses "zk debug <FILE> <SCRIPT>" debug examples/first_log.log
-refuses "zk debug <FILE> <SCRIPT>" debug @ @
+refuses "zk debug <FILE> [SCRIPT]" debug
+refuses "zk debug [OPTIONS] <FILE> [SCRIPT]" debug @
+refuses "zk debug [OPTIONS] <FILE> [SCRIPT]" debug @ @
 refuses "zk asm <TEXT> <FILE>" asm "$listing"
 refuses "zk asm <TEXT> <FILE>" asm --force "$listing" "$work/kept"
 refuses "zk asm <TEXT> <FILE>" asm "$listing" "$work/kept" more

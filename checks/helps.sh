@@ -13,8 +13,9 @@ defining() {
 }
 
 debug_lines=$(defining 'command_text commands\.Step')
+session_lines=$(defining 'abbrev pub own_words')
 run_lines=$(defining 'SpellsWorldEvent \(Lead|SpellsRequest \(requests\.Create|abbrev pub SpellsWeights')
-fault_lines=$(defining 'line_of_log_fault log_faults\.Header')
+fault_lines=$(defining 'line_of_(log_fault log_faults\.Header|mend_fault \(faults\.NoReason)')
 debug_numbers=$(defining 'fault_text faults\.AtEnd')
 run_numbers=$(defining 'fault_text \(faults\.Behind')
 
@@ -38,15 +39,15 @@ lists() {
     diff "$work/defined" "$work/helped"
 }
 
-lists debug $debug_lines
+lists debug $debug_lines $session_lines
 lists run $run_lines
 
-for order in show list asm debug run; do
+for order in show list asm mend debug run; do
     "$zk" "$order" --help </dev/null | grep -qF "$faults"
 done
 
 # want of memory is told by a word, whatever was read, and never as G8 or L8
-for number in $(texts_in $fault_lines $debug_numbers $run_numbers | grep -o '\b[BEGL][0-9]\b' | sort -u | grep -v '[GL]8'); do
+for number in $(texts_in $fault_lines $debug_numbers $run_numbers | grep -o '\b[BEGLN][0-9]\b' | sort -u | grep -v '[GL]8'); do
     grep -qE "^\\| (\`zk: )?$number\\b" "$faults"
 done
 for word in $(texts_in $fault_lines | grep -o '^zk: [a-z][a-z0-9]*' | sed 's/^zk: //' | sort -u) read write memory utf8; do

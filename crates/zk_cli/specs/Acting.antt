@@ -7,15 +7,19 @@ use Rattle.zk_orders.specs.Assembling.{Assembles}
 use Rattle.zk_orders.specs.Debugs.{Debugs}
 use Rattle.zk_orders.specs.Showing.{report_of}
 use Rattle.zk_orders.specs.Telling.{TellsLog}
+use Rattle.zk_mend_order.specs.Mends.{MendsLog}
+use Rattle.zk_debug_talk.specs.Holding.{HoldsSession}
 use Rattle.zk_run_order.specs.Running.{RunsText}
 use Rattle.zk_command_line.specs.declared.command.Order.{Order}
 use Rattle.zk_command_line.specs.declared.command.Order.TheVariants as orders
 use Rattle.zk_orders.specs.declared.reporting.Report.TheVariants as reports
 
--- each order but the debugger's leaves the script
-abbrev pub Acts : {F S O E : Type 0} → (F → Option (List ℕ)) → (S → Option (List ℕ)) → (O → Option (List ℕ)) → (E → Option (List ℕ)) → Order → Source F → Source F → Source S → Source S → Sink O → Sink O → Sink E → Sink E → Result ℕ NoMemory → Type 0
-Acts remaining remaining_script written told (orders.Show upto) file file' script script' output output' faults faults' result = TellsLog remaining written told (report_of (reports.Tree upto)) file file' output output' faults faults' result × (script' ≡ script)
-Acts remaining remaining_script written told orders.List file file' script script' output output' faults faults' result = TellsLog remaining written told (report_of reports.Listing) file file' output output' faults faults' result × (script' ≡ script)
-Acts remaining remaining_script written told orders.Asm file file' script script' output output' faults faults' result = Assembles remaining written told file file' output output' faults faults' result × (script' ≡ script)
-Acts remaining remaining_script written told orders.Run file file' script script' output output' faults faults' result = RunsText remaining written told file file' output output' faults faults' result × (script' ≡ script)
-Acts remaining remaining_script written told orders.Debug file file' script script' output output' faults faults' result = Debugs remaining remaining_script written told file file' script script' output output' faults faults' result
+-- each order but the two of the debugger leaves the script, and each but `mend` the report
+abbrev pub Acts : {F S O R E : Type 0} → (F → Option (List ℕ)) → (S → Option (List ℕ)) → (O → Option (List ℕ)) → (R → Option (List ℕ)) → (E → Option (List ℕ)) → Order → Source F → Source F → Source S → Source S → Sink O → Sink O → Sink R → Sink R → Sink E → Sink E → Result ℕ NoMemory → Type 0
+Acts remaining remaining_script written reported told (orders.Show upto) file file' script script' output output' report report' faults faults' result = TellsLog remaining written told (report_of (reports.Tree upto)) file file' output output' faults faults' result × (script' ≡ script) × (report' ≡ report)
+Acts remaining remaining_script written reported told orders.List file file' script script' output output' report report' faults faults' result = TellsLog remaining written told (report_of reports.Listing) file file' output output' faults faults' result × (script' ≡ script) × (report' ≡ report)
+Acts remaining remaining_script written reported told orders.Asm file file' script script' output output' report report' faults faults' result = Assembles remaining written told file file' output output' faults faults' result × (script' ≡ script) × (report' ≡ report)
+Acts remaining remaining_script written reported told orders.Run file file' script script' output output' report report' faults faults' result = RunsText remaining written told file file' output output' faults faults' result × (script' ≡ script) × (report' ≡ report)
+Acts remaining remaining_script written reported told orders.Mend file file' script script' output output' report report' faults faults' result = MendsLog remaining written reported told file file' output output' report report' faults faults' result × (script' ≡ script)
+Acts remaining remaining_script written reported told orders.Debug file file' script script' output output' report report' faults faults' result = Debugs remaining remaining_script written told file file' script script' output output' faults faults' result × (report' ≡ report)
+Acts remaining remaining_script written reported told (orders.Session prompts) file file' script script' output output' report report' faults faults' result = HoldsSession remaining remaining_script written told prompts file file' script script' output output' faults faults' result × (report' ≡ report)

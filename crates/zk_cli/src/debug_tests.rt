@@ -1,13 +1,12 @@
 //! The order `debug`, on logs that listings spell.
-use crate::act::act;
+use crate::tests::{acted, check as check_act};
 use std::alloc::Global;
 use std::process::Abort;
 use std::test::Fail;
-use zk_command_line::{CommandFault, Order, read_command_line};
-use zk_log::{DripIn, DripOut, Sink, Source};
+use zk_command_line::Order;
+use zk_log::{DripIn, DripOut};
 use zk_path::NoMemory;
 use zk_reports::{ScriptFault, script_line};
-use zk_usage::ErrorKind;
 
 /// A multi whose parts make and take away a node, and a create that is refused.
 const LISTING: &str = "0000000100000001 0100000000000001 0 1000 createSession 30000
@@ -144,32 +143,21 @@ const EACH_PLACE: [(&str, &str); 21] = [
     ("back\n", "B2\n"),
 ];
 
-/// Acts on a file and a script, and answers the status, what is written and what is told.
-fn acted(
-    rt: &(impl Abort + AllocGlobal),
-    order: Order,
-    file: DripIn,
-    script: DripIn,
-    output: DripOut,
-) -> Result<(u8, DripOut, DripOut), Fail> {
-    let mut file = Source::new(file);
-    let mut script = Source::new(script);
-    let mut output = Sink::new(output);
-    let mut faults = Sink::new(DripOut::new(rt.alloc(), 64, None));
-    let status = act(
-        rt.alloc(),
-        &order,
-        &mut file,
-        &mut script,
-        &mut output,
-        &mut faults,
-    )?;
-    Ok((status, output.into_inner(), faults.into_inner()))
-}
-
 /// Runs a script over the listing's log, where the read of this number and the write of that one fail.
 fn check(
     rt: &(impl Abort + AllocGlobal),
+    script: &[u8],
+    answers: &str,
+    told: &str,
+    good_calls: (Option<u64>, Option<u64>),
+) -> Result<(), Fail> {
+    check_order(rt, Order::Debug, script, answers, told, good_calls)
+}
+
+/// The same with a script's order, or with a session's.
+fn check_order(
+    rt: &(impl Abort + AllocGlobal),
+    order: Order,
     script: &[u8],
     answers: &str,
     told: &str,
@@ -183,18 +171,14 @@ fn check(
         DripIn::new(b"", 1, None),
         DripOut::new(rt.alloc(), 4096, None),
     )?;
-    let (status, output, faults) = acted(
+    check_act(
         rt,
-        Order::Debug,
+        order,
         DripIn::new(made.1.bytes(), 7, None),
         DripIn::new(script, 5, good_calls.0),
         DripOut::new(rt.alloc(), 64, good_calls.1),
-    )?;
-    let expected = if told.is_empty() { 0 } else { 1 };
-    assert_eq!(rt; status, expected);
-    assert_eq!(rt; output.bytes(), answers.as_bytes());
-    assert_eq!(rt; faults.bytes(), told.as_bytes());
-    Ok(())
+        (answers.as_bytes(), told),
+    )
 }
 
 #[test]
@@ -225,6 +209,39 @@ fn debug_script_over_a_multi(rt: HostRuntime) -> Result<(), Fail> {
         ),
     ] {
         check(&rt, script, answers, told, good_calls)?;
+    }
+    Ok(())
+}
+
+#[test]
+fn session_over_a_multi(rt: HostRuntime) -> Result<(), Fail> {
+    for (prompts, lines, answers, told, good_calls) in [
+        (false, SCRIPT.as_bytes(), ANSWERS, "", (None, None)),
+        (
+            true,
+            b"back\nquit\nback\n".as_slice(),
+            "zk 0 0000000000000000> B2\nzk 0 0000000000000000> ",
+            "",
+            (None, None),
+        ),
+        (
+            false,
+            b"stop\nback".as_slice(),
+            "? a command; help lists them\nB2\n",
+            "",
+            (None, None),
+        ),
+        // the first line is answered before the eighth read
+        (
+            false,
+            b"back\nback\n".as_slice(),
+            "B2\n",
+            "zk: read\n",
+            (Some(7), None),
+        ),
+    ] {
+        let order = Order::Session { prompts };
+        check_order(&rt, order, lines, answers, told, good_calls)?;
     }
     Ok(())
 }
@@ -260,35 +277,5 @@ fn lines_of_scripts_are_told_by_their_numbers(rt: HostRuntime) -> Result<(), Fai
     let fault = ScriptFault::Malformed(12);
     let text = format!(in rt.alloc(); "zk: {fault}\n")?;
     assert_eq!(rt; script_line(rt.alloc(), 12)?.as_str(), text.as_str());
-    Ok(())
-}
-
-#[test]
-fn debug_reads_standard_input_once(rt: HostRuntime) -> Result<(), Fail> {
-    for (words, expected) in [
-        (
-            ["zk", "debug", "a.log", "@"].as_slice(),
-            Ok((Order::Debug, "a.log", Some("@"), "@")),
-        ),
-        (
-            ["zk", "debug", "@", "--", "-s"].as_slice(),
-            Ok((Order::Debug, "@", Some("-s"), "@")),
-        ),
-        (
-            ["zk", "debug", "@", "@"].as_slice(),
-            Err(ErrorKind::ArgumentConflict),
-        ),
-        (
-            ["zk", "debug", "a.log"].as_slice(),
-            Err(ErrorKind::MissingRequiredArgument),
-        ),
-    ] {
-        let found = match read_command_line(rt.alloc(), words) {
-            Ok(job) => Ok((job.order, job.input, job.script, job.output)),
-            Err(CommandFault::Refused(refusal)) => Err(refusal.kind),
-            Err(CommandFault::NoMemory) => Err(ErrorKind::OutOfMemory),
-        };
-        assert_eq!(rt; found, expected);
-    }
     Ok(())
 }

@@ -1,9 +1,11 @@
-//! The program `zk`: a look at transaction logs of ZooKeeper 3.4, and runs of its servers.
+//! The program `zk`: a look at transaction logs of ZooKeeper, and runs of its servers.
 #![tactic(auto)]
 
 mod act;
 #[cfg(test)]
 mod debug_tests;
+#[cfg(test)]
+mod mend_tests;
 #[cfg(test)]
 mod run_tests;
 #[cfg(test)]
@@ -12,7 +14,7 @@ mod tests;
 mod text_tests;
 
 use act::act;
-use std::io::{Read, Write};
+use std::io::{IsTerminal, Read, Write};
 use std::process::ExitCode;
 use std::{env, fs, io};
 use zk_command_line::{CommandFault, Job, Order, read_command_line};
@@ -71,13 +73,15 @@ fn open_and_act(rt: &HostRuntime, job: &Job) -> Result<u8, NoMemory> {
 }
 
 /// Opens the script of an open input, if the order has one, and then the output, and acts. Answers the exit status.
+///
+/// The lines of a session come from the standard input.
 fn open_script<F: Read + Drop>(rt: &HostRuntime, job: &Job, file: F) -> Result<u8, NoMemory> {
+    if matches!(job.order, Order::Session { .. }) || job.script == Some("@") {
+        return open_output(rt, job, file, rt.reader());
+    }
     let Some(script) = job.script else {
         return open_output(rt, job, file, io::empty());
     };
-    if script == "@" {
-        return open_output(rt, job, file, rt.reader());
-    }
     match fs::open(rt, script) {
         Ok(script) => open_output(rt, job, file, script),
         Err(_) => Ok(refuse(rt, "read")),
@@ -92,32 +96,36 @@ fn open_output<F: Read + Drop, S: Read + Drop>(
     script: S,
 ) -> Result<u8, NoMemory> {
     if job.output == "@" {
-        return act_on(rt, &job.order, file, script, io::writer(rt));
+        return act_on(rt, &job.order, file, script, io::writer(rt), io::sink());
     }
+    // Beside an output of its own an order may report to the standard output.
     match fs::create(rt, job.output) {
-        Ok(output) => act_on(rt, &job.order, file, script, output),
+        Ok(output) => act_on(rt, &job.order, file, script, output, io::writer(rt)),
         Err(_) => Ok(refuse(rt, "write")),
     }
 }
 
-/// Acts on open inputs and an open output, with the standard error. Answers the exit status.
-fn act_on<F: Read + Drop, S: Read + Drop, O: Write + Drop>(
+/// Acts on open inputs and open outputs, with the standard error. Answers the exit status.
+fn act_on<F: Read + Drop, S: Read + Drop, O: Write + Drop, R: Write + Drop>(
     rt: &HostRuntime,
     order: &Order,
     file: F,
     script: S,
     output: O,
+    report: R,
 ) -> Result<u8, NoMemory> {
     let mut file = Source::new(file);
     let mut script = Source::new(script);
     let mut output = Sink::new(output);
+    let mut report = Sink::new(report);
     let mut faults = Sink::new(rt.stderr());
     act(
         rt.alloc(),
-        order,
+        &prompted(rt, order),
         &mut file,
         &mut script,
         &mut output,
+        &mut report,
         &mut faults,
     )
 }
@@ -127,4 +135,14 @@ fn refuse(rt: &HostRuntime, reason: &str) -> u8 {
     // Where that fails too, there is nobody left to tell.
     let _ = eprintln!(rt; "zk: {reason}");
     1
+}
+
+/// The order, with prompts where a session's lines come from a terminal.
+fn prompted(rt: &HostRuntime, order: &Order) -> Order {
+    match order {
+        Order::Session { prompts } => Order::Session {
+            prompts: *prompts || rt.stdin().is_terminal(),
+        },
+        other => *other,
+    }
 }

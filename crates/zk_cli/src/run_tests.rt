@@ -1,10 +1,9 @@
 //! The order `run`.
-use crate::act::act;
+use crate::tests::check as check_act;
 use std::process::Abort;
 use std::test::Fail;
-use zk_command_line::{CommandFault, Order, read_command_line};
-use zk_log::{DripIn, DripOut, Sink, Source};
-use zk_usage::ErrorKind;
+use zk_command_line::Order;
+use zk_log::{DripIn, DripOut};
 
 /// A leader of three without followers is asked, and a read is refused.
 const SCRIPT: &str = "servers 3
@@ -30,23 +29,14 @@ fn check(
     told: &str,
     good_calls: (Option<u64>, Option<u64>),
 ) -> Result<(), Fail> {
-    let mut file = Source::new(DripIn::new(script, 5, good_calls.0));
-    let mut none = Source::new(DripIn::new(b"", 1, None));
-    let mut output = Sink::new(DripOut::new(rt.alloc(), 64, good_calls.1));
-    let mut faults = Sink::new(DripOut::new(rt.alloc(), 64, None));
-    let status = act(
-        rt.alloc(),
-        &Order::Run,
-        &mut file,
-        &mut none,
-        &mut output,
-        &mut faults,
-    )?;
-    let expected = if told.is_empty() { 0 } else { 1 };
-    assert_eq!(rt; status, expected);
-    assert_eq!(rt; output.into_inner().bytes(), answers.as_bytes());
-    assert_eq!(rt; faults.into_inner().bytes(), told.as_bytes());
-    Ok(())
+    check_act(
+        rt,
+        Order::Run,
+        DripIn::new(script, 5, good_calls.0),
+        DripIn::new(b"", 1, None),
+        DripOut::new(rt.alloc(), 64, good_calls.1),
+        (answers.as_bytes(), told),
+    )
 }
 
 #[test]
@@ -81,36 +71,6 @@ fn run_scripts_are_answered(rt: HostRuntime) -> Result<(), Fail> {
         ),
     ] {
         check(&rt, script, answers, told, good_calls)?;
-    }
-    Ok(())
-}
-
-#[test]
-fn run_takes_one_script(rt: HostRuntime) -> Result<(), Fail> {
-    for (words, expected) in [
-        (
-            ["zk", "run", "a.script"].as_slice(),
-            Ok((Order::Run, "a.script", None, "@")),
-        ),
-        (
-            ["zk", "run", "@"].as_slice(),
-            Ok((Order::Run, "@", None, "@")),
-        ),
-        (
-            ["zk", "run"].as_slice(),
-            Err(ErrorKind::MissingRequiredArgument),
-        ),
-        (
-            ["zk", "run", "a.script", "b"].as_slice(),
-            Err(ErrorKind::UnknownArgument),
-        ),
-    ] {
-        let found = match read_command_line(rt.alloc(), words) {
-            Ok(job) => Ok((job.order, job.input, job.script, job.output)),
-            Err(CommandFault::Refused(refusal)) => Err(refusal.kind),
-            Err(CommandFault::NoMemory) => Err(ErrorKind::OutOfMemory),
-        };
-        assert_eq!(rt; found, expected);
     }
     Ok(())
 }

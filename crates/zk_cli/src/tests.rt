@@ -3,13 +3,12 @@ use std::alloc::Global;
 use std::fmt::Display;
 use std::process::Abort;
 use std::test::Fail;
-use zk_command_line::{CommandFault, Order, read_command_line};
+use zk_command_line::Order;
 use zk_jute::JuteFault;
 use zk_listing::{ListCause, ListFault};
 use zk_log::{DripIn, DripOut, LogFault, Sink, Source};
 use zk_orders::{AsmFault, TextFault, asm_line, log_line, read_text};
 use zk_path::NoMemory;
-use zk_usage::ErrorKind;
 
 /// The header of a log with dbid 0.
 const HEADER: &str = "5a4b4c47000000020000000000000000";
@@ -95,18 +94,23 @@ fn joined(rt: &(impl Abort + AllocGlobal), parts: &[&str]) -> Result<String, Fai
     Ok(text)
 }
 
-/// Acts, and compares the status, what is written and what is told.
-fn check(
+/// The script of the orders that have none.
+fn no_script() -> DripIn<'static> {
+    DripIn::new(b"", 1, None)
+}
+
+/// Acts on a file and a script, and answers the status, what is written and what is told.
+pub(crate) fn acted(
     rt: &(impl Abort + AllocGlobal),
     order: Order,
     file: DripIn,
-    script: &[u8],
+    script: DripIn,
     output: DripOut,
-    expected: (&[u8], &str),
-) -> Result<(), Fail> {
+) -> Result<(u8, DripOut, DripOut), Fail> {
     let mut file = Source::new(file);
-    let mut script = Source::new(DripIn::new(script, 5, None));
+    let mut script = Source::new(script);
     let mut output = Sink::new(output);
+    let mut report = Sink::new(DripOut::new(rt.alloc(), 64, None));
     let mut faults = Sink::new(DripOut::new(rt.alloc(), 64, None));
     let status = act(
         rt.alloc(),
@@ -114,13 +118,27 @@ fn check(
         &mut file,
         &mut script,
         &mut output,
+        &mut report,
         &mut faults,
     )?;
+    Ok((status, output.into_inner(), faults.into_inner()))
+}
+
+/// Acts, and compares the status, what is written and what is told.
+pub(crate) fn check(
+    rt: &(impl Abort + AllocGlobal),
+    order: Order,
+    file: DripIn,
+    script: DripIn,
+    output: DripOut,
+    expected: (&[u8], &str),
+) -> Result<(), Fail> {
+    let (status, output, faults) = acted(rt, order, file, script, output)?;
     let (written, told) = expected;
     let expected_status = if told.is_empty() { 0 } else { 1 };
     assert_eq!(rt; status, expected_status);
-    assert_eq!(rt; output.into_inner().bytes(), written);
-    assert_eq!(rt; faults.into_inner().bytes(), told.as_bytes());
+    assert_eq!(rt; output.bytes(), written);
+    assert_eq!(rt; faults.bytes(), told.as_bytes());
     Ok(())
 }
 
@@ -138,11 +156,18 @@ fn check_failing(
     if order == Order::Asm {
         let log = hex::decode(rt.alloc(), written.as_str())?;
         let source = DripIn::new(input.as_bytes(), 7, good_reads);
-        check(rt, order, source, b"", sink, (&log, told))
+        check(rt, order, source, no_script(), sink, (&log, told))
     } else {
         let log = hex::decode(rt.alloc(), input.as_str())?;
         let source = DripIn::new(&log, 7, good_reads);
-        check(rt, order, source, b"", sink, (written.as_bytes(), told))
+        check(
+            rt,
+            order,
+            source,
+            no_script(),
+            sink,
+            (written.as_bytes(), told),
+        )
     }
 }
 
@@ -349,7 +374,14 @@ fn refused_listings_leave_the_output_empty(rt: HostRuntime) -> Result<(), Fail> 
     check_all(&rt, rows.as_slice())?;
     let output = DripOut::new(rt.alloc(), 4, None);
     let input = DripIn::new(b"0\xff", 7, None);
-    check(&rt, Order::Asm, input, b"", output, (b"", "zk: utf8\n"))
+    check(
+        &rt,
+        Order::Asm,
+        input,
+        no_script(),
+        output,
+        (b"", "zk: utf8\n"),
+    )
 }
 
 /// An order, the log in hexadecimal digits, the text that is read beside it or in place of it, and the line of the fault.
@@ -463,7 +495,14 @@ fn check_fault(rt: &(impl Abort + AllocGlobal), row: &FaultRow) -> Result<(), Fa
     let file = if reads_text(order) { text } else { &log };
     let source = DripIn::new(file, 7, None);
     let output = DripOut::new(rt.alloc(), 4, None);
-    check(rt, order, source, text, output, (b"", told))
+    check(
+        rt,
+        order,
+        source,
+        DripIn::new(text, 5, None),
+        output,
+        (b"", told),
+    )
 }
 
 #[test]
@@ -493,7 +532,7 @@ fn check_long(
 ) -> Result<(), Fail> {
     let source = DripIn::new(file, 1, None);
     let output = DripOut::new(rt.alloc(), 4, None);
-    check(rt, order, source, b"", output, (b"", told))
+    check(rt, order, source, no_script(), output, (b"", told))
 }
 
 #[test]
@@ -549,31 +588,6 @@ fn failing_devices_are_told(rt: HostRuntime) -> Result<(), Fail> {
     ] {
         check_failing(&rt, &(order, input, output, told), good_reads, good_writes)?;
     }
-    Ok(())
-}
-
-/// Reads a command line that names a job.
-fn check_job(
-    rt: &(impl Abort + AllocGlobal),
-    words: &[&str],
-    expected: (Order, &str, &str),
-) -> Result<(), Fail> {
-    let job = read_command_line(rt.alloc(), words)?;
-    assert_eq!(rt; (job.order, job.input, job.output), expected);
-    Ok(())
-}
-
-/// Reads a command line that is refused, or asks for a help or the version.
-fn check_no_job(
-    rt: &(impl Abort + AllocGlobal),
-    words: &[&str],
-    kind: ErrorKind,
-) -> Result<(), Fail> {
-    let found = match read_command_line(rt.alloc(), words) {
-        Err(CommandFault::Refused(error)) => Some(error.kind),
-        _ => None,
-    };
-    assert_eq!(rt; found, Some(kind));
     Ok(())
 }
 
@@ -639,83 +653,6 @@ fn texts_are_read_to_their_end_and_no_further(rt: HostRuntime) -> Result<(), Fai
         let mut source = Source::new(DripIn::new(b"0123456789", 5, good_calls));
         let read = read_text(rt.alloc(), &mut source, turns);
         assert_eq!(rt; (read.err(), source.reads()), expected);
-    }
-    Ok(())
-}
-
-#[test]
-fn command_lines_name_jobs(rt: HostRuntime) -> Result<(), Fail> {
-    let last = Order::Show { upto: None };
-    let least = Order::Show {
-        upto: Some(i64::MIN),
-    };
-    for (words, job) in [
-        (
-            ["zk", "show", "a.log", "8000000000000000"].as_slice(),
-            (least, "a.log", "@"),
-        ),
-        (
-            ["zk", "show", "--", "@", "last"].as_slice(),
-            (last, "@", "@"),
-        ),
-        (
-            ["zk", "show", "@", "--", "last"].as_slice(),
-            (last, "@", "@"),
-        ),
-        (
-            ["other", "show", "@", "last", "--"].as_slice(),
-            (last, "@", "@"),
-        ),
-        (["zk", "list", "-"].as_slice(), (Order::List, "-", "@")),
-        (
-            ["zk", "asm", "a.txt", "--", "--"].as_slice(),
-            (Order::Asm, "a.txt", "--"),
-        ),
-    ] {
-        check_job(&rt, words, job)?;
-    }
-    Ok(())
-}
-
-#[test]
-fn clap_refuses_what_names_no_job(rt: HostRuntime) -> Result<(), Fail> {
-    let zxid = ErrorKind::ValueValidation;
-    for (words, kind) in [
-        (["zk", "show", "@", "0"].as_slice(), zxid),
-        (["zk", "show", "@", "+000000000000001"].as_slice(), zxid),
-        (["zk", "show", "@", "000000010000000A"].as_slice(), zxid),
-        (["zk", "show", "@", "Last"].as_slice(), zxid),
-        (
-            ["zk", "show", "--help", "a"].as_slice(),
-            ErrorKind::DisplayHelp,
-        ),
-        (
-            ["zk", "--version", "show", "a"].as_slice(),
-            ErrorKind::DisplayVersion,
-        ),
-        (
-            ["zk", "list", "-x", "a"].as_slice(),
-            ErrorKind::UnknownArgument,
-        ),
-        (
-            ["zk", "list", "a", "b"].as_slice(),
-            ErrorKind::UnknownArgument,
-        ),
-        (
-            ["zk", "--", "list", "a"].as_slice(),
-            ErrorKind::UnknownArgument,
-        ),
-        (
-            ["zk", "asm", "a", "--"].as_slice(),
-            ErrorKind::MissingRequiredArgument,
-        ),
-        (
-            ["zk", "tree", "a", "b"].as_slice(),
-            ErrorKind::InvalidSubcommand,
-        ),
-        (["zk"].as_slice(), ErrorKind::MissingSubcommand),
-    ] {
-        check_no_job(&rt, words, kind)?;
     }
     Ok(())
 }

@@ -1,3 +1,4 @@
 pub mod DigitsLaws
+pub mod GivenLaws
 pub mod NamesLaws
 pub mod WordsLaws

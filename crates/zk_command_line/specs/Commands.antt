@@ -1,5 +1,5 @@
 -- What the words of a command line name.
-use Rattle.std.specs.Prelude.{◌≡◌, ◌≢◌, ℕ, ℤ, ◌<◌, ◌^◌, ◌==◌, ◌&&◌, Bool, true, false, if◌then◌else◌, List, [], ◌∷◌, Option, Some, None, Result, Ok, Err, FitsSigned, codes, option_map}
+use Rattle.std.specs.Prelude.{◌≡◌, ◌≢◌, ℕ, ℤ, ◌<◌, ◌^◌, ◌==◌, ◌&&◌, ◌||◌, Bool, true, false, if◌then◌else◌, List, [], ◌∷◌, Option, Some, None, Result, Ok, Err, FitsSigned, codes, option_map}
 use Rattle.std.specs.Int.{w64}
 use Rattle.std.specs.Str.{bytes_eq}
 use Rattle.zk_spelling.specs.Spelling.{sixteen_digits, id_digits}
@@ -48,11 +48,40 @@ abbrev pub values_of : List (List ℕ) → Option (List (List ℕ))
 values_of [] = Some []
 values_of (word ∷ words) = if bytes_eq word (codes "--") then Some words else (if is_option word then None else with_value word (values_of words))
 
+-- ---- the option of a session
+
+abbrev pub without_second : List ℕ → List (List ℕ) → Option (List (List ℕ))
+without_second first [] = None
+without_second first (second ∷ rest) = if bytes_eq second (codes "--prompt") then (if bytes_eq first (codes "--") then None else Some (first ∷ rest)) else None
+
+-- The words but "--prompt", where it stands before the log or behind it; behind a "--" it is a value. A session has one value,
+-- so that it stands nowhere else.
+abbrev pub without_prompt : List (List ℕ) → Option (List (List ℕ))
+without_prompt [] = None
+without_prompt (first ∷ rest) = if bytes_eq first (codes "--prompt") then Some rest else without_second first rest
+
+abbrev pub given_with : Option (List (List ℕ)) → List (List ℕ) → Option (Bool × List (List ℕ))
+given_with None words = option_map (λ values. (false, values)) (values_of words)
+given_with (Some kept) words = option_map (λ values. (true, values)) (values_of kept)
+
+-- whether prompts are asked for, and the values
+abbrev pub given_by : List (List ℕ) → Option (Bool × List (List ℕ))
+given_by words = given_with (without_prompt words) words
+
+-- a session alone takes the option
+abbrev pub prompts_of : Order → Bool
+prompts_of (orders.Session prompts) = prompts
+prompts_of order = false
+
 -- ---- a command line
 
 -- standard input can be read once
 abbrev pub both_standard : List ℕ → List ℕ → Bool
 both_standard input script = bytes_eq input (codes "@") && bytes_eq script (codes "@")
+
+-- the log that is read is not written over, and standard output has the report
+abbrev pub writes_over : List ℕ → List ℕ → Bool
+writes_over input output = bytes_eq output (codes "@") || bytes_eq input output
 
 -- An order's name and its values name an order, its input, the script of a debugger, and its output; "@" is a standard
 -- stream.
@@ -61,6 +90,8 @@ NamesBy name values (orders.Show upto) input script output = (name ≡ codes "sh
 NamesBy name values orders.List input script output = (name ≡ codes "list") × (values ≡ input ∷ []) × (script ≡ None) × (output ≡ codes "@")
 NamesBy name values orders.Asm input script output = (name ≡ codes "asm") × (values ≡ input ∷ output ∷ []) × (script ≡ None)
 NamesBy name values orders.Run input script output = (name ≡ codes "run") × (values ≡ input ∷ []) × (script ≡ None) × (output ≡ codes "@")
+NamesBy name values orders.Mend input script output = (name ≡ codes "mend") × (values ≡ input ∷ output ∷ []) × (script ≡ None) × (writes_over input output ≡ false)
+NamesBy name values (orders.Session prompts) input script output = (name ≡ codes "debug") × (values ≡ input ∷ []) × (bytes_eq input (codes "@") ≡ false) × (script ≡ None) × (output ≡ codes "@")
 NamesBy name values orders.Debug input None output = ⊥
 NamesBy name values orders.Debug input (Some script) output = (name ≡ codes "debug") × (values ≡ input ∷ script ∷ []) × (both_standard input script ≡ false) × (output ≡ codes "@")
 
@@ -71,7 +102,7 @@ pub record Names (words : List (List ℕ)) (order : Order) (input : List ℕ) (s
   pub rest : List (List ℕ)
   pub values : List (List ℕ)
   pub spelled : words ≡ program ∷ name ∷ rest
-  pub given : values_of rest ≡ Some values
+  pub given : given_by rest ≡ Some (prompts_of order, values)
   pub named : NamesBy name values order input script output
 
 abbrev pub NamesNothing : List (List ℕ) → Type 0
@@ -97,14 +128,34 @@ ReadsCommandLine words (Err faults.NoMemory) = Unit {0}
 
 -- ---- its parts
 
--- a job is what an order's name and its values name
+-- a job is what an order's name and its values name, where no prompts are asked for
 abbrev pub ReadsJobBy : List ℕ → List (List ℕ) → Option Job → Type 0
-ReadsJobBy name values (Some job) = NamesBy name values job.order job.input.now (script_of job) job.output.now
-ReadsJobBy name values None = (order : Order) (input : List ℕ) (script : Option (List ℕ)) (output : List ℕ) → ¬ NamesBy name values order input script output
+ReadsJobBy name values (Some job) = NamesBy name values job.order job.input.now (script_of job) job.output.now × (prompts_of job.order ≡ false)
+ReadsJobBy name values None = (order : Order) (input : List ℕ) (script : Option (List ℕ)) (output : List ℕ) → prompts_of order ≡ false → ¬ NamesBy name values order input script output
+
+-- the same of the values that words may give
+abbrev pub ReadsGiven : List ℕ → Bool → Option (List (List ℕ)) → Option Job → Type 0
+ReadsGiven name prompts given (Some job) = (values : List (List ℕ)) × (given ≡ Some values) × (prompts_of job.order ≡ prompts) × NamesBy name values job.order job.input.now (script_of job) job.output.now
+ReadsGiven name prompts given None =
+    (values : List (List ℕ)) (order : Order) (input : List ℕ) (script : Option (List ℕ)) (output : List ℕ) → given ≡ Some values → prompts_of order ≡ prompts → ¬ NamesBy name values order input script output
+
+-- the same of all words behind an order's name
+abbrev pub ReadsBehind : List ℕ → List (List ℕ) → Option Job → Type 0
+ReadsBehind name words (Some job) = (values : List (List ℕ)) × (given_by words ≡ Some (prompts_of job.order, values)) × NamesBy name values job.order job.input.now (script_of job) job.output.now
+ReadsBehind name words None =
+    (values : List (List ℕ)) (order : Order) (input : List ℕ) (script : Option (List ℕ)) (output : List ℕ) → given_by words ≡ Some (prompts_of order, values) → ¬ NamesBy name values order input script output
+
+abbrev pub ReadsSession : List ℕ → Bool → Option Job → Type 0
+ReadsSession input prompts None = bytes_eq input (codes "@") ≡ true
+ReadsSession input prompts (Some job) = (bytes_eq input (codes "@") ≡ false) × (job.order ≡ orders.Session prompts) × (job.input.now ≡ input) × (script_of job ≡ None) × (job.output.now ≡ codes "@")
 
 abbrev pub ReadsDebug : List ℕ → List ℕ → Option Job → Type 0
 ReadsDebug input script None = both_standard input script ≡ true
 ReadsDebug input script (Some job) = (both_standard input script ≡ false) × (job.order ≡ orders.Debug) × (job.input.now ≡ input) × (script_of job ≡ Some script) × (job.output.now ≡ codes "@")
+
+abbrev pub ReadsMend : List ℕ → List ℕ → Option Job → Type 0
+ReadsMend input output None = writes_over input output ≡ true
+ReadsMend input output (Some job) = (writes_over input output ≡ false) × (job.order ≡ orders.Mend) × (job.input.now ≡ input) × (script_of job ≡ None) × (job.output.now ≡ output)
 
 -- a list's only element
 abbrev pub IsOnly : List (List ℕ) → Option (List ℕ) → Type 0

@@ -1,5 +1,5 @@
-ghost use Rattle.std.specs.Prelude.{◌≡◌, IfOk, map, option_map};
-ghost use Rattle.zk_command_line.specs.Commands.{AreOnly, IsOnly, ReadsCommandLine, ReadsDebug, ReadsDigits, ReadsJob, ReadsJobBy, ReadsUpto, is_option, values_of};
+ghost use Rattle.std.specs.Prelude.{◌≡◌, true, false, IfOk, map, option_map, codes};
+ghost use Rattle.zk_command_line.specs.Commands.{AreOnly, IsOnly, ReadsBehind, ReadsCommandLine, ReadsDebug, ReadsDigits, ReadsGiven, ReadsJob, ReadsJobBy, ReadsMend, ReadsSession, ReadsUpto, is_option, values_of, without_prompt};
 
 use hex::FromHex;
 use std::alloc::Global;
@@ -17,8 +17,13 @@ pub enum Order {
     List,
     /// Makes the log, with dbid 0, that a listing spells.
     Asm,
+    /// Makes the log of 3.4 that a newer server's log is mended to, and reports what that changed.
+    Mend,
     /// Answers the lines of a debug script over a log.
     Debug,
+    /// Answers the lines of standard input over a log, each before the next is read; with a prompt before each where that is
+    /// asked for, and else where standard input is a terminal.
+    Session { prompts: bool },
     /// Answers the lines of a run script: elections, crashes, messages, calls and reads of an ensemble.
     Run,
 }
@@ -31,7 +36,7 @@ pub struct Job<'a> {
     pub input: &'a str,
     /// The script of [`Order::Debug`]: a path, or `@` for standard input. No other order has one.
     pub script: Option<&'a str>,
-    /// What is written: a path, or `@` for standard output.
+    /// What is written: a path, or `@` for standard output, which [`Order::Mend`] does not take.
     pub output: &'a str,
 }
 
@@ -67,14 +72,54 @@ fn fault_of(alloc: Global, words: &[&str]) -> CommandFault {
 }
 
 /// The job that words name.
+#[tactic(auto, using(crate::proofs::GivenLaws::named_behind))]
 fn job_of<'a>(alloc: Global, words: &'a [&'a str]) -> Result<Option<Job<'a>>, NoMemory>
     ensures { IfOk result (λ read. ReadsJob (map (λ word. word.now) words.now) read) }
 {
     let [_, name, rest @ ..] = words else {
         return Ok(None);
     };
-    match values_of(alloc, rest)? {
+    job_behind(alloc, name, rest)
+}
+
+/// The job that an order's name and all words behind it name.
+#[tactic(auto, using(crate::proofs::GivenLaws::plain_behind, crate::proofs::GivenLaws::prompted_behind))]
+fn job_behind<'a>(
+    alloc: Global,
+    name: &str,
+    words: &[&'a str],
+) -> Result<Option<Job<'a>>, NoMemory>
+    ensures { IfOk result (λ read. ReadsBehind name.now (map (λ word. word.now) words.now) read) }
+{
+    match without_prompt(alloc, words)? {
+        Some(kept) => prompted_job(alloc, name, kept.as_slice()),
+        None => plain_job(alloc, name, words),
+    }
+}
+
+/// The job that an order's name and the words behind it name, of which none is `--prompt`.
+fn plain_job<'a>(alloc: Global, name: &str, words: &[&'a str]) -> Result<Option<Job<'a>>, NoMemory>
+    ensures { IfOk result (λ read. ReadsGiven name.now false (values_of (map (λ word. word.now) words.now)) read) }
+{
+    match values_of(alloc, words)? {
         Some(values) => job_by(alloc, name, values.as_slice()),
+        None => Ok(None),
+    }
+}
+
+/// The same with `--prompt`, which was taken out of the words: a session's.
+fn prompted_job<'a>(
+    alloc: Global,
+    name: &str,
+    words: &[&'a str],
+) -> Result<Option<Job<'a>>, NoMemory>
+    ensures { IfOk result (λ read. ReadsGiven name.now true (values_of (map (λ word. word.now) words.now)) read) }
+{
+    if name != "debug" {
+        return Ok(None);
+    }
+    match values_of(alloc, words)? {
+        Some(values) => Ok(only(values.as_slice()).and_then(|input| session_job(input, true))),
         None => Ok(None),
     }
 }
@@ -99,6 +144,9 @@ fn job_by<'a>(alloc: Global, name: &str, values: &[&'a str]) -> Result<Option<Jo
             output: "@",
         }));
     }
+    if name == "debug" {
+        return Ok(debug_by(values));
+    }
     let Some((first, second)) = only_two(values) else {
         return Ok(None);
     };
@@ -110,8 +158,8 @@ fn job_by<'a>(alloc: Global, name: &str, values: &[&'a str]) -> Result<Option<Jo
             output: second,
         }));
     }
-    if name == "debug" {
-        return Ok(debug_job(first, second));
+    if name == "mend" {
+        return Ok(mend_job(first, second));
     }
     if name != "show" {
         return Ok(None);
@@ -127,6 +175,32 @@ fn job_by<'a>(alloc: Global, name: &str, values: &[&'a str]) -> Result<Option<Jo
     }
 }
 
+/// The job of mending a log; none where the log itself, or what is reported, would be written over.
+fn mend_job<'a>(input: &'a str, output: &'a str) -> Option<Job<'a>>
+    ensures { ReadsMend input.now output.now result }
+{
+    if output == "@" || input == output {
+        return None;
+    }
+    Some(Job {
+        order: Order::Mend,
+        input,
+        script: None,
+        output,
+    })
+}
+
+/// The job that values name behind `debug`: of a script, or of a session without prompts.
+fn debug_by<'a>(values: &[&'a str]) -> Option<Job<'a>>
+    ensures { ReadsJobBy (codes "debug") (map (λ value. value.now) values.now) result }
+{
+    match values {
+        [input] => session_job(input, false),
+        [input, script] => debug_job(input, script),
+        _ => None,
+    }
+}
+
 /// The job of a debug script over a log; none where both are to be standard input.
 fn debug_job<'a>(input: &'a str, script: &'a str) -> Option<Job<'a>>
     ensures { ReadsDebug input.now script.now result }
@@ -138,6 +212,21 @@ fn debug_job<'a>(input: &'a str, script: &'a str) -> Option<Job<'a>>
         order: Order::Debug,
         input,
         script: Some(script),
+        output: "@",
+    })
+}
+
+/// The job of a session over a log; none where the log is to be standard input, which has the session's lines.
+fn session_job(input: &str, prompts: bool) -> Option<Job<'_>>
+    ensures { ReadsSession input.now prompts result }
+{
+    if input == "@" {
+        return None;
+    }
+    Some(Job {
+        order: Order::Session { prompts },
+        input,
+        script: None,
         output: "@",
     })
 }
@@ -163,8 +252,31 @@ fn only_two<'a>(values: &[&'a str]) -> Option<(&'a str, &'a str)>
     Some((first, second))
 }
 
+/// The words but `--prompt`, where that is the first of them or the second; behind a `--` it is a value.
+fn without_prompt<'a>(alloc: Global, words: &[&'a str]) -> Result<Option<Vec<&'a str>>, NoMemory>
+    ensures { IfOk result (λ kept. option_map (λ kept. map (λ word. word.now) kept.items) kept
+        ≡ without_prompt (map (λ word. word.now) words.now)) }
+{
+    let [first, rest @ ..] = words else {
+        return Ok(None);
+    };
+    if *first == "--prompt" {
+        return Ok(Some(Vec::from_slice(alloc, rest)?));
+    }
+    let [second, rest @ ..] = rest else {
+        return Ok(None);
+    };
+    if *second != "--prompt" || *first == "--" {
+        return Ok(None);
+    }
+    let mut kept = Vec::new(alloc);
+    kept.push(*first)?;
+    kept.extend_from_slice(rest)?;
+    Ok(Some(kept))
+}
+
 /// The values that the words behind an order's name give; none where one of them is an option.
-fn values_of<'a>(alloc: Global, words: &'a [&'a str]) -> Result<Option<Vec<&'a str>>, NoMemory>
+fn values_of<'a>(alloc: Global, words: &[&'a str]) -> Result<Option<Vec<&'a str>>, NoMemory>
     ensures { IfOk result (λ read. option_map (λ values. map (λ value. value.now) values.items) read
         ≡ values_of (map (λ word. word.now) words.now)) }
 {

@@ -32,7 +32,7 @@ pub(crate) struct FlagHelp {
 }
 
 /// The orders, as the program's help lists them.
-pub(crate) const ORDERS: [OrderHelp; 5] = [SHOW, LIST, ASM, DEBUG, RUN];
+pub(crate) const ORDERS: [OrderHelp; 6] = [SHOW, LIST, ASM, MEND, DEBUG, RUN];
 
 pub(crate) const SHOW: OrderHelp = OrderHelp {
     name: "show",
@@ -79,20 +79,40 @@ const ASM: OrderHelp = OrderHelp {
     flags: &[],
 };
 
+pub(crate) const MEND: OrderHelp = OrderHelp {
+    name: "mend",
+    title: "zk mend",
+    about: "Makes the log of 3.4 that a newer server's log stands for",
+    notes: MEND_NOTES,
+    values: &[
+        LOG,
+        ValueHelp {
+            name: "OUT",
+            help: "The log of 3.4, which is made or emptied: a path, and not FILE",
+            required: true,
+        },
+    ],
+    flags: &[],
+};
+
 pub(crate) const DEBUG: OrderHelp = OrderHelp {
     name: "debug",
     title: "zk debug",
-    about: "Answers the lines of a debug script over a log",
+    about: "Answers the lines of a debug script over a log, or of a session",
     notes: DEBUG_LINES,
     values: &[
         LOG,
         ValueHelp {
             name: "SCRIPT",
-            help: "The script: a path, or @ for standard input",
-            required: true,
+            help: "The script: a path, or @ for standard input. Without one, each line of standard input is answered before the next is read",
+            required: false,
         },
     ],
-    flags: &[],
+    flags: &[FlagHelp {
+        name: "prompt",
+        help: "A prompt before each line of a session, also where standard input is no terminal",
+        without: "SCRIPT",
+    }],
 };
 
 const RUN: OrderHelp = OrderHelp {
@@ -126,6 +146,16 @@ write a new file, and then `mv` it.
 
 docs/FAULTS.md tells what each line on the standard error means, and what helps.";
 
+/// What `zk mend` reports, and where a line on the standard error is explained.
+const MEND_NOTES: &str =
+    "FILE is a log of a server of 3.4 to 3.8. Standard output has a report: how many records there
+are, how many of them did not change, each change with how often it came and the offset of the
+first, and how FILE ends. docs/FORMATS.md has the changes.
+
+OUT is for reading: no server should go on with it. It stays empty where FILE is refused.
+
+docs/FAULTS.md tells what each line on the standard error means, and what helps.";
+
 /// The lines of a debug script.
 const DEBUG_LINES: &str = r#"Lines of a debug script, one command each:
   step                one place up
@@ -143,6 +173,12 @@ const DEBUG_LINES: &str = r#"Lines of a debug script, one command each:
   break error         on an answer whose code is not 0
   clear N             takes breakpoint N away
   reset               back to the start; breakpoints stay
+
+Lines of a session, which has no SCRIPT, beside these:
+  help                the lines of a session
+  list [N]            the log around the place, which has a >: N lines before and behind, or 5
+  diff                what the last move changed in the tree: - went, + came, < was, > is
+  quit                ends the session, as the end of input does
 
 Words of a kind:
   create0 create delete setData setACL createSession closeSession error multi

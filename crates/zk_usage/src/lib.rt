@@ -12,7 +12,7 @@ mod helps;
 use clap::Error;
 pub use clap::error::ErrorKind;
 use grammar::{command, order_command};
-use helps::{DEBUG, SHOW};
+use helps::{DEBUG, MEND, SHOW};
 use std::alloc::{AllocError, Global};
 use std::fmt;
 
@@ -49,7 +49,8 @@ impl fmt::Display for Refusal {
 pub fn refusal_of<'a>(alloc: Global, words: &'a [&'a str]) -> Result<Refusal, AllocError> {
     let error = match refused_by_clap(alloc, words)? {
         Some(error) => error,
-        // Of the words that clap takes, a ZXID and a second @ alone are refused.
+        None if words.get(1) == Some(&"mend") => mend_fault(alloc)?,
+        // Of the other words that clap takes, a ZXID and a second @ alone are refused.
         None => value_fault(alloc, words.get(1) == Some(&"debug"))?,
     };
     refusal_by(alloc, &error)
@@ -65,12 +66,20 @@ fn value_fault(alloc: Global, is_debug: bool) -> Result<Error, AllocError> {
     if is_debug {
         return order_command(alloc, &DEBUG)?.bin_name(DEBUG.title)?.error(
             ErrorKind::ArgumentConflict,
-            "FILE and SCRIPT cannot both be standard input",
+            "FILE cannot be standard input where SCRIPT is, or where there is none",
         );
     }
     order_command(alloc, &SHOW)?.bin_name(SHOW.title)?.error(
         ErrorKind::ValueValidation,
         "ZXID is neither sixteen lower-case hexadecimal digits nor `last`",
+    )
+}
+
+/// What is wrong with the values of `mend`, which clap takes.
+fn mend_fault(alloc: Global) -> Result<Error, AllocError> {
+    order_command(alloc, &MEND)?.bin_name(MEND.title)?.error(
+        ErrorKind::ArgumentConflict,
+        "OUT cannot be FILE or standard output, which has the report",
     )
 }
 

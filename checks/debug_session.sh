@@ -1,0 +1,101 @@
+#!/usr/bin/env bash
+# A session with the debugger: it answers a script's lines as a script is answered, one by one, and reads nothing behind `quit`;
+# a line that says nothing is told, and dropped; a prompt stands where the lines come from a terminal or where it is asked for,
+# and nowhere else; `help`, `list` and `diff`; and what is refused.
+set -euo pipefail
+work=$(mktemp -d)
+trap 'rm -rf "$work"' EXIT
+zk=$PWD/crates/zk_cli/out/zk_cli
+log=$work/lock.log
+
+for example in lock multi; do
+    files=examples/$example
+    "$zk" asm "$files.listing" "$work/$example.log"
+    "$zk" debug "$work/$example.log" <"$files.script" | cmp - "$files.answers"
+done
+
+# the last line may have no newline, and no line is none
+printf %s "$(cat examples/lock.script)" | "$zk" debug "$log" | cmp - examples/lock.answers
+[ -z "$("$zk" debug "$log" </dev/null)" ]
+
+# each line is answered before the next is there
+coproc session { exec "$zk" debug "$log"; }
+# (bash forgets the name once the session has ended)
+pid=$session_PID
+for place in 1 2 3; do
+    echo step >&"${session[1]}"
+    read -r -t 20 answer <&"${session[0]}"
+    [[ $answer = "place $place "* ]]
+done
+echo quit >&"${session[1]}"
+wait "$pid"
+
+# what stands behind `quit` is left to whoever reads next
+[ "$(printf 'step\nquit\nleft\n' | { "$zk" debug "$log" && cat; } | tail -n 1)" = left ]
+
+# lines that say nothing
+{
+    printf 'node "/lock/"\n\ngoto 1\nlist x\nwhere\nstep\377\n'
+    head -c 65537 /dev/zero | tr '\0' x
+    printf '\nstep\n'
+} >"$work/bad"
+"$zk" debug "$log" <"$work/bad" >"$work/out"
+cat >"$work/wanted" <<'END'
+? node PATH, in double quotes
+? a command; help lists them
+? goto ZXID, of sixteen lower-case hexadecimal digits
+? list or list N, a number of lines
+? a command; help lists them
+? a line in UTF-8
+? a line of at most 65,536 bytes
+END
+head -n 7 "$work/out" | cmp - "$work/wanted"
+[[ $(tail -n 1 "$work/out") = "place 1 "* ]]
+
+# prompts, where they are asked for
+first=$(printf 'step\n' | "$zk" debug "$log")
+[ "$(printf 'step\nquit\n' | "$zk" debug --prompt "$log")" = "zk 0 0000000000000000> $first
+zk 1 ${first#place 1 }> " ]
+printf 'step\n' | "$zk" debug "$log" --prompt | head -n 1 | grep -qx "zk 0 0000000000000000> $first"
+
+# and at a terminal, which echoes the lines
+{
+    sleep 1
+    printf 'step\n'
+    sleep 1
+    printf 'quit\n'
+} | script -qec "$zk debug $log" /dev/null | tr -d '\r' >"$work/terminal"
+grep -qF "zk 0 0000000000000000> " "$work/terminal"
+grep -qF "$first" "$work/terminal"
+grep -qF "zk 1 ${first#place 1 }> " "$work/terminal"
+if printf 'step\n' | "$zk" debug "$log" | grep -qF '> '; then
+    exit 1
+fi
+
+# every line that help names, and the last move
+printf 'help\n' | "$zk" debug "$log" | grep -q '^  quit  '
+printf 'step\nlist 1\n' | "$zk" debug "$log" | grep -q '^>'
+printf 'run\ndiff\n' | "$zk" debug "$log" | grep -q '^+ "/lock'
+
+# ends STATUS WORD..: what `zk WORD..` ends with, and what it tells
+ends() {
+    local wanted=$1 status=0
+    shift
+    "$zk" "$@" >"$work/out" 2>"$work/err" </dev/null || status=$?
+    [ "$status" = "$wanted" ]
+}
+ends 2 debug @
+ends 2 debug --prompt @
+ends 2 debug --prompt "$log" examples/lock.script
+ends 2 show --prompt "$log" last
+ends 1 debug examples/lock.script
+[ "$(cat "$work/err")" = "zk: G1" ]
+ends 1 debug "$work/none"
+[ "$(cat "$work/err")" = "zk: read" ]
+status=0
+printf 'step\n' | "$zk" debug "$log" 2>"$work/err" >/dev/full || status=$?
+[ "$status $(cat "$work/err")" = "1 zk: write" ]
+status=0
+"$zk" debug "$log" <"$work" 2>"$work/err" || status=$?
+[ "$status $(cat "$work/err")" = "1 zk: read" ]
+echo "debug_session: line by line as a script, with a prompt at a terminal alone"
