@@ -1,7 +1,7 @@
 #!/usr/bin/env bash
 # Refuses each growth of memory in turn, from the first on until a run meets none, while the proved program shows
-# examples/first_log_head.log, lists the first log, and makes it of its listing; and the same for a log with a path of 200
-# bytes and contents that are longer than a page of output. Each run must end with the whole output, or with `zk: memory`,
+# examples/first_log_head.log, lists the first log, makes it of its listing, and mends two newer logs; and the same for a log with
+# a path of 200 bytes and contents that are longer than a page of output. Each run must end with the whole output, or with `zk: memory`,
 # status 1, and a part of the output from its front. A debug script may also go on behind a line that tells the refusal, `B4`: a
 # debugger that failed tells `B5` until it is reset, and goes on from its start then with its breakpoints; and where a breakpoint is
 # refused, the rest is as if its line were not there. Run scripts have a check of their own, `refused_scripts.py`.
@@ -81,6 +81,9 @@ refuse_each() {
 refuse_each examples/first_log_head.shown show examples/first_log_head.log last
 refuse_each examples/first_log.listing list examples/first_log.log
 refuse_each examples/first_log.log asm examples/first_log.listing @
+# (what is written is the report; the log stands in a file of its own)
+refuse_each examples/stock/kinds.report mend examples/stock/kinds.log "$work/mended"
+refuse_each examples/stock/close.report mend examples/stock/close.log "$work/mended"
 
 # a path of 200 bytes, a line that fills more than one page, and behind it one that needs a longer page still
 path=/$(printf 'a%.0s' $(seq 199))

@@ -1,17 +1,17 @@
-ghost use Rattle.std.specs.Prelude.{◌≡◌, ◌+◌, ◌-◌, ◌<◌, ◌^◌, Ok};
-ghost use Rattle.zk_orders.specs.Showing.{report_of};
-ghost use Rattle.zk_orders.specs.Telling.{OutputsOf, TellsLog};
-ghost use Rattle.zk_orders.specs.Writing.{Writes};
+ghost use Rattle.std.specs.Prelude.{◌+◌, ◌-◌, ◌<◌, ◌^◌};
+ghost use Rattle.zk_orders.specs.Showing.{report_of, show_report};
+ghost use Rattle.zk_orders.specs.Telling.{TellsLog, TellsWriting};
+ghost use Rattle.zk_spelling.specs.Listings.{listing_of};
 ghost use Rattle.zk_log.specs.Devices.{reads_of, read_failures_of, write_failures_of};
 
 use crate::lines::LineFault;
 use crate::list::write_listing;
-use crate::show::write_report;
+use crate::show::{Shower, write_report};
 use crate::telling::{TURNS, tell, tell_log_fault};
 use std::alloc::Global;
 use std::io::{Read, Write};
 use std::mem::forget;
-use zk_log::{Loaded, LogFault, Sink, Source, load};
+use zk_log::{LogFault, Sink, Source, load, load_into};
 use zk_path::NoMemory;
 
 /// What is written of a log.
@@ -38,53 +38,78 @@ pub fn tell_log<F: Read, O: Write, E: Write>(
     ensures { TellsLog F.remaining O.contents E.contents (report_of report) file.old file.new
         output.old output.new faults.old faults.new result }
 {
-    match load(alloc, file, TURNS) {
-        Ok(loaded) => {
-            let status = tell_loaded(alloc, report, &loaded, output, faults);
-            // The program ends with this: to give the memory back piece by piece would cost as much as to list the log.
-            forget(loaded);
-            status
+    match report {
+        Report::Tree { upto } => tell_tree(alloc, upto, file, output, faults),
+        Report::Listing => tell_listing(alloc, file, output, faults),
+    }
+}
+
+/// Loads a log into a machine, and writes the report of its tree. Answers the exit status.
+fn tell_tree<F: Read, O: Write, E: Write>(
+    alloc: Global,
+    upto: Option<i64>,
+    file: &mut Source<F>,
+    output: &mut Sink<O>,
+    faults: &mut Sink<E>,
+) -> Result<u8, NoMemory>
+    requires reads { reads_of file.old + 1048576 < 2 ^ 64 }
+    requires read_failures { read_failures_of file.old < 2 ^ 64 - 1 }
+    requires output { write_failures_of output.old < 2 ^ 64 - 1 }
+    requires faults { write_failures_of faults.old < 2 ^ 64 - 1 }
+    ensures { TellsLog F.remaining O.contents E.contents (show_report upto) file.old file.new
+        output.old output.new faults.old faults.new result }
+{
+    let mut shower = Shower::new(alloc, upto)?;
+    match load_into(alloc, file, TURNS, &mut shower) {
+        Ok(head) => {
+            let written = write_report(alloc, shower, head.ending, output);
+            tell_written(written, faults)
         }
         Err(LogFault::NoMemory) => Err(NoMemory),
         Err(fault) => tell_log_fault(alloc, fault, faults),
     }
 }
 
-/// Writes what is asked for of a loaded log. Answers the exit status.
-fn tell_loaded<O: Write, E: Write>(
+/// Loads a log and writes its listing. Answers the exit status.
+fn tell_listing<F: Read, O: Write, E: Write>(
     alloc: Global,
-    report: Report,
-    loaded: &Loaded,
+    file: &mut Source<F>,
     output: &mut Sink<O>,
     faults: &mut Sink<E>,
 ) -> Result<u8, NoMemory>
+    requires reads { reads_of file.old + 1048576 < 2 ^ 64 }
+    requires read_failures { read_failures_of file.old < 2 ^ 64 - 1 }
     requires output { write_failures_of output.old < 2 ^ 64 - 1 }
     requires faults { write_failures_of faults.old < 2 ^ 64 - 1 }
-    ensures { OutputsOf O.contents E.contents (report_of report) (Ok loaded.now)
+    ensures { TellsLog F.remaining O.contents E.contents (λ loaded. listing_of loaded.txns) file.old file.new
         output.old output.new faults.old faults.new result }
 {
-    match write_of(alloc, report, loaded, output) {
+    match load(alloc, file, TURNS) {
+        Ok(loaded) => {
+            let written = write_listing(alloc, loaded.txns.as_slice(), output);
+            // The program ends with this: to give the memory back piece by piece would cost as much as to list the log.
+            forget(loaded);
+            tell_written(written, faults)
+        }
+        Err(LogFault::NoMemory) => Err(NoMemory),
+        Err(fault) => tell_log_fault(alloc, fault, faults),
+    }
+}
+
+/// Tells a failed output. Answers the exit status.
+fn tell_written<E: Write>(
+    written: Result<(), LineFault>,
+    faults: &mut Sink<E>,
+) -> Result<u8, NoMemory>
+    requires { write_failures_of faults.old < 2 ^ 64 - 1 }
+    ensures { TellsWriting E.contents written faults.old faults.new result }
+{
+    match written {
         Ok(()) => Ok(0),
         Err(LineFault::Write) => {
             tell(faults, "zk: write\n");
             Ok(1)
         }
         Err(LineFault::NoMemory) => Err(NoMemory),
-    }
-}
-
-/// Writes what is asked for of a loaded log.
-fn write_of<O: Write>(
-    alloc: Global,
-    report: Report,
-    loaded: &Loaded,
-    output: &mut Sink<O>,
-) -> Result<(), LineFault>
-    requires { write_failures_of output.old < 2 ^ 64 - 1 }
-    ensures { Writes O.contents output.old (report_of report loaded.now) result output.new }
-{
-    match report {
-        Report::Tree { upto } => write_report(alloc, upto, loaded, output),
-        Report::Listing => write_listing(alloc, loaded.txns.as_slice(), output),
     }
 }

@@ -1,11 +1,11 @@
 //! The spelling of fields. What is public appends a whole field, or nothing where memory is refused; what is not leaves a
 //! part behind then, and goes into a text of its own.
-ghost use Rattle.std.specs.Prelude.{◌≡◌, ◌≤◌, ◌++◌, ◌∷◌, OnErr, OnOk, length};
+ghost use Rattle.std.specs.Prelude.{◌≡◌, ◌≤◌, ◌<◌, ◌*◌, ◌++◌, ◌∷◌, OnErr, OnOk, length, slice_index};
 ghost use Rattle.std.specs.List.{flat_map, list_any};
 ghost use Rattle.std.specs.Option.{option_copied};
 ghost use Rattle.std.specs.Str.{chars};
 ghost use Rattle.std.specs.String.{string_bytes};
-ghost use Rattle.hex.specs.Hex.{encode_lower};
+ghost use Rattle.hex.specs.Hex.{encode_lower, lower_digits};
 ghost use Rattle.zk_spelling.specs.Spelling.{sixteen_digits, id_digits, is_escaped, escaped, quoted, content_text, acl_entry_text, acl_text, stat_text, stat_times, stat_versions, stat_rest};
 
 use std::str;
@@ -158,10 +158,35 @@ fn push_piece(line: &mut String, piece: &[u8]) -> Result<(), NoMemory>
     // Digits in a buffer take no memory of their own.
     let mut buffer = [0u8; 2 * PIECE];
     let digits = &mut buffer[..2 * piece.len()];
-    hex::encode_to_slice(piece, digits).unwrap();
+    write_digits(piece, digits);
     // That digits are UTF-8 is proved here; to test it would take a sixth of the time of a line.
     line.push_str(unsafe { str::from_utf8_unchecked(digits) })?;
     Ok(())
+}
+
+/// Writes two hexadecimal digits for each byte.
+fn write_digits(bytes: &[u8], digits: &mut [u8])
+    requires { length digits.old ≡ 2 * length bytes.now }
+    ensures { digits.new ≡ encode_lower bytes.now }
+{
+    // No table of digits, as `hex` has one: so the compiler spells several bytes at a time.
+    for at in 0..bytes.len() {
+        let byte = bytes[at];
+        digits[2 * at] = digit_of(byte >> 4);
+        digits[2 * at + 1] = digit_of(byte & 15);
+    }
+}
+
+/// The hexadecimal digit of a number.
+fn digit_of(number: u8) -> u8
+    requires { number < 16 }
+    ensures { result ≡ slice_index lower_digits number }
+{
+    if number < 10 {
+        b'0' + number
+    } else {
+        b'a' - 10 + number
+    }
 }
 
 /// Appends an access control list: the number of its entries, and the three fields of each.

@@ -1,4 +1,4 @@
-use Rattle.std.proofs.Common.{◌≡◌, ℕ, List, [], Result, Ok, Err, refl, subst, rules}
+use Rattle.std.proofs.Common.{ℕ, List, [], Ok, Err, refl, subst, rules}
 use Rattle.std.specs.String.{string_bytes}
 use Rattle.zk_orders.specs.Answering.{OutputsAndTells}
 use Rattle.zk_orders.specs.Debugs.{RunsFromStart}
