@@ -125,6 +125,10 @@ impl Ensemble {
         }
     }
 
+    pub(crate) fn allocator(&self) -> Global {
+        self.alloc
+    }
+
     /// An event of the world happens, and the server that it is about delivers what it has not yet.
     fn move_world(&mut self, event: zab_runs::Event<Call>) -> Result<Answer, EnsembleFault>
         ensures counts { state_of self.new

@@ -7,8 +7,10 @@
 
 mod ensemble;
 mod moving;
+mod outcome;
 mod replica;
 
 pub use ensemble::Ensemble;
+pub use outcome::Outcome;
 pub use zab_world::Caught;
 pub use zk_runs::{Answer, Answered, EnsembleFault, Event, Question};

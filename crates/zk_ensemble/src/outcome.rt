@@ -1,0 +1,133 @@
+//! What has come of a call or a sync at a server, and what a session is to be told there.
+
+ghost use Rattle.std.specs.Prelude.{◌≡◌, ◌==◌, drop, map, option_map, IfOk};
+ghost use Rattle.std.specs.List.{filter};
+ghost use Rattle.zk_ensemble.specs.Outcomes.{answered_with, caught_with, change_in, is_for, news_of};
+
+use crate::ensemble::Ensemble;
+use std::alloc::Global;
+use zab_world::Caught;
+use zk_machine::Change;
+use zk_path::NoMemory;
+use zk_runs::Answered;
+use zk_watch::Fired;
+
+/// What has come of a call or a sync at a server, and what a session is to be told there.
+#[derive(Debug, Drop)]
+pub struct Outcome {
+    /// What the call with the tag was answered, where the server has delivered it.
+    pub answered: Option<Answered>,
+    /// How many entries were to be delivered for the sync with the tag, where the server has caught up.
+    pub caught: Option<u64>,
+    /// The session's events behind the first ones, in order.
+    pub events: Vec<Change>,
+    /// How many events the server has fired since it started, for whichever session.
+    pub fired: usize,
+}
+
+impl Ensemble {
+    ghost use Rattle.std.specs.Prelude.{◌≡◌, option_map, IfOk};
+    ghost use Rattle.zab_runs.specs.Runs.{syncs_of};
+    ghost use Rattle.zk_runs.specs.Ensembles.{shown_at};
+    ghost use Rattle.zk_ensemble.specs.Views.{answers_in, events_in};
+    ghost use Rattle.zk_ensemble.specs.Outcomes.{answered_with, caught_with, news_of, IsOutcome};
+
+    /// What has come of the call or the sync with this tag at a server, and the session's events there behind the first
+    /// `from` of all. Nothing, where no server has this number.
+    pub fn outcome(
+        &self,
+        number: usize,
+        tag: u64,
+        session: i64,
+        from: usize,
+    ) -> Result<Outcome, NoMemory>
+        ensures { IfOk result (λ outcome. IsOutcome (answers_in (shown_at self.now.shown number))
+            (syncs_of self.now.below.world number) (events_in (shown_at self.now.shown number)) tag session from outcome) }
+    {
+        let answered = copied(self.answered(number, tag))?;
+        Ok(Outcome {
+            answered,
+            caught: self.caught(number, tag),
+            events: self.news(number, session, from)?,
+            fired: self.events_of(number).len(),
+        })
+    }
+
+    /// What the call with this tag was answered at a server, lent.
+    pub fn answered(&self, number: usize, tag: u64) -> Option<&Answered>
+        ensures { option_map (λ it. it.now) result ≡ answered_with tag (answers_in (shown_at self.now.shown number)) }
+    {
+        answered_with(self.answers(number), tag)
+    }
+
+    /// How many entries were to be delivered for the sync with this tag, where the server has caught up.
+    pub fn caught(&self, number: usize, tag: u64) -> Option<u64>
+        ensures { result ≡ caught_with tag (syncs_of self.now.below.world number) }
+    {
+        caught_with(self.syncs(number), tag)
+    }
+
+    /// A session's events at a server behind the first `from` of all, in order.
+    pub fn news(&self, number: usize, session: i64, from: usize) -> Result<Vec<Change>, NoMemory>
+        ensures { IfOk result (λ news. news.items ≡ news_of session from (events_in (shown_at self.now.shown number))) }
+    {
+        let alloc = self.allocator();
+        news_of(
+            alloc,
+            behind(self.events_of(number), from),
+            session.cast_unsigned(),
+        )
+    }
+}
+
+/// The last answer with this tag: a call's answer is among the last where its client waits for it.
+fn answered_with(answers: &[Answered], tag: u64) -> Option<&Answered>
+    ensures { option_map (λ it. it.now) result ≡ answered_with tag answers.now }
+{
+    answers.iter().rev().find(|it| it.tag == tag)
+}
+
+fn copied(answered: Option<&Answered>) -> Result<Option<Answered>, NoMemory>
+    ensures { IfOk result (λ copy. copy ≡ option_map (λ it. it.now) answered.entry) }
+{
+    match answered {
+        Some(answered) => Ok(Some(answered.copy()?)),
+        None => Ok(None),
+    }
+}
+
+fn caught_with(syncs: &[Caught], tag: u64) -> Option<u64>
+    ensures { result ≡ caught_with tag syncs.now }
+{
+    match syncs.iter().rev().find(|it| it.tag == tag) {
+        Some(it) => Some(it.length),
+        None => None,
+    }
+}
+
+/// What stands behind so many events.
+fn behind(fired: &[Fired], from: usize) -> &[Fired]
+    ensures { result.now ≡ drop from fired.now }
+{
+    match fired.get(from..) {
+        Some(rest) => rest,
+        None => &[],
+    }
+}
+
+/// A session's events.
+fn news_of(alloc: Global, fired: &[Fired], session: u64) -> Result<Vec<Change>, NoMemory>
+    ensures { IfOk result (λ news. news.items ≡ map change_in (filter (λ it. it.session == session) fired.now)) }
+{
+    let mut news = Vec::new(alloc);
+    for event in fired {
+        if event.session == session {
+            let path = event.path.copy()?;
+            news.push(Change {
+                path,
+                kind: event.kind,
+            })?;
+        }
+    }
+    Ok(news)
+}
