@@ -14,7 +14,7 @@ from pathlib import Path
 
 ROOT = Path(__file__).resolve().parent.parent
 PROGRAM = ROOT / "crates" / "zk_refusals" / "out" / "zk_refusals"
-CASES = ("apply", "undo", "make", "taken", "touch", "set", "fire", "put", "push", "step", "add")
+CASES = ("apply", "undo", "make", "taken", "touch", "set", "fire", "put", "push", "step", "add", "serve")
 
 # More growths than any case meets.
 ENOUGH = 100_000

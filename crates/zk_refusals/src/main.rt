@@ -9,6 +9,7 @@
 mod chronicles;
 mod machines;
 mod seen;
+mod servers;
 mod tables;
 mod worlds;
 
@@ -16,24 +17,26 @@ use seen::Seen;
 use std::alloc::Global;
 use std::env;
 use std::process::ExitCode;
+use std::sync::Wait;
+use std::thread::Threads;
 use zk_path::NoMemory;
 
 fn main(rt: HostRuntime) -> ExitCode {
-    match run(&rt) {
+    match run(&rt, &rt) {
         Ok(status) => ExitCode::from(status),
         Err(NoMemory) => ExitCode::from(1),
     }
 }
 
 /// Runs the case that the command line names, and prints how it ended. Answers the exit status.
-fn run(rt: &HostRuntime) -> Result<u8, NoMemory> {
+fn run<R: Threads + Wait + Sync>(rt: &HostRuntime, threads: &R) -> Result<u8, NoMemory> {
     let Ok(mut words) = env::args(rt) else {
         return Err(NoMemory);
     };
     let Some(word) = words.nth(1) else {
         return Ok(2);
     };
-    match case(rt.alloc(), word.as_str())? {
+    match case(rt.alloc(), threads, word.as_str())? {
         None => Ok(2),
         Some(Seen::Differs) => Ok(3),
         Some(Seen::Refused) => Ok(print(rt, "refused\n")),
@@ -47,7 +50,11 @@ fn print(rt: &HostRuntime, word: &str) -> u8 {
 }
 
 /// The case that a word names.
-fn case(alloc: Global, word: &str) -> Result<Option<Seen>, NoMemory> {
+fn case<R: Threads + Wait + Sync>(
+    alloc: Global,
+    threads: &R,
+    word: &str,
+) -> Result<Option<Seen>, NoMemory> {
     let seen = match word {
         "apply" => machines::apply(alloc)?,
         "undo" => machines::undo(alloc)?,
@@ -60,6 +67,7 @@ fn case(alloc: Global, word: &str) -> Result<Option<Seen>, NoMemory> {
         "push" => tables::push(alloc)?,
         "step" => worlds::step(alloc)?,
         "add" => chronicles::add(alloc)?,
+        "serve" => servers::serve(threads, alloc)?,
         _ => return Ok(None),
     };
     Ok(Some(seen))

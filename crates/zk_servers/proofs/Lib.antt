@@ -4,3 +4,7 @@ pub mod Marks
 pub mod Turning
 pub mod Starting
 pub mod Joining
+pub mod Fronts
+pub mod Delivering
+pub mod Keeping
+pub mod Pushes

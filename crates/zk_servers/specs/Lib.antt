@@ -4,3 +4,4 @@ pub mod Calls
 pub mod Closing
 pub mod Turns
 pub mod Running
+pub mod Keeping

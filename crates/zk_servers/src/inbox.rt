@@ -61,6 +61,18 @@ impl Senders {
         self.ends.get(server.checked_sub(1)?)?.clone().ok()
     }
 
+    /// All ends once more.
+    pub fn copy(&self, alloc: Global) -> Result<Senders, NoMemory> {
+        let mut ends = Vec::new(alloc);
+        for end in &self.ends {
+            let Ok(end) = end.clone() else {
+                return Err(NoMemory);
+            };
+            ends.push(end)?;
+        }
+        Ok(Senders { ends })
+    }
+
     /// Sends a number to a server; one that can't be sent is lost.
     pub(crate) fn send<R: Wait>(&self, rt: &R, server: usize, message: usize) {
         let Some(place) = server.checked_sub(1) else {

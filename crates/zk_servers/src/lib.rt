@@ -3,27 +3,33 @@
 //! A thread calls by its [`Seat`], which keeps its calls, and gets a [`Receipt`] for each event that happened. At the end
 //! [`Shared::close`] compares the calls and the receipts with what is recorded, and hands the [`Chronicle`] out.
 //!
-//! Own; the events are those of `zk_ensemble`.
+//! What each server has delivered is published in a view of its own, in which a [`Reader`] reads without the lock.
+//!
+//! Own; the events are those of `zk_ensemble`, and the views are those of `zk_views`.
 #![tactic(auto)]
 
+mod board;
 mod chronicle;
 mod closing;
 mod desk;
 mod fault;
 mod inbox;
+mod kept;
 mod record;
 mod running;
 mod seat;
 mod serving;
 mod shared;
 
+pub use board::Board;
 pub use chronicle::Chronicle;
 pub use closing::{CloseFault, joined};
-pub use desk::Desk;
 pub use fault::CallFault;
 pub use inbox::{Inbox, Post, Senders, inboxes};
+pub use kept::Kept;
 pub use record::{Receipt, Record};
 pub use running::{Run, Turns, run_servers};
 pub use seat::{Made, Seat};
-pub use serving::{Gate, Worked, Worker};
-pub use shared::{Shared, Unclosed};
+pub use serving::{Gate, Worked, Worker, send_on};
+pub use shared::{Shared, Started, Unclosed};
+pub use zk_views::{Pass, Reader, Seen, ViewFault};

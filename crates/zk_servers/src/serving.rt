@@ -105,10 +105,25 @@ fn call_once<L: Ledger, R: Wait>(
     let Ok(receipt) = shared.call(rt, seat, event) else {
         return false;
     };
-    let sent = sent_by(&receipt);
+    send_on(rt, shared, senders, &receipt);
     receipts.push_reserved(receipt);
-    send_new(rt, shared, senders, sent);
     true
+}
+
+/// The numbers of the messages that an event sent go to their addressees; one that can't be sent is lost.
+pub fn send_on<L: Ledger, R: Wait>(
+    rt: &R,
+    shared: &Shared<L>,
+    senders: &Senders,
+    receipt: &Receipt,
+) {
+    let sent = sent_by(receipt);
+    for more in 0..sent.count {
+        let Some(message) = sent.first.checked_add(more) else {
+            return;
+        };
+        senders.send(rt, shared.addressee(rt, message), message);
+    }
 }
 
 /// The messages that an event sent.
@@ -116,15 +131,5 @@ fn sent_by(receipt: &Receipt) -> Moved {
     match &receipt.answer {
         Ok(Answer::Moved(moved)) => *moved,
         _ => Moved { first: 0, count: 0 },
-    }
-}
-
-/// New messages go to their addressees.
-fn send_new<L: Ledger, R: Wait>(rt: &R, shared: &Shared<L>, senders: &Senders, sent: Moved) {
-    for more in 0..sent.count {
-        let Some(message) = sent.first.checked_add(more) else {
-            return;
-        };
-        senders.send(rt, shared.addressee(rt, message), message);
     }
 }

@@ -1,11 +1,14 @@
-ghost use Rattle.std.specs.Prelude.{◌≡◌, ◌+◌, ◌<◌, ◌++◌, ◌∷◌, [], replicate, IfErr, IfOk, OnErr};
+ghost use Rattle.std.specs.Prelude.{◌^◌, All, length, map, ◌≡◌, ◌+◌, ◌<◌, ◌++◌, ◌∷◌, [], replicate, IfErr, IfOk, OnErr};
 ghost use Rattle.zk_servers.specs.Calls.{made};
 ghost use Rattle.zk_servers.specs.Closing.{IsRefusal, IsWhole};
+ghost use Rattle.zk_servers.specs.Keeping.{AreOfOneView};
 
+use crate::board::Board;
 use crate::chronicle::Chronicle;
 use crate::closing::{CloseFault, compare};
 use crate::desk::Desk;
 use crate::fault::CallFault;
+use crate::kept::{Viewed, views_of};
 use crate::record::Receipt;
 use crate::seat::Seat;
 use std::alloc::Global;
@@ -13,11 +16,21 @@ use std::sync::ledger::{Blank, Ledger, Share};
 use std::sync::{Mutex, Wait};
 use zk_ensemble::Event;
 use zk_path::NoMemory;
+use zk_views::Reader;
 
-/// A chronicle that threads share.
+/// A chronicle that threads share, and a view of each server, which readers enter without the lock.
 #[derive(Drop)]
 pub struct Shared<L: Ledger> {
-    desk: Mutex<Desk<L>>,
+    board: Mutex<Board<L>>,
+}
+
+/// What begins with a new ensemble.
+#[derive(Drop)]
+pub struct Started<L: Ledger> {
+    pub shared: Shared<L>,
+    pub seats: Vec<Seat<L>>,
+    /// Those of each server's view, from server 1 on.
+    pub readers: Vec<Vec<Reader>>,
 }
 
 /// What is handed back where a chronicle is not handed out.
@@ -25,34 +38,47 @@ pub struct Shared<L: Ledger> {
 pub struct Unclosed<L: Ledger> {
     pub fault: CloseFault,
     /// What lay under the lock; [`Shared::over`] puts it back there.
-    pub desk: Desk<L>,
+    pub board: Board<L>,
     pub seats: Vec<Seat<L>>,
     pub receipts: Vec<Receipt>,
 }
 
 impl<L: Ledger> Shared<L> {
-    /// An ensemble of so many servers in which nothing has happened, and seats that have not called.
-    pub fn start(
+    /// An ensemble of so many servers in which nothing has happened, seats that have not called, and for each server so many readers
+    /// of its view, in which nothing is published. [`NoMemory`] also where a view can't give so many.
+    pub fn start<R: Wait>(
+        rt: &R,
         alloc: Global,
         blank: Blank,
         servers: usize,
         seats: usize,
-    ) -> Result<(Shared<L>, Vec<Seat<L>>), NoMemory>
+        readers: usize,
+    ) -> Result<Started<L>, NoMemory>
         requires name { blank.name ≡ L.name }
         requires parts { blank.parts ≡ L.parts }
         requires enough { blank.parts ≡ seats + 1 }
-        ensures { IfOk result (λ started. started.1.items ≡ replicate seats []) }
+        requires many { (0 < seats) × (seats < 2 ^ 32) }
+        requires few { (0 < readers) × (readers < 2 ^ 32) }
+        ensures seats { IfOk result (λ started. started.seats.items ≡ replicate seats []) }
+        ensures views { IfOk result (λ started. length started.readers.items ≡ servers) }
+        ensures readers { IfOk result (λ started. All (AreOfOneView readers) (map (λ list. list.items) started.readers.items)) }
     {
         let chronicle = Chronicle::new(alloc, servers)?;
         let (calls, mut rest) = blank.open::<L>();
         let seats = seats_of(alloc, &mut rest, seats)?;
-        Ok((Shared::over(Desk::new(chronicle, calls)), seats))
+        let Viewed { views, readers } = views_of(rt, alloc, servers, readers)?;
+        let board = Board::new(Desk::new(chronicle, calls), views);
+        Ok(Started {
+            shared: Shared::over(board),
+            seats,
+            readers,
+        })
     }
 
     /// Puts under a lock what lay under one.
-    pub fn over(desk: Desk<L>) -> Shared<L> {
+    pub fn over(board: Board<L>) -> Shared<L> {
         Shared {
-            desk: Mutex::new(desk),
+            board: Mutex::new(board),
         }
     }
 
@@ -66,35 +92,41 @@ impl<L: Ledger> Shared<L> {
         ensures seated { IfOk result (λ receipt. seat.new ≡ seat.old ++ made receipt.number event ∷ []) }
         ensures refused { OnErr result (seat.new ≡ seat.old) }
     {
-        self.desk.lock(rt).add(seat, event)
+        self.board.lock(rt).add(rt, seat, event)
     }
 
     /// The server that a message is for; 0 where no message has the number.
     pub(crate) fn addressee<R: Wait>(&self, rt: &R, message: usize) -> usize {
         let arrival = Event::World(zab_runs::Event::Arrive { message });
-        self.desk.lock(rt).server_of(&arrival)
+        self.board.lock(rt).server_of(&arrival)
     }
 
     /// Ends the sharing: the chronicle is handed out exactly where each of its events was called by one of these seats and is told by
-    /// one of these receipts, in whatever order they are.
-    pub fn close(
+    /// one of these receipts, in whatever order they are. From then on no reader enters a view.
+    pub fn close<R: Wait>(
         self,
+        rt: &R,
         alloc: Global,
         seats: Vec<Seat<L>>,
         receipts: Vec<Receipt>,
     ) -> Result<Chronicle, Unclosed<L>>
         ensures whole { IfOk result (λ it. IsWhole it.records seats.items receipts.items) }
-        ensures refused { IfErr result (λ it. IsRefusal it.desk.records seats.items receipts.items it.fault) }
+        ensures refused { IfErr result (λ it. IsRefusal it.board.records seats.items receipts.items it.fault) }
         ensures seats { IfErr result (λ it. it.seats.items ≡ seats.items) }
         ensures receipts { IfErr result (λ it. it.receipts.items ≡ receipts.items) }
     {
-        let Shared { desk } = self;
-        let desk = desk.into_inner();
-        match compare(alloc, desk.records(), seats.as_slice(), receipts.as_slice()) {
-            Ok(()) => Ok(desk.into_chronicle()),
+        let Shared { board } = self;
+        let board = board.into_inner();
+        match compare(
+            alloc,
+            board.records(),
+            seats.as_slice(),
+            receipts.as_slice(),
+        ) {
+            Ok(()) => Ok(board.into_chronicle(rt)),
             Err(fault) => Err(Unclosed {
                 fault,
-                desk,
+                board,
                 seats,
                 receipts,
             }),

@@ -1,0 +1,60 @@
+//! Readers of a server's view, beside one thread that calls; and what a publish costs: `bench/readers.py` measures it.
+//!
+//! usage: zk_servers_load [READERS [READS [TXNS [VIEWS [TABLES]]]]]     so many readers are each answered so many times while another
+//! thread calls; so many transactions are published, one by one, in so many views; and they are applied to so many tables
+//!
+//! The session is opened and the node is made before anybody reads, so each read is answered, and the number of answers follows.
+#![tactic(auto)]
+
+mod publishing;
+mod reading;
+mod txns;
+
+use anyhow::{Context, Result};
+use publishing::{apply_to_all, publish_to_all};
+use reading::read_all;
+use std::env;
+use std::sync::Wait;
+use std::thread::Threads;
+use txns::txns;
+
+const READERS: usize = 2;
+
+const READS: usize = 1_000;
+
+const TXNS: usize = 300;
+const VIEWS: usize = 1;
+
+const TABLES: usize = 2;
+
+fn main(rt: HostRuntime) -> Result<()> {
+    run(&rt, &rt)
+}
+
+fn run<R: Threads + Wait + Sync>(rt: &HostRuntime, threads: &R) -> Result<()> {
+    let readers = word(rt, 1, READERS)?;
+    let reads = word(rt, 2, READS)?;
+    let count = word(rt, 3, TXNS)?;
+    let views = word(rt, 4, VIEWS)?;
+    let tables = word(rt, 5, TABLES)?;
+    let answered = read_all(threads, rt.alloc(), readers, reads)?;
+    println!(rt; "{readers} readers, {answered} answers")?;
+    let list = txns(rt.alloc(), count)?;
+    let published = publish_to_all(threads, rt.alloc(), &list, views)?;
+    println!(rt; "{views} views, {published} transactions published")?;
+    apply_to_all(rt.alloc(), &list, tables)?;
+    println!(rt; "{tables} tables")?;
+    Ok(())
+}
+
+/// A number of the command line, or another where it is left out.
+fn word(rt: &HostRuntime, place: usize, otherwise: usize) -> Result<usize> {
+    match env::args(rt)?.nth(place) {
+        Some(word) => Ok(
+            word.as_str()
+                .parse()
+                .context("READERS, READS, TXNS, VIEWS and TABLES are numbers")?,
+        ),
+        None => Ok(otherwise),
+    }
+}

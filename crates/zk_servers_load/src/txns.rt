@@ -1,0 +1,110 @@
+//! Transactions that a server could have delivered.
+
+use std::alloc::Global;
+use zk_acl::{Acl, Acls, Id, Ids, Text};
+use zk_ensemble::Event;
+use zk_path::{NoMemory, Path};
+use zk_prepare::{Call, Request};
+use zk_table::{Content, Op, Txn};
+
+/// The session that the first call opens, as its transaction is the first one of the first epoch.
+pub(crate) const SESSION: i64 = 0x1_0000_0001;
+
+/// What a node holds.
+const CONTENT: [u8; 100] = [104; 100];
+
+/// How many nodes there are. Later transactions set what they hold, in turn.
+const NODES: usize = 100;
+
+/// World, anyone, all permissions.
+fn open_to_all(alloc: Global) -> Result<Acls, NoMemory> {
+    let scheme = Text::read(alloc, "world")?;
+    let id = Text::read(alloc, "anyone")?;
+    let mut entries = Vec::new(alloc);
+    entries.push(Acl {
+        perms: 31,
+        id: Id { scheme, id },
+    })?;
+    Acls::new(alloc, entries)
+}
+
+/// The path of a node.
+pub(crate) fn path(alloc: Global, number: usize) -> Result<Path, NoMemory> {
+    let text = format!(in alloc; "/node-{number}")?;
+    let Ok(path) = Path::read(alloc, text.as_str()) else {
+        return Err(NoMemory);
+    };
+    Ok(path)
+}
+
+fn op(alloc: Global, place: usize) -> Result<Op, NoMemory> {
+    let path = path(alloc, place % NODES)?;
+    let content = Some(Content::read(alloc, &CONTENT)?);
+    if place < NODES {
+        return Ok(Op::Create {
+            path,
+            content,
+            acl: open_to_all(alloc)?,
+            ephemeral: false,
+            count: -1,
+        });
+    }
+    Ok(Op::SetData {
+        path,
+        content,
+        version: -1,
+    })
+}
+
+/// So many transactions.
+pub(crate) fn txns(alloc: Global, count: usize) -> Result<Vec<Txn>, NoMemory> {
+    let mut list = Vec::new(alloc);
+    let mut zxid = SESSION;
+    for place in 0..count {
+        let op = op(alloc, place)?;
+        list.push(Txn {
+            session: SESSION,
+            cxid: 0,
+            zxid,
+            time: 1000,
+            op,
+        })?;
+        zxid = zxid.wrapping_add(1);
+    }
+    Ok(list)
+}
+
+fn request(alloc: Global, tag: u64) -> Result<Request, NoMemory> {
+    let path = Text::read(alloc, "/node")?;
+    let content = Some(Content::read(alloc, &CONTENT)?);
+    match tag {
+        1 => Ok(Request::OpenSession { timeout: 30000 }),
+        2 => Ok(Request::Create {
+            path,
+            content,
+            acl: open_to_all(alloc)?,
+            flags: 0,
+        }),
+        _ => Ok(Request::SetData {
+            path,
+            content,
+            version: -1,
+        }),
+    }
+}
+
+/// The call with a tag: it opens the session, makes its node, or sets that node.
+pub(crate) fn call(alloc: Global, tag: u64) -> Result<Event, NoMemory> {
+    let request = request(alloc, tag)?;
+    Ok(Event::World(zab_runs::Event::Submit {
+        server: 1,
+        call: Call {
+            tag,
+            session: SESSION,
+            cxid: 0,
+            auths: Ids::new(Vec::new(alloc)),
+            now: 1000,
+            request,
+        },
+    }))
+}

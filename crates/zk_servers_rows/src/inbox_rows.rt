@@ -1,0 +1,163 @@
+//! What servers take out of their inboxes.
+
+ghost use Rattle.std.specs.Prelude.{◌≡◌, IfOk, length, vec_len};
+
+use crate::events::{Happening, jobs_of};
+use crate::gate::Open;
+use std::alloc::Global;
+use std::marker::Brand;
+use std::sync::Wait;
+use std::sync::ledger::{Blank, Ledger};
+use std::thread::Threads;
+use zk_ensemble::{EnsembleFault, Event};
+use zk_path::NoMemory;
+use zk_servers::{Inbox, Post, Run, Seat, Shared, Started, inboxes, run_servers};
+
+/// What servers were answered.
+#[derive(Debug, Drop)]
+struct Answered {
+    receipts: usize,
+    /// How many of these tell that no message has the number.
+    no_message: usize,
+    /// How many events were recorded, when closing had the receipts.
+    events: Option<usize>,
+}
+
+/// Servers in threads, each for so many turns; and then closing.
+fn run_all<L: Ledger + Send + Sync, R: Threads + Wait + Sync>(
+    rt: &R,
+    alloc: Global,
+    shared: Shared<L>,
+    post: Post,
+    seats: Vec<Seat<L>>,
+    jobs: Vec<Vec<Event>>,
+    turns: u32,
+) -> Result<Answered, NoMemory>
+    requires inboxes { length post.inboxes.items ≡ length seats.items }
+    requires jobs { length jobs.items ≡ length seats.items }
+{
+    let Run {
+        seats,
+        receipts,
+        passed: _,
+    } = run_servers(rt, alloc, &shared, &Open, post, seats, jobs, turns)?;
+    let count = receipts.len();
+    let mut no_message = 0usize;
+    for it in &receipts {
+        if matches!(it.answer, Err(EnsembleFault::NoMessage)) {
+            no_message = no_message.wrapping_add(1);
+        }
+    }
+    let closed = shared.close(rt, alloc, seats, receipts);
+    Ok(Answered {
+        receipts: count,
+        no_message,
+        events: closed.ok().map(|it| it.records().len()),
+    })
+}
+
+/// One server without jobs, whose inbox holds 99 and then 0.
+fn run_one<L: Ledger + Send + Sync, R: Threads + Wait + Sync>(
+    rt: &R,
+    alloc: Global,
+    blank: Blank,
+) -> Result<Answered, NoMemory>
+    requires name { blank.name ≡ L.name }
+    requires parts { blank.parts ≡ L.parts }
+    requires enough { blank.parts ≡ 2 }
+{
+    let Started {
+        shared,
+        seats,
+        readers: _,
+    } = Shared::<L>::start(rt, alloc, blank, 1, 1, 1)?;
+    let post = inboxes(alloc, 1)?;
+    let end = post.senders.sender(1).ok_or(NoMemory)?;
+    let _ = end.send(rt, 99);
+    let _ = end.send(rt, 0);
+    let mut jobs = Vec::new(alloc);
+    jobs.reserve(1)?;
+    jobs.push_reserved(Vec::new(alloc));
+    run_all(rt, alloc, shared, post, seats, jobs, 5)
+}
+
+/// The first server's inbox, and in place of the second's, which is dropped, another one into which nobody sends.
+fn with_second_dropped(alloc: Global) -> Result<Post, NoMemory>
+    ensures { IfOk result (λ post. length post.inboxes.items ≡ 2) }
+{
+    let post = inboxes(alloc, 2)?;
+    let other = inboxes(alloc, 2)?;
+    let Post { inboxes, senders } = post;
+    let Post {
+        inboxes: others,
+        ..
+    } = other;
+    let first: Inbox = inboxes.into_iter().next().ok_or(NoMemory)?;
+    let second: Inbox = others.into_iter().next().ok_or(NoMemory)?;
+    let mut inboxes = Vec::new(alloc);
+    inboxes.reserve(2)?;
+    inboxes.push_reserved(first);
+    inboxes.push_reserved(second);
+    Ok(Post { inboxes, senders })
+}
+
+fn jobs_of_two(alloc: Global) -> Result<Vec<Vec<Event>>, NoMemory>
+    ensures { IfOk result (λ jobs. length jobs.items ≡ 2) }
+{
+    let first = jobs_of(alloc, &[Happening::Lead(1)])?;
+    let second = jobs_of(alloc, &[Happening::Follow(2, 1)])?;
+    let mut jobs = Vec::new(alloc);
+    jobs.reserve(2)?;
+    jobs.push_reserved(first);
+    jobs.push_reserved(second);
+    Ok(jobs)
+}
+
+/// One server leads, and the other follows it and has lost its inbox.
+fn run_two<L: Ledger + Send + Sync, R: Threads + Wait + Sync>(
+    rt: &R,
+    alloc: Global,
+    blank: Blank,
+) -> Result<Answered, NoMemory>
+    requires name { blank.name ≡ L.name }
+    requires parts { blank.parts ≡ L.parts }
+    requires enough { blank.parts ≡ 3 }
+{
+    let Started {
+        shared,
+        seats,
+        readers: _,
+    } = Shared::<L>::start(rt, alloc, blank, 2, 2, 1)?;
+    let post = with_second_dropped(alloc)?;
+    let jobs = jobs_of_two(alloc)?;
+    run_all(rt, alloc, shared, post, seats, jobs, 2)
+}
+
+/// The ledger is picked here.
+fn one_server<R: Threads + Wait + Sync>(rt: &R, alloc: Global) -> Result<Answered, NoMemory> {
+    run_one::<Brand, R>(rt, alloc, Blank::new(2))
+}
+
+/// The ledger is picked here.
+fn two_servers<R: Threads + Wait + Sync>(rt: &R, alloc: Global) -> Result<Answered, NoMemory> {
+    run_two::<Brand, R>(rt, alloc, Blank::new(3))
+}
+
+#[test]
+fn inbox_of_99_and_0(rt: HostRuntime) -> Result<(), NoMemory> {
+    let told = one_server(&rt, rt.alloc())?;
+    assert_eq!(rt; told.receipts, 1);
+    assert_eq!(rt; told.no_message, 1);
+    assert_eq!(rt; told.events, Some(1));
+    Ok(())
+}
+
+/// The leader is told that the second server follows it, which is message 1. What it answers, message 2, is lost.
+#[test]
+fn inbox_dropped_early_loses_its_numbers(rt: HostRuntime) -> Result<(), NoMemory> {
+    let told = two_servers(&rt, rt.alloc())?;
+    assert_eq!(rt; told.receipts, 3);
+    assert_eq!(rt; told.no_message, 0);
+    assert_eq!(rt; told.events, Some(3));
+    Ok(())
+}
