@@ -84,11 +84,7 @@ fn job_of<'a>(alloc: Global, words: &'a [&'a str]) -> Result<Option<Job<'a>>, No
 
 /// The job that an order's name and all words behind it name.
 #[tactic(auto, using(crate::proofs::GivenLaws::plain_behind, crate::proofs::GivenLaws::prompted_behind))]
-fn job_behind<'a>(
-    alloc: Global,
-    name: &str,
-    words: &[&'a str],
-) -> Result<Option<Job<'a>>, NoMemory>
+fn job_behind<'a>(alloc: Global, name: &str, words: &[&'a str]) -> Result<Option<Job<'a>>, NoMemory>
     ensures { IfOk result (λ read. ReadsBehind name.now (map (λ word. word.now) words.now) read) }
 {
     match without_prompt(alloc, words)? {

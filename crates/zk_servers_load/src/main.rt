@@ -23,6 +23,7 @@ const READERS: usize = 2;
 const READS: usize = 1_000;
 
 const TXNS: usize = 300;
+
 const VIEWS: usize = 1;
 
 const TABLES: usize = 2;
