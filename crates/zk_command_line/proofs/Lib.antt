@@ -1,4 +1,6 @@
 pub mod DigitsLaws
 pub mod GivenLaws
+pub mod LinesLaws
 pub mod NamesLaws
+pub mod ServingLaws
 pub mod WordsLaws
