@@ -1,3 +1,4 @@
+pub mod BehindLaws
 pub mod DigitsLaws
 pub mod GivenLaws
 pub mod LinesLaws

@@ -96,7 +96,7 @@ ReadsServing words None = NamesNoServing words
 -- ---- its parts
 
 abbrev pub ReadsDecimal : List ℕ → Option ℤ → Type 0
-ReadsDecimal word (Some z) = (word ≡ signed_decimal z) × ((y : ℤ) → FitsSigned w64 y → word ≡ signed_decimal y → z ≡ y)
+ReadsDecimal word (Some z) = FitsSigned w64 z × (word ≡ signed_decimal z) × ((y : ℤ) → FitsSigned w64 y → word ≡ signed_decimal y → z ≡ y)
 ReadsDecimal word None = (y : ℤ) → FitsSigned w64 y → word ≢ signed_decimal y
 
 abbrev pub shown : Told → Counted
@@ -105,6 +105,11 @@ shown told = (told.count.now, map (λ word. word.now) told.others.items)
 abbrev pub ReadsServingBehind : List (List ℕ) → Option Serving → Type 0
 ReadsServingBehind words (Some serving) = NamesBehind words serving
 ReadsServingBehind words None = (serving : Serving) → ¬ NamesBehind words serving
+
+-- by the order's name, and the words behind it
+abbrev pub ReadsServingNamed : List ℕ → List (List ℕ) → Option Serving → Type 0
+ReadsServingNamed name words (Some serving) = (name ≡ codes "serve") × NamesBehind words serving
+ReadsServingNamed name words None = (serving : Serving) → name ≡ codes "serve" → ¬ NamesBehind words serving
 
 -- by the values that words may give, and a number of connections
 abbrev pub ReadsServersOf : Option (List (List ℕ)) → ℕ → Option Serving → Type 0

@@ -1,6 +1,6 @@
 ghost use Rattle.std.specs.Prelude.{◌≡◌, ◌++◌, Some, IfOk, map, option_map};
 ghost use Rattle.zk_command_line.specs.Commands.{values_of};
-ghost use Rattle.zk_command_line.specs.Serving.{ReadsDecimal, ReadsServers, ReadsServersOf, ReadsServing, ReadsServingBehind, ReadsWithin, behind, count_in, shown, told_behind, told_in};
+ghost use Rattle.zk_command_line.specs.Serving.{ReadsDecimal, ReadsServers, ReadsServersOf, ReadsServing, ReadsServingBehind, ReadsServingNamed, ReadsWithin, behind, count_in, shown, told_behind, told_in};
 
 use crate::command::{only_two, values_of};
 use std::alloc::Global;
@@ -32,13 +32,21 @@ pub(crate) fn serving_of(alloc: Global, words: &[&str]) -> Result<Option<Serving
     let [_, name, rest @ ..] = words else {
         return Ok(None);
     };
-    if *name != "serve" {
+    serving_named(alloc, name, rest)
+}
+
+/// The servers that an order's name and the words behind it name.
+fn serving_named(alloc: Global, name: &str, words: &[&str]) -> Result<Option<Serving>, NoMemory>
+    ensures { IfOk result (λ read. ReadsServingNamed name.now (map (λ word. word.now) words.now) read) }
+{
+    if name != "serve" {
         return Ok(None);
     }
-    serving_behind(alloc, rest)
+    serving_behind(alloc, words)
 }
 
 /// The servers that the words behind the order's name name.
+#[tactic(auto, using(crate::proofs::BehindLaws::plain_serving, crate::proofs::BehindLaws::counted_serving, crate::proofs::BehindLaws::uncounted))]
 fn serving_behind(alloc: Global, words: &[&str]) -> Result<Option<Serving>, NoMemory>
     ensures { IfOk result (λ read. ReadsServingBehind (map (λ word. word.now) words.now) read) }
 {
