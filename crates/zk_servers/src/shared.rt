@@ -14,7 +14,7 @@ use crate::seat::Seat;
 use std::alloc::Global;
 use std::sync::ledger::{Blank, Ledger, Share};
 use std::sync::{Mutex, Wait};
-use zk_ensemble::Event;
+use zk_ensemble::{Event, Mark, Outcome};
 use zk_path::NoMemory;
 use zk_views::Reader;
 
@@ -93,6 +93,19 @@ impl<L: Ledger> Shared<L> {
         ensures refused { OnErr result (seat.new ≡ seat.old) }
     {
         self.board.lock(rt).add(rt, seat, event)
+    }
+
+    /// What has come of a call or a sync with this tag at a server, and a session's events there, of all behind the mark. It is what
+    /// [`Board::outcome`] tells under the lock: no clause can name what a lock holds.
+    pub fn outcome<R: Wait>(
+        &self,
+        rt: &R,
+        number: usize,
+        tag: u64,
+        session: i64,
+        from: Mark,
+    ) -> Result<Outcome, NoMemory> {
+        self.board.lock(rt).outcome(number, tag, session, from)
     }
 
     /// The server that a message is for; 0 where no message has the number.

@@ -46,7 +46,7 @@ pub fn inboxes(alloc: Global, servers: usize) -> Result<Post, NoMemory>
 
 impl Inbox {
     /// The next number: none where the inbox ends.
-    pub(crate) fn next<R: Wait>(&self, rt: &R) -> Option<usize> {
+    pub fn next<R: Wait>(&self, rt: &R) -> Option<usize> {
         match self.numbers.recv(rt) {
             Ok(0) => None,
             Ok(message) => Some(message),
@@ -74,7 +74,7 @@ impl Senders {
     }
 
     /// Sends a number to a server; one that can't be sent is lost.
-    pub(crate) fn send<R: Wait>(&self, rt: &R, server: usize, message: usize) {
+    pub fn send<R: Wait>(&self, rt: &R, server: usize, message: usize) {
         let Some(place) = server.checked_sub(1) else {
             return;
         };
@@ -84,7 +84,7 @@ impl Senders {
     }
 
     /// Ends each inbox.
-    pub(crate) fn end_all<R: Wait>(&self, rt: &R) {
+    pub fn end_all<R: Wait>(&self, rt: &R) {
         for end in &self.ends {
             let _ = end.send(rt, 0);
         }

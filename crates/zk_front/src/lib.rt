@@ -1,0 +1,18 @@
+//! The line front: what serves connections, over the services that answer them.
+//!
+//! A service over servers that run as threads is [`Remote`]. Own; the lines and the loop are those of `zk_serving`.
+#![tactic(auto)]
+
+mod caller;
+mod clients;
+mod remote;
+mod starting;
+mod waiting;
+
+pub use remote::Remote;
+pub use starting::Unstarted;
+pub use zk_front_asks::{
+    Clock, HOME, Sought, caught_by, event_of, looked_by, next_tag, service_fault_of, session_of,
+    sought_by,
+};
+pub use zk_serving::{Ask, Events, FrontFault, Reply, Service, ServiceFault, Told, serve_lines};
