@@ -43,17 +43,16 @@ impl Clients {
         self.timeouts.remove(&session);
     }
 
-    /// How far a session was told of events, where answers and syncs were looked at up to this mark.
+    /// Where a session's events are to be looked for, when answers and syncs were looked at up to this mark.
     pub(crate) fn mark_of(&self, session: i64, mark: Mark) -> Mark {
         let events = match self.told.get(&session) {
             Some(events) => *events,
-            None if session == 0 => mark.events,
             None => 0,
         };
         Mark { events, ..mark }
     }
 
-    /// A session was told of so many of the server's events.
+    /// A session is told of all of the server's events, so many.
     pub(crate) fn tell(&mut self, session: i64, events: usize) -> Result<(), NoMemory> {
         self.told.insert(session, events)?;
         Ok(())

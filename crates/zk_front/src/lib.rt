@@ -3,14 +3,15 @@
 //! A service over servers that run as threads is [`Remote`]. Own; the lines and the loop are those of `zk_serving`.
 #![tactic(auto)]
 
+mod asker;
 mod caller;
 mod clients;
 mod remote;
 mod starting;
+mod turn;
 mod waiting;
 
-pub use remote::Remote;
-pub use starting::Unstarted;
+pub use remote::{Remote, Unstarted};
 pub use zk_front_asks::{
     Clock, HOME, Sought, caught_by, event_of, looked_by, next_tag, service_fault_of, session_of,
     sought_by,

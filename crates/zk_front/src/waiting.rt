@@ -9,27 +9,18 @@ use zk_ensemble::{Mark, Outcome};
 use zk_front_asks::{HOME, Sought};
 use zk_serving::ServiceFault;
 
-/// How often the server is asked what has come of a call.
+/// How often it is looked whether something has happened.
 const MOST_LOOKS: u32 = 1_048_576;
 
 /// How often at most other threads are let run in between, before this one sleeps.
-const YIELDS: u32 = 64;
+const YIELDS: u32 = 256;
 
 /// Microseconds that it sleeps.
 const PAUSE: u64 = 50;
 
 impl<L: Ledger, R: Wait + time::Clock> Caller<'_, L, R> {
-    /// What has come by now of the ask with this tag, and of the session's events.
-    pub(crate) fn outcome(
-        &self,
-        tag: u64,
-        session: i64,
-        from: Mark,
-    ) -> Result<Outcome, ServiceFault> {
-        Ok(self.shared.outcome(self.rt, HOME, tag, session, from)?)
-    }
-
-    /// What has come of it once it is answered.
+    /// What has come of an ask, and of the session's events, once it is there. The lock is taken only where something has happened since
+    /// it was taken last.
     pub(crate) fn wait_for(
         &self,
         sought: Sought,
@@ -38,15 +29,20 @@ impl<L: Ledger, R: Wait + time::Clock> Caller<'_, L, R> {
         from: Mark,
     ) -> Result<Outcome, ServiceFault> {
         let mut from = from;
+        let mut seen = None;
         for looks in 0..MOST_LOOKS {
-            let outcome = self.outcome(tag, session, from)?;
-            if is_found(sought, &outcome) {
-                return Ok(outcome);
+            let called = Some(self.shared.called());
+            if called != seen {
+                let outcome = self.shared.outcome(self.rt, HOME, tag, session, from)?;
+                if is_found(sought, &outcome) {
+                    return Ok(outcome);
+                }
+                from = Mark {
+                    events: from.events,
+                    ..outcome.mark
+                };
+                seen = called;
             }
-            from = Mark {
-                events: from.events,
-                ..outcome.mark
-            };
             self.pause(looks);
         }
         Err(ServiceFault::Server)
