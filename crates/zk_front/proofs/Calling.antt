@@ -26,22 +26,25 @@ given_more tag (events.World (Restart server)) is = tt
 given_more tag (events.Read question) is = tt
 
 -- one tag more is given out
-pub kept_tag : (calls : List Made) (receipts : List Receipt) (tag : ℕ) → IsKept (record { calls = calls; receipts = receipts; tag = tag }) → IsKept (record { calls = calls; receipts = receipts; tag = tag + 1 })
-kept_tag calls receipts tag kept = record {
-  given = λ k d below. given_more tag (get_or calls k d).event (kept.given k d below);
-  told = kept.told;
+pub kept_tag : (old new : Calling) → IsKept old → new.calls ≡ old.calls → new.receipts ≡ old.receipts → new.tag ≡ old.tag + 1 → IsKept new
+kept_tag old new kept calls receipts tag = record {
+  given = subst (λ (n : ℕ). All (λ call. IsGiven n call.event) new.calls) (sym tag)
+  (subst (λ (l : List Made). All (λ call. IsGiven (old.tag + 1) call.event) l) (sym calls) (λ k d below. given_more old.tag (get_or old.calls k d).event (kept.given k d below)));
+  told = ap numbers_told receipts ∙ kept.told ∙ sym (ap numbers_of calls);
 }
 
 -- one call more
-pub kept_call : (calls : List Made) (receipts : List Receipt) (tag : ℕ) (event : Event) (receipt : Receipt) → IsKept (record { calls = calls; receipts = receipts; tag = tag }) → IsGiven tag event
-    → IsKept (record { calls = calls ++ made receipt.number event ∷ []; receipts = receipts ++ receipt ∷ []; tag = tag })
-kept_call calls receipts tag event receipt kept is =
-    let P : Made → Type 0 = λ call. IsGiven tag call.event in
-    let call = made receipt.number event in record {
-      given = All-append P calls (call ∷ []) kept.given (λ k d below.
-          let first : k ≡ 0 = omega (arith, below) in
-          subst (λ n. P (get_or (call ∷ []) n d)) (sym first) is);
-      told = map-append (λ (r : Receipt). r.number) receipts (receipt ∷ []) ∙ ap (λ l. l ++ receipt.number ∷ []) kept.told ∙ sym (map-append (λ (m : Made). m.number) calls (call ∷ []));
+pub kept_call : (old : Calling) (event : Event) (receipt : Receipt) (new : Calling) → IsKept old → IsGiven old.tag event
+    → new.calls ≡ old.calls ++ made receipt.number event ∷ [] → new.receipts ≡ old.receipts ++ receipt ∷ [] → new.tag ≡ old.tag → IsKept new
+kept_call old event receipt new kept is calls receipts tag =
+    let P : Made → Type 0 = λ call. IsGiven old.tag call.event in
+    let call : Made = made receipt.number event in
+    let one : All P (call ∷ []) = λ k d below. subst (λ (n : ℕ). P (get_or (call ∷ []) n d)) (sym (omega (arith, below))) is in
+    record {
+      given = subst (λ (n : ℕ). All (λ it. IsGiven n it.event) new.calls) (sym tag)
+      (subst (λ (l : List Made). All P l) (sym calls) (All-append P old.calls (call ∷ []) kept.given one));
+      told = ap numbers_told receipts ∙ map-append (λ (r : Receipt). r.number) old.receipts (receipt ∷ []) ∙ ap (λ l. l ++ receipt.number ∷ []) kept.told
+      ∙ sym (map-append (λ (m : Made). m.number) old.calls (call ∷ [])) ∙ sym (ap numbers_of calls);
     }
 
 -- ---- calls
