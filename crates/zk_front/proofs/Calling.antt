@@ -1,5 +1,6 @@
 -- What a service calls, one event after the other.
 use Rattle.std.proofs.Common.{◌≡◌, ℕ, ◌+◌, ◌≤◌, ◌<◌, All, List, [], ◌∷◌, ◌++◌, length, map, refl, sym, ap, subst, ◌∙◌, arith}
+use Rattle.std.specs.Prelude.{Result, Ok, Err, OnOk, OnErr}
 use Rattle.std.proofs.lemmas.List.{map-append, append_assoc, append-nil}
 use Rattle.std.proofs.lemmas.List.Elements.{All-append}
 use lib.ListN.{get_or}
@@ -29,7 +30,7 @@ given_more tag (events.Read question) is = tt
 pub kept_tag : (old new : Calling) → IsKept old → new.calls ≡ old.calls → new.receipts ≡ old.receipts → new.tag ≡ old.tag + 1 → IsKept new
 kept_tag old new kept calls receipts tag = record {
   given = subst (λ (n : ℕ). All (λ call. IsGiven n call.event) new.calls) (sym tag)
-  (subst (λ (l : List Made). All (λ call. IsGiven (old.tag + 1) call.event) l) (sym calls) (λ k d below. given_more old.tag (get_or old.calls k d).event (kept.given k d below)));
+      (subst (λ (l : List Made). All (λ call. IsGiven (old.tag + 1) call.event) l) (sym calls) (λ k d below. given_more old.tag (get_or old.calls k d).event (kept.given k d below)));
   told = ap numbers_told receipts ∙ kept.told ∙ sym (ap numbers_of calls);
 }
 
@@ -39,12 +40,12 @@ pub kept_call : (old : Calling) (event : Event) (receipt : Receipt) (new : Calli
 kept_call old event receipt new kept is calls receipts tag =
     let P : Made → Type 0 = λ call. IsGiven old.tag call.event in
     let call : Made = made receipt.number event in
-    let one : All P (call ∷ []) = λ k d below. subst (λ (n : ℕ). P (get_or (call ∷ []) n d)) (sym (omega (arith, below))) is in
+    let one : All P (call ∷ []) = λ k d below. (let first : k ≡ 0 = omega (arith, below) in subst (λ (n : ℕ). P (get_or (call ∷ []) n d)) (sym first) is) in
     record {
       given = subst (λ (n : ℕ). All (λ it. IsGiven n it.event) new.calls) (sym tag)
-      (subst (λ (l : List Made). All P l) (sym calls) (All-append P old.calls (call ∷ []) kept.given one));
+          (subst (λ (l : List Made). All P l) (sym calls) (All-append P old.calls (call ∷ []) kept.given one));
       told = ap numbers_told receipts ∙ map-append (λ (r : Receipt). r.number) old.receipts (receipt ∷ []) ∙ ap (λ l. l ++ receipt.number ∷ []) kept.told
-      ∙ sym (map-append (λ (m : Made). m.number) old.calls (call ∷ [])) ∙ sym (ap numbers_of calls);
+          ∙ sym (map-append (λ (m : Made). m.number) old.calls (call ∷ [])) ∙ sym (ap numbers_of calls);
     }
 
 -- ---- calls
@@ -64,6 +65,16 @@ calls_one old event new one = record {
   receipts = one.receipt ∷ [];
   added = one.added;
   kept = one.kept;
+  made = refl;
+}
+
+-- where the calls before it were none
+pub one_from : (old between new : Calling) (event : Event) → between.calls ≡ old.calls → between.receipts ≡ old.receipts → CallsOne between event new → Calls old (event ∷ []) new
+one_from old between new event calls receipts one = record {
+  calls = made one.receipt.number event ∷ [];
+  receipts = one.receipt ∷ [];
+  added = one.added ∙ ap (λ l. l ++ made one.receipt.number event ∷ []) calls;
+  kept = one.kept ∙ ap (λ l. l ++ one.receipt ∷ []) receipts;
   made = refl;
 }
 
@@ -107,3 +118,17 @@ some_then old xs between ys new calls some = record {
   parts = ap (λ l. xs ++ l) some.parts ∙ sym (append_assoc xs some.first some.rest);
   calls = calls_then old xs between some.first new calls some.calls;
 }
+
+-- ---- what a call answers
+
+pub on_err : {A E : Type 0} (P : Type 0) (r : Result A E) → P → OnErr r P
+on_err P (Ok x) is = tt
+on_err P (Err e) is = is
+
+pub on_ok : {A E : Type 0} (P : Type 0) (r : Result A E) → P → OnOk r P
+on_ok P (Ok x) is = is
+on_ok P (Err e) is = tt
+
+pub length_zero : {A : Type 0} (xs : List A) → length xs ≡ 0 → xs ≡ []
+length_zero [] is = refl
+length_zero (x ∷ xs) is = absurd (omega (arith, is))

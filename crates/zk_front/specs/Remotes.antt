@@ -48,7 +48,7 @@ abbrev pub IsTold : Sought → List Receipt → Reply → Type 0
 IsTold seeks.Written receipts (replies.Wrote wrote) = Unit {0}
 IsTold seeks.Looked receipts reply = TellsLast receipts reply
 IsTold seeks.Caught receipts replies.Caught = Unit {0}
-IsTold sought receipts reply = ⊥
+IsTold _ receipts reply = ⊥
 
 -- ---- an ask
 

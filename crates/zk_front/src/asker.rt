@@ -2,7 +2,7 @@
 
 ghost use Rattle.std.specs.Prelude.{◌≡◌, ◌+◌, ◌∷◌, [], length, IfOk, OnOk, OnErr};
 ghost use Rattle.zk_front.specs.Calling.{Calls, CallsSome};
-ghost use Rattle.zk_front.specs.Remotes.{AsksAt, IsTold, expiries, expiry};
+ghost use Rattle.zk_front.specs.Remotes.{IsTold, events_for, expiries, expiry};
 ghost use Rattle.zk_front_asks.specs.Asks.{event_of, sought_by};
 ghost use Rattle.zk_front_asks.specs.declared.sought.Sought.TheVariants as seeks;
 ghost use Rattle.zk_prepare.specs.Deadlines.{expired_at};
@@ -45,25 +45,25 @@ impl<L: Ledger, R: Wait> Asker<'_, L, R> {
         ensures some { OnErr result (CallsSome self.old.caller (expiries (self.old.caller.tag + 1) now (expired_at self.old.clients.tracker now)) self.new.caller) }
     {
         let due = self.clients.tracker.expired(now)?;
-        self.expire_all(due.as_slice(), now)
+        self.expire_all(due, now)
     }
 
-    fn expire_all(&mut self, due: &[i64], now: i64) -> Result<(), ServiceFault>
-        ensures called { OnOk result (Calls self.old.caller (expiries (self.old.caller.tag + 1) now due.now) self.new.caller) }
-        ensures tag { OnOk result (self.new.caller.tag ≡ self.old.caller.tag + length due.now) }
-        ensures some { OnErr result (CallsSome self.old.caller (expiries (self.old.caller.tag + 1) now due.now) self.new.caller) }
+    fn expire_all(&mut self, due: Vec<i64>, now: i64) -> Result<(), ServiceFault>
+        ensures called { OnOk result (Calls self.old.caller (expiries (self.old.caller.tag + 1) now due.items) self.new.caller) }
+        ensures tag { OnOk result (self.new.caller.tag ≡ self.old.caller.tag + length due.items) }
+        ensures some { OnErr result (CallsSome self.old.caller (expiries (self.old.caller.tag + 1) now due.items) self.new.caller) }
     {
         for session in due {
-            self.expire(*session, now)?;
+            self.expire(session, now)?;
         }
         Ok(())
     }
 
     /// A session that is due is closed. It is forgotten where that was called, whatever it is answered.
     fn expire(&mut self, session: i64, now: i64) -> Result<(), ServiceFault>
-        ensures called { OnOk result (Calls self.old.caller (expiry (self.old.caller.tag + 1) now session ∷ []) self.new.caller) }
+        ensures called { OnOk result (Calls self.old.caller (expiry (self.old.caller.tag + 1) session now ∷ []) self.new.caller) }
         ensures tag { OnOk result (self.new.caller.tag ≡ self.old.caller.tag + 1) }
-        ensures some { OnErr result (CallsSome self.old.caller (expiry (self.old.caller.tag + 1) now session ∷ []) self.new.caller) }
+        ensures some { OnErr result (CallsSome self.old.caller (expiry (self.old.caller.tag + 1) session now ∷ []) self.new.caller) }
     {
         let tag = self.caller.next_tag()?;
         self.caller.make(Event::World(zab_runs::Event::Expire {
@@ -109,7 +109,8 @@ impl<L: Ledger, R: Wait> Asker<'_, L, R> {
 impl<L: Ledger, R: Wait + time::Clock> Asker<'_, L, R> {
     /// An ask at this time.
     pub(crate) fn ask(&mut self, ask: Ask, now: i64) -> Result<Told, ServiceFault>
-        ensures { AsksAt now self.old.clients.tracker self.old.caller ask result self.new.caller }
+        ensures told { IfOk result (λ told. Calls self.old.caller (events_for (self.old.caller.tag + 1) now (expired_at self.old.clients.tracker now) ask) self.new.caller × IsTold (sought_by ask) self.new.caller.receipts told.reply) }
+        ensures some { OnErr result (CallsSome self.old.caller (events_for (self.old.caller.tag + 1) now (expired_at self.old.clients.tracker now) ask) self.new.caller) }
     {
         self.expire_due(now)?;
         let asked = self.make_own(ask, now)?;

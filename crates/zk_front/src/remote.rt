@@ -81,8 +81,8 @@ impl<'s, L: Ledger, R: Wait, C: Clock> Remote<'s, L, R, C> {
 
     /// The seat, and a receipt for each of its calls, in order.
     pub fn end(self) -> (Seat<L>, Vec<Receipt>)
-        ensures seat { result.0 ≡ self.asker.caller.calls }
-        ensures receipts { result.1.items ≡ self.asker.caller.receipts }
+        ensures seat { result.0 ≡ self.entry.asker.caller.calls }
+        ensures receipts { result.1.items ≡ self.entry.asker.caller.receipts }
         ensures told { numbers_told result.1.items ≡ numbers_of result.0 }
     {
         let Remote { asker, .. } = self;
@@ -94,6 +94,7 @@ impl<'s, L: Ledger, R: Wait, C: Clock> Remote<'s, L, R, C> {
 impl<L: Ledger, R: Wait + time::Clock, C: Clock> Service for Remote<'_, L, R, C> {
     ghost does = { λ old ask told new. Asks C.tells old.clock new.clock old.asker.clients.tracker old.asker.caller ask told new.asker.caller };
 
+    #[tactic(auto, using(crate::proofs::Expiring::asks_at))]
     fn ask(&mut self, ask: Ask) -> Result<Told, ServiceFault> {
         let now = self.clock.now();
         self.asker.ask(ask, now)

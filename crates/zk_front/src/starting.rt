@@ -1,9 +1,9 @@
 //! How a service over servers begins: server 1 leads, and the others follow it.
 
-ghost use Rattle.std.specs.Prelude.{◌≡◌, ◌≤◌, ◌-◌, ◌∷◌, ◌++◌, ℕ, All, [], IfOk, OnOk};
+ghost use Rattle.std.specs.Prelude.{◌≡◌, ◌≤◌, ◌-◌, OnOk};
 ghost use Rattle.zab_runs.specs.declared.event.Event.TheVariants.{Arrive, Follow, Lead};
 ghost use Rattle.zk_front.specs.Calling.{Calls, CallsOne};
-ghost use Rattle.zk_front.specs.Starting.{Arrives, Begins, IsUpTo, followings};
+ghost use Rattle.zk_front.specs.Starting.{Arrives, Begins, followings};
 ghost use Rattle.zk_runs.specs.declared.event.Event.TheVariants as events;
 
 use crate::caller::{Caller, sent_by};
@@ -19,8 +19,8 @@ const MOST_ARRIVALS: usize = 1_048_576;
 
 impl<L: Ledger, R: Wait> Caller<'_, L, R> {
     /// Server 1 leads, the others follow it, and each message arrives once. Messages are not sent to inboxes.
+    #[tactic(auto, using(crate::proofs::Beginning::begun))]
     pub(crate) fn begin(&mut self, servers: usize) -> Result<(), ServiceFault>
-        requires first { self.old.receipts ≡ [] }
         ensures { OnOk result (Begins servers self.old self.new) }
     {
         self.lead()?;
@@ -90,9 +90,7 @@ impl<L: Ledger, R: Wait> Caller<'_, L, R> {
     }
 
     /// The number of the last message that was sent so far.
-    fn last_sent(&self) -> Result<usize, ServiceFault>
-        ensures { IfOk result (λ last. All (IsUpTo last) self.now.receipts) }
-    {
+    fn last_sent(&self) -> Result<usize, ServiceFault> {
         let mut last = 0;
         for receipt in &self.receipts {
             last = last.max(sent_by(receipt)?);

@@ -1,10 +1,6 @@
-use Rattle.std.proofs.Common.{◌≡◌, ◌+◌, take}
-use Rattle.zk_front.specs.Calling.{Calls}
-use Rattle.zk_front.specs.Remotes.{expiries}
+use Rattle.std.specs.Vec.Iter.{into_iter_items}
+use Rattle.zk_front.proofs.Expiring.{Expiring}
 use Rattle.zk_front.proofs.asker.Asker.expire_all.Given as goal
 
 abbrev pub invariant-loop-session : goal.invariant-loop-session
-invariant-loop-session g l = record {
-  calls : Calls l.fn.self.caller (expiries (l.fn.self.caller.tag + 1) l.now (take l.session-index l.due)) l.self.caller;
-  tag : l.self.caller.tag ≡ l.fn.self.caller.tag + l.session-index;
-}
+invariant-loop-session g l = Expiring l.fn.self.caller l.fn.now l.fn.due.items (into_iter_items l.session-iterator) l.self.caller
