@@ -5,10 +5,9 @@ use Rattle.std.specs.Int.{to_be_bytes, cast_unsigned}
 use Rattle.hex.proofs.HexLemmas.{length-encode_with}
 use Rattle.hex.specs.Hex.{encode_lower, lower_digits, decode_sized}
 use Rattle.zk_spelling.specs.Spelling.{sixteen_digits, id_digits}
-use Rattle.zk_command_line.specs.Commands.{IsUpto, Names, NamesBy, NamesOnly, given_by, prompts_of, script_of, upto_text}
+use Rattle.zk_command_line.specs.Commands.{IsUpto, Names, NamesBy, given_by, prompts_of, upto_text}
 use Rattle.zk_command_line.specs.declared.command.Order.{Order}
 use Rattle.zk_command_line.specs.declared.command.Order.TheVariants as orders
-use Rattle.zk_command_line.specs.declared.command.Job.{Job}
 use Rattle.zk_command_line.proofs.DigitsLaws.{digits_read, same_bits}
 
 -- ---- numbers of transactions
@@ -44,15 +43,15 @@ one_upto (Some z) (Some y) p q e = ap Some (one_number z y p q e)
 
 -- ---- orders
 
-abbrev IsSame : Order → List ℕ → Option (List ℕ) → List ℕ → Order → List ℕ → Option (List ℕ) → List ℕ → Type 0
+abbrev pub IsSame : Order → List ℕ → Option (List ℕ) → List ℕ → Order → List ℕ → Option (List ℕ) → List ℕ → Type 0
 IsSame order input script output order' input' script' output' = (order ≡ order') × (input ≡ input') × (script ≡ script') × (output ≡ output')
 
 -- by their first letters
-abbrev first_letter : List ℕ → ℕ
+abbrev pub first_letter : List ℕ → ℕ
 first_letter [] = 0
 first_letter (letter ∷ letters) = letter
 
-apart : (a b : List ℕ) (m n : ℕ) → first_letter a ≡ m → first_letter b ≡ n → m < n → a ≡ b → ⊥
+pub apart : (a b : List ℕ) (m n : ℕ) → first_letter a ≡ m → first_letter b ≡ n → m < n → a ≡ b → ⊥
 apart a b m n p q below e = let h : first_letter a ≡ first_letter b = ap first_letter e in omega (arith, p, q, below, h)
 
 same_by : (name : List ℕ) (values : List (List ℕ)) (o o' : Order) (i i' : List ℕ) (s s' : Option (List ℕ)) (t t' : List ℕ) → prompts_of o ≡ prompts_of o' → NamesBy name values o i s t → NamesBy name values o' i' s' t' → IsSame o i s t o' i' s' t'
@@ -140,7 +139,7 @@ same_by name values (orders.Session a) orders.Mend i i' s s' t t' f p q = absurd
 same_given : (x y : Bool × List (List ℕ)) → Some x ≡ Some y → x ≡ y
 same_given x y e = cc
 
-same_named : (words : List (List ℕ)) (o o' : Order) (i i' : List ℕ) (s s' : Option (List ℕ)) (t t' : List ℕ) → Names words o i s t → Names words o' i' s' t' → IsSame o i s t o' i' s' t'
+pub same_named : (words : List (List ℕ)) (o o' : Order) (i i' : List ℕ) (s s' : Option (List ℕ)) (t t' : List ℕ) → Names words o i s t → Names words o' i' s' t' → IsSame o i s t o' i' s' t'
 same_named words o o' i i' s s' t t' p q =
     let both : p.program ∷ p.name ∷ p.rest ≡ q.program ∷ q.name ∷ q.rest = sym p.spelled ∙ q.spelled in
     let name : q.name ≡ p.name = cc both in
@@ -151,6 +150,3 @@ same_named words o o' i i' s s' t t' p q =
     let prompts : prompts_of o ≡ prompts_of o' = sym (ap (λ (x : Bool × List (List ℕ)). x.0) given) in
     same_by p.name p.values o o' i i' s s' t t' prompts p.named
     (subst (λ (n : List ℕ). NamesBy n p.values o' i' s' t') name (subst (λ (v : List (List ℕ)). NamesBy q.name v o' i' s' t') values q.named))
-
-pub names_only : (words : List (List ℕ)) (job : Job) → Names words job.order job.input.now (script_of job) job.output.now → NamesOnly words job
-names_only words job p = record { names = p; only = λ o i s t q. same_named words o job.order i job.input.now s (script_of job) t job.output.now q p }

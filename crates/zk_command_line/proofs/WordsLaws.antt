@@ -23,7 +23,7 @@ no_word = record { ref_ptr = (0, 0); now = [] }
 pub at_turn : (words : List (Bor (List ℕ))) (i : ℕ) → i < length words → texts (drop i words) ≡ (get_or words i no_word).now ∷ texts (drop (i + 1) words)
 at_turn words i within = ap texts (drop_more words i no_word within)
 
-one_more : (values : List (Bor (List ℕ))) (word : Bor (List ℕ)) → texts (values ++ word ∷ []) ≡ texts values ++ word.now ∷ []
+pub one_more : (values : List (Bor (List ℕ))) (word : Bor (List ℕ)) → texts (values ++ word ∷ []) ≡ texts values ++ word.now ∷ []
 one_more values word = map-append (λ (w : Bor (List ℕ)). w.now) values (word ∷ [])
 
 value_first : (front : List (List ℕ)) (word : List ℕ) (found : Option (List (List ℕ))) → with_values front (with_value word found) ≡ with_values (front ++ word ∷ []) found

@@ -1,12 +1,10 @@
--- What the words of a command line name.
+-- What the words of a command line name that has an order done, from inputs to an output.
 use Rattle.std.specs.Prelude.{◌≡◌, ◌≢◌, ℕ, ℤ, ◌<◌, ◌^◌, ◌==◌, ◌&&◌, ◌||◌, Bool, true, false, if◌then◌else◌, List, [], ◌∷◌, Option, Some, None, Result, Ok, Err, FitsSigned, codes, option_map}
 use Rattle.std.specs.Int.{w64}
 use Rattle.std.specs.Str.{bytes_eq}
 use Rattle.zk_spelling.specs.Spelling.{sixteen_digits, id_digits}
 use Rattle.zk_command_line.specs.declared.command.Order.{Order}
 use Rattle.zk_command_line.specs.declared.command.Order.TheVariants as orders
-use Rattle.zk_command_line.specs.declared.command.CommandFault.{CommandFault}
-use Rattle.zk_command_line.specs.declared.command.CommandFault.TheVariants as faults
 use Rattle.zk_command_line.specs.declared.command.Job.{Job}
 
 -- ---- up to which transaction
@@ -73,7 +71,7 @@ abbrev pub prompts_of : Order → Bool
 prompts_of (orders.Session prompts) = prompts
 prompts_of order = false
 
--- ---- a command line
+-- ---- a job
 
 -- standard input can be read once
 abbrev pub both_standard : List ℕ → List ℕ → Bool
@@ -105,8 +103,8 @@ pub record Names (words : List (List ℕ)) (order : Order) (input : List ℕ) (s
   pub given : given_by rest ≡ Some (prompts_of order, values)
   pub named : NamesBy name values order input script output
 
-abbrev pub NamesNothing : List (List ℕ) → Type 0
-NamesNothing words = (order : Order) (input : List ℕ) (script : Option (List ℕ)) (output : List ℕ) → ¬ Names words order input script output
+abbrev pub NamesNoJob : List (List ℕ) → Type 0
+NamesNoJob words = (order : Order) (input : List ℕ) (script : Option (List ℕ)) (output : List ℕ) → ¬ Names words order input script output
 
 abbrev pub script_of : Job → Option (List ℕ)
 script_of job = option_map (λ script. script.now) job.script
@@ -114,17 +112,7 @@ script_of job = option_map (λ script. script.now) job.script
 -- a job is what the words name
 abbrev pub ReadsJob : List (List ℕ) → Option Job → Type 0
 ReadsJob words (Some job) = Names words job.order job.input.now (script_of job) job.output.now
-ReadsJob words None = NamesNothing words
-
--- the words name this job, and no other
-pub record NamesOnly (words : List (List ℕ)) (job : Job) : Type 0 where
-  pub names : Names words job.order job.input.now (script_of job) job.output.now
-  pub only : (order : Order) (input : List ℕ) (script : Option (List ℕ)) (output : List ℕ) → Names words order input script output → (order ≡ job.order) × (input ≡ job.input.now) × (script ≡ script_of job) × (output ≡ job.output.now)
-
-abbrev pub ReadsCommandLine : List (List ℕ) → Result Job CommandFault → Type 0
-ReadsCommandLine words (Ok job) = NamesOnly words job
-ReadsCommandLine words (Err (faults.Refused error)) = NamesNothing words
-ReadsCommandLine words (Err faults.NoMemory) = Unit {0}
+ReadsJob words None = NamesNoJob words
 
 -- ---- its parts
 

@@ -1,12 +1,10 @@
 ghost use Rattle.std.specs.Prelude.{◌≡◌, true, false, IfOk, map, option_map, codes};
-ghost use Rattle.zk_command_line.specs.Commands.{AreOnly, IsOnly, ReadsBehind, ReadsCommandLine, ReadsDebug, ReadsDigits, ReadsGiven, ReadsJob, ReadsJobBy, ReadsMend, ReadsSession, ReadsUpto, is_option, values_of, without_prompt};
+ghost use Rattle.zk_command_line.specs.Commands.{AreOnly, IsOnly, ReadsBehind, ReadsDebug, ReadsDigits, ReadsGiven, ReadsJob, ReadsJobBy, ReadsMend, ReadsSession, ReadsUpto, is_option, values_of, without_prompt};
 
 use hex::FromHex;
 use std::alloc::Global;
-use thiserror::Error;
 use zk_listing::push_digits;
 use zk_path::NoMemory;
-use zk_usage::{Refusal, refusal_of};
 
 /// What the program is told to do.
 #[derive(Clone, Copy, Debug, PartialEq, Eq)]
@@ -28,7 +26,7 @@ pub enum Order {
     Run,
 }
 
-/// What a command line asks for: an order, and the names that it gives.
+/// An order, and the names that a command line gives.
 #[derive(Clone, Copy, Debug)]
 pub struct Job<'a> {
     pub order: Order,
@@ -40,40 +38,9 @@ pub struct Job<'a> {
     pub output: &'a str,
 }
 
-/// Why a command line asks for no job.
-#[derive(Debug, Drop, Error)]
-pub enum CommandFault {
-    /// What is wrong with the line, or the help or the version that it asks for.
-    #[error("{0}")]
-    Refused(Refusal),
-    /// Memory was refused.
-    #[error("memory")]
-    NoMemory,
-}
-
-/// Reads a command line, whose first word is the program's name.
-#[tactic(auto, using(crate::proofs::NamesLaws::names_only))]
-pub fn read_command_line<'a>(alloc: Global, words: &'a [&'a str]) -> Result<Job<'a>, CommandFault>
-    ensures { ReadsCommandLine (map (λ word. word.now) words.now) result }
-{
-    match job_of(alloc, words) {
-        Ok(Some(job)) => Ok(job),
-        Ok(None) => Err(fault_of(alloc, words)),
-        Err(NoMemory) => Err(CommandFault::NoMemory),
-    }
-}
-
-/// What is wrong with words that name no job.
-fn fault_of(alloc: Global, words: &[&str]) -> CommandFault {
-    match refusal_of(alloc, words) {
-        Ok(refusal) => CommandFault::Refused(refusal),
-        Err(_) => CommandFault::NoMemory,
-    }
-}
-
 /// The job that words name.
 #[tactic(auto, using(crate::proofs::GivenLaws::named_behind))]
-fn job_of<'a>(alloc: Global, words: &'a [&'a str]) -> Result<Option<Job<'a>>, NoMemory>
+pub(crate) fn job_of<'a>(alloc: Global, words: &'a [&'a str]) -> Result<Option<Job<'a>>, NoMemory>
     ensures { IfOk result (λ read. ReadsJob (map (λ word. word.now) words.now) read) }
 {
     let [_, name, rest @ ..] = words else {
@@ -238,7 +205,7 @@ fn only<'a>(values: &[&'a str]) -> Option<&'a str>
 }
 
 /// A list's only two elements.
-fn only_two<'a>(values: &[&'a str]) -> Option<(&'a str, &'a str)>
+pub(crate) fn only_two<'a>(values: &[&'a str]) -> Option<(&'a str, &'a str)>
     ensures { AreOnly (map (λ value. value.now) values.now)
         (option_map (λ both. (both.0.now, both.1.now)) result) }
 {
@@ -272,7 +239,10 @@ fn without_prompt<'a>(alloc: Global, words: &[&'a str]) -> Result<Option<Vec<&'a
 }
 
 /// The values that the words behind an order's name give; none where one of them is an option.
-fn values_of<'a>(alloc: Global, words: &[&'a str]) -> Result<Option<Vec<&'a str>>, NoMemory>
+pub(crate) fn values_of<'a>(
+    alloc: Global,
+    words: &[&'a str],
+) -> Result<Option<Vec<&'a str>>, NoMemory>
     ensures { IfOk result (λ read. option_map (λ values. map (λ value. value.now) values.items) read
         ≡ values_of (map (λ word. word.now) words.now)) }
 {

@@ -1,7 +1,7 @@
 //! Which job a command line names, or how it is refused.
 use std::alloc::Global;
 use std::test::Fail;
-use zk_command_line::{CommandFault, Order, read_command_line};
+use zk_command_line::{Command, CommandFault, Order, read_command_line};
 use zk_usage::ErrorKind;
 
 /// What a command line names, or how it is refused.
@@ -10,7 +10,9 @@ fn named<'a>(
     words: &'a [&'a str],
 ) -> Result<(Order, &'a str, Option<&'a str>, &'a str), ErrorKind> {
     match read_command_line(alloc, words) {
-        Ok(job) => Ok((job.order, job.input, job.script, job.output)),
+        Ok(Command::Act(job)) => Ok((job.order, job.input, job.script, job.output)),
+        // No row here names it.
+        Ok(Command::Serve(_)) => Err(ErrorKind::InvalidSubcommand),
         Err(CommandFault::Refused(refusal)) => Err(refusal.kind),
         Err(CommandFault::NoMemory) => Err(ErrorKind::OutOfMemory),
     }

@@ -5,3 +5,5 @@
 
 #[cfg(test)]
 mod job_rows;
+#[cfg(test)]
+mod serving_rows;

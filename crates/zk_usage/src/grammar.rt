@@ -1,6 +1,6 @@
 //! The command line's grammar, as `clap` reads it.
 
-use crate::helps::{FAULTS, FlagHelp, ORDERS, OrderHelp, ValueHelp};
+use crate::helps::{CountHelp, FAULTS, FlagHelp, ORDERS, OrderHelp, ValueHelp};
 use clap::{Arg, ArgAction, Command};
 use std::alloc::{AllocError, Global};
 
@@ -42,6 +42,7 @@ pub(crate) fn order_command<'a>(
         .about(order.about)
         .after_help(order.notes);
     let command = with_flags(alloc, command, order.flags)?;
+    let command = with_counts(alloc, command, order.counts)?;
     with_values(alloc, command, order.values)
 }
 
@@ -81,4 +82,23 @@ fn flag_arg<'a>(alloc: Global, flag: &FlagHelp) -> Result<Arg<'a>, AllocError> {
         .action(ArgAction::SetTrue)
         .help(flag.help)
         .conflicts_with(flag.without)
+}
+
+/// A grammar with these options more.
+fn with_counts<'a>(
+    alloc: Global,
+    mut command: Command<'a>,
+    counts: &[CountHelp],
+) -> Result<Command<'a>, AllocError> {
+    for count in counts {
+        command = command.arg(count_arg(alloc, count))?;
+    }
+    Ok(command)
+}
+
+fn count_arg<'a>(alloc: Global, count: &CountHelp) -> Arg<'a> {
+    Arg::new(alloc, count.name)
+        .long(count.name)
+        .value_name(count.value)
+        .help(count.help)
 }

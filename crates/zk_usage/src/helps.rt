@@ -11,6 +11,7 @@ pub(crate) struct OrderHelp {
     pub(crate) notes: &'static str,
     pub(crate) values: &'static [ValueHelp],
     pub(crate) flags: &'static [FlagHelp],
+    pub(crate) counts: &'static [CountHelp],
 }
 
 /// A value of an order, in its place.
@@ -31,8 +32,16 @@ pub(crate) struct FlagHelp {
     pub(crate) without: &'static str,
 }
 
+/// An option of an order that takes a value.
+#[derive(Clone, Copy)]
+pub(crate) struct CountHelp {
+    pub(crate) name: &'static str,
+    pub(crate) value: &'static str,
+    pub(crate) help: &'static str,
+}
+
 /// The orders, as the program's help lists them.
-pub(crate) const ORDERS: [OrderHelp; 6] = [SHOW, LIST, ASM, MEND, DEBUG, RUN];
+pub(crate) const ORDERS: [OrderHelp; 7] = [SHOW, LIST, ASM, MEND, DEBUG, RUN, SERVE];
 
 pub(crate) const SHOW: OrderHelp = OrderHelp {
     name: "show",
@@ -48,6 +57,7 @@ pub(crate) const SHOW: OrderHelp = OrderHelp {
         },
     ],
     flags: &[],
+    counts: &[],
 };
 
 const LIST: OrderHelp = OrderHelp {
@@ -57,6 +67,7 @@ const LIST: OrderHelp = OrderHelp {
     notes: FAULTS,
     values: &[LOG],
     flags: &[],
+    counts: &[],
 };
 
 const ASM: OrderHelp = OrderHelp {
@@ -77,6 +88,7 @@ const ASM: OrderHelp = OrderHelp {
         },
     ],
     flags: &[],
+    counts: &[],
 };
 
 pub(crate) const MEND: OrderHelp = OrderHelp {
@@ -93,6 +105,7 @@ pub(crate) const MEND: OrderHelp = OrderHelp {
         },
     ],
     flags: &[],
+    counts: &[],
 };
 
 pub(crate) const DEBUG: OrderHelp = OrderHelp {
@@ -113,6 +126,7 @@ pub(crate) const DEBUG: OrderHelp = OrderHelp {
         help: "A prompt before each line of a session, also where standard input is no terminal",
         without: "SCRIPT",
     }],
+    counts: &[],
 };
 
 const RUN: OrderHelp = OrderHelp {
@@ -126,6 +140,32 @@ const RUN: OrderHelp = OrderHelp {
         required: true,
     }],
     flags: &[],
+    counts: &[],
+};
+
+pub(crate) const SERVE: OrderHelp = OrderHelp {
+    name: "serve",
+    title: "zk serve",
+    about: "Serves clients that speak lines over TCP",
+    notes: SERVE_LINES,
+    values: &[
+        ValueHelp {
+            name: "PORT",
+            help: "The port on 127.0.0.1, 1 to 65535",
+            required: true,
+        },
+        ValueHelp {
+            name: "N",
+            help: "How many servers there are, 2 to 15",
+            required: true,
+        },
+    ],
+    flags: &[],
+    counts: &[CountHelp {
+        name: "conns",
+        value: "C",
+        help: "How many connections are served, one after the other, 0 to 4294967295; else 1",
+    }],
 };
 
 /// The value that names a log to read.
@@ -234,3 +274,40 @@ a number and so many quoted identities. docs/FORMATS.md has the fields and the a
 
 docs/FAULTS.md tells what each line on the standard error means, each number in an answer, and
 what helps."#;
+
+/// The lines of a connection.
+const SERVE_LINES: &str =
+    r#"The servers run as threads, and what they hold is gone when the order ends. Server 1 leads, and
+serves the connections. Standard output has `listening PORT` once a client can connect.
+
+Lines of a connection, one command each:
+  open TIMEOUT        opens a session; the timeout is in milliseconds, 4000 to 40000
+  addauth digest "USER:PASSWORD"
+                      the session proves an identity
+  create [-s] [-e] PATH CONTENT ACL
+                      makes a node; -s puts a number behind its name, -e ends it with the session
+  delete PATH VERSION
+                      takes a node away; version -1 is any
+  set PATH CONTENT VERSION
+                      changes its content
+  setacl PATH ACL VERSION
+                      changes its access control list
+  get [-w] PATH       content and stat; -w sets a watch
+  stat [-w] PATH      the stat
+  ls [-w] PATH        the names of the children, and the stat
+  getacl PATH         the access control list, and the stat
+  sync PATH           server 1 catches up with the leader
+  multi               the lines up to `commit` are its parts: a create, delete or set, or a
+  check PATH VERSION  and they have no answer
+  commit              all parts are done, or none
+  close               ends the session
+  ruok                whether the server is well
+
+Each line is answered before the next is looked at. `event KIND PATH` stands before an answer where
+a watch of the session has told something: KIND 1 a node came, 2 it went, 3 its content changed, 4
+its children did. An answer is `ok` and what was asked for, `err CODE`, `err server` or `err behind`.
+
+A PATH stands in double quotes. docs/FORMATS.md has the fields and the answers.
+
+docs/FAULTS.md tells what each line on the standard error means, each code in an answer, and what
+helps."#;

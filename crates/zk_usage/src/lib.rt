@@ -12,7 +12,7 @@ mod helps;
 use clap::Error;
 pub use clap::error::ErrorKind;
 use grammar::{command, order_command};
-use helps::{DEBUG, MEND, SHOW};
+use helps::{DEBUG, MEND, SERVE, SHOW};
 use std::alloc::{AllocError, Global};
 use std::fmt;
 
@@ -50,6 +50,7 @@ pub fn refusal_of<'a>(alloc: Global, words: &'a [&'a str]) -> Result<Refusal, Al
     let error = match refused_by_clap(alloc, words)? {
         Some(error) => error,
         None if words.get(1) == Some(&"mend") => mend_fault(alloc)?,
+        None if words.get(1) == Some(&"serve") => serve_fault(alloc)?,
         // Of the other words that clap takes, a ZXID and a second @ alone are refused.
         None => value_fault(alloc, words.get(1) == Some(&"debug"))?,
     };
@@ -80,6 +81,14 @@ fn mend_fault(alloc: Global) -> Result<Error, AllocError> {
     order_command(alloc, &MEND)?.bin_name(MEND.title)?.error(
         ErrorKind::ArgumentConflict,
         "OUT cannot be FILE or standard output, which has the report",
+    )
+}
+
+/// What is wrong with the values of `serve`, which clap takes.
+fn serve_fault(alloc: Global) -> Result<Error, AllocError> {
+    order_command(alloc, &SERVE)?.bin_name(SERVE.title)?.error(
+        ErrorKind::ValueValidation,
+        "PORT is no decimal from 1 to 65535, N none from 2 to 15, or C none from 0 to 4294967295",
     )
 }
 
