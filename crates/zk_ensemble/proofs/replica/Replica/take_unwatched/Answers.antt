@@ -1,4 +1,4 @@
-use Rattle.std.proofs.Common.{rules, ◌≡◌, ap, ◌∙◌}
+use Rattle.std.proofs.Common.{rules, ap, ◌∙◌}
 use Rattle.zk_runs.specs.Ensembles.{take_in}
 use Rattle.zk_ensemble.specs.Views.{tree_by}
 use Rattle.zk_ensemble.proofs.Unwatched.{untold}
