@@ -2,49 +2,41 @@
 
 use std::alloc::Global;
 use zk_acl::{
-    ADMIN, ALL, Acl, AclFault, Acls, CREATE, DELETE, Id, Ids, READ, Text, WRITE, allows, digest_id,
-    fix,
+    ADMIN, ALL, Acl, AclFault, Acls, CREATE, DELETE, Id, Ids, READ, WRITE, allows, digest_id, fix,
 };
+use zk_listing::read_acl;
 use zk_path::NoMemory;
 
-/// An entry as a test writes it: perms, scheme and identity.
-type Entry<'a> = (i32, &'a str, &'a str);
-
-/// An identity as a test writes it: a scheme, and an identity in it.
-type Proved<'a> = (&'a str, &'a str);
-
-fn id(alloc: Global, scheme: &str, id: &str) -> Result<Id, NoMemory> {
-    let scheme = Text::read(alloc, scheme)?;
-    let id = Text::read(alloc, id)?;
-    Ok(Id { scheme, id })
+/// The list that a text spells, as a listing does: how many entries, and each one's perms, scheme and identity.
+fn list(alloc: Global, spelled: &str) -> Result<Acls, NoMemory> {
+    let mut text = spelled;
+    read_acl(alloc, &mut text).map_err(|_| NoMemory)
 }
 
-fn list(alloc: Global, entries: &[Entry]) -> Result<Acls, NoMemory> {
-    let mut list = Vec::new(alloc);
-    for (perms, scheme, name) in entries {
-        let id = id(alloc, scheme, name)?;
-        list.push(Acl { perms: *perms, id })?;
-    }
-    Acls::new(alloc, list)
-}
-
-/// Identities, by their copy.
-fn ids(alloc: Global, proved: &[Proved]) -> Result<Ids, NoMemory> {
+/// The identities of entries, by their copy.
+fn ids_of(alloc: Global, entries: &[Acl]) -> Result<Ids, NoMemory> {
     let mut ids = Vec::new(alloc);
-    for (scheme, name) in proved {
-        ids.push(id(alloc, scheme, name)?)?;
+    for entry in entries {
+        ids.push(entry.id.copy()?)?;
     }
     Ids::new(ids).copy()
 }
 
-/// Whether an entry is the one that a test writes so.
-fn is_entry(entry: &Acl, expected: &Entry) -> bool {
-    let (perms, scheme, name) = expected;
-    entry.perms == *perms && entry.id.scheme.as_str() == *scheme && entry.id.id.as_str() == *name
+/// The identities of the list that a text spells.
+fn ids(alloc: Global, spelled: &str) -> Result<Ids, NoMemory> {
+    let entries = list(alloc, spelled)?;
+    ids_of(alloc, entries.as_slice())
 }
 
-/// Whether entries are those that a test writes so.
-fn are_entries(entries: &[Acl], expected: &[Entry]) -> bool {
+/// Whether two entries are the same.
+fn is_entry(entry: &Acl, expected: &Acl) -> bool {
+    entry.perms == expected.perms
+        && entry.id.scheme.as_str() == expected.id.scheme.as_str()
+        && entry.id.id.as_str() == expected.id.id.as_str()
+}
+
+/// Whether entries are those of the other list.
+fn are_entries(entries: &[Acl], expected: &[Acl]) -> bool {
     entries.len() == expected.len()
         && entries
             .iter()
@@ -53,106 +45,126 @@ fn are_entries(entries: &[Acl], expected: &[Entry]) -> bool {
 }
 
 /// Whether a list is fixed to these entries.
-fn is_fixed(
-    alloc: Global,
-    entries: &[Entry],
-    proved: &[Proved],
-    expected: &[Entry],
-) -> Result<bool, AclFault> {
-    let list = list(alloc, entries)?;
-    let ids = ids(alloc, proved)?;
-    let fixed = fix(&list, ids.as_slice())?;
+fn is_fixed_to(asked: &Acls, proved: &[Id], expected: &[Acl]) -> Result<bool, AclFault> {
+    let fixed = fix(asked, proved)?;
     Ok(are_entries(fixed.as_slice(), expected))
 }
 
+/// The same of a spelled list that is expected.
+fn is_fixed_as(
+    alloc: Global,
+    asked: &Acls,
+    proved: &[Id],
+    expected: &str,
+) -> Result<bool, AclFault> {
+    let expected = list(alloc, expected)?;
+    is_fixed_to(asked, proved, expected.as_slice())
+}
+
+/// The same of spelled identities too.
+fn is_fixed_for(
+    alloc: Global,
+    asked: &Acls,
+    proved: &str,
+    expected: &str,
+) -> Result<bool, AclFault> {
+    let proved = ids(alloc, proved)?;
+    is_fixed_as(alloc, asked, proved.as_slice(), expected)
+}
+
+/// Whether a spelled list, asked for by the identities of the second, is fixed to the third.
+fn is_fixed(alloc: Global, asked: &str, proved: &str, expected: &str) -> Result<bool, AclFault> {
+    let asked = list(alloc, asked)?;
+    is_fixed_for(alloc, &asked, proved, expected)
+}
+
 /// Whether a list is refused.
-fn is_refused(alloc: Global, entries: &[Entry], proved: &[Proved]) -> bool {
-    matches!(
-        is_fixed(alloc, entries, proved, &[]),
-        Err(AclFault::Invalid)
-    )
+fn is_refused(alloc: Global, asked: &str, proved: &str) -> bool {
+    matches!(is_fixed(alloc, asked, proved, "0"), Err(AclFault::Invalid))
 }
 
 #[test]
 fn acl_fixing_and_digests(rt: HostRuntime) {
     let alloc = rt.alloc();
-    assert!(rt; is_refused(alloc, &[], &[]));
-    assert!(rt; is_refused(alloc, &[(31, "auth", "")], &[]));
-    let open = (31, "world", "anyone");
-    assert_eq!(rt; is_fixed(alloc, &[open, open], &[], &[open]), Ok(true));
+    assert!(rt; is_refused(alloc, "0", "0"));
+    assert!(rt; is_refused(alloc, "1 31 \"auth\" \"\"", "0"));
+    let twice = "2 31 \"world\" \"anyone\" 31 \"world\" \"anyone\"";
+    assert_eq!(rt;
+        is_fixed(alloc, twice, "0", "1 31 \"world\" \"anyone\""),
+        Ok(true)
+    );
     assert!(rt; allows(&[], READ, &[]));
     assert!(rt; matches!(digest_id(alloc, "abc"), Err(AclFault::Invalid)));
 }
 
+/// An entry that may be asked for, and then one that may not.
+static UNASKED: [&str; 10] = [
+    "2 1 \"world\" \"anyone\" -1 \"world\" \"anyone\"",
+    "2 1 \"world\" \"anyone\" 32 \"world\" \"anyone\"",
+    "2 1 \"world\" \"anyone\" 1 \"world\" \"me\"",
+    "2 1 \"world\" \"anyone\" 1 \"digest\" \"user\"",
+    "2 1 \"world\" \"anyone\" 1 \"digest\" \"user:\"",
+    "2 1 \"world\" \"anyone\" 1 \"digest\" \"a:b:c\"",
+    "2 1 \"world\" \"anyone\" 1 \"digest\" \"\"",
+    "2 1 \"world\" \"anyone\" 1 \"ip\" \"10.0.0.1\"",
+    "2 1 \"world\" \"anyone\" 1 \"super\" \"a:b\"",
+    "2 1 \"world\" \"anyone\" 32 \"auth\" \"\"",
+];
+
 #[test]
 fn lists_that_no_caller_may_ask_for(rt: HostRuntime) {
-    for entry in [
-        (-1, "world", "anyone"),
-        (32, "world", "anyone"),
-        (1, "world", "me"),
-        (1, "digest", "user"),
-        (1, "digest", "user:"),
-        (1, "digest", "a:b:c"),
-        (1, "digest", ""),
-        (1, "ip", "10.0.0.1"),
-        (1, "super", "a:b"),
-        (32, "auth", ""),
-    ] {
-        let open = (1, "world", "anyone");
+    for asked in &UNASKED {
         assert!(rt;
-            is_refused(rt.alloc(), &[open, entry], &[("digest", "a:1")]),
-            "{entry:?}"
+            is_refused(rt.alloc(), asked, "1 31 \"digest\" \"a:1\""),
+            "{asked}"
         );
     }
 }
 
 #[test]
 fn auth_stands_for_all_that_was_proved(rt: HostRuntime) {
-    let asked = [
-        (0, "digest", ":x"),
-        (1, "auth", "me"),
-        (1, "digest", "b:2"),
-        (2, "digest", "a:1"),
-        (31, "world", "anyone"),
-        (1, "auth", ""),
-    ];
-    let kept = [
-        (0, "digest", ":x"),
-        (1, "digest", "a:1"),
-        (1, "digest", "b:2"),
-        (2, "digest", "a:1"),
-        (31, "world", "anyone"),
-    ];
-    let proved = [("digest", "a:1"), ("digest", "b:2"), ("digest", "a:1")];
-    assert_eq!(rt; is_fixed(rt.alloc(), &asked, &proved, &kept), Ok(true));
+    let asked = "6 0 \"digest\" \":x\" 1 \"auth\" \"me\" 1 \"digest\" \"b:2\" \
+        2 \"digest\" \"a:1\" 31 \"world\" \"anyone\" 1 \"auth\" \"\"";
+    let kept = "5 0 \"digest\" \":x\" 1 \"digest\" \"a:1\" 1 \"digest\" \"b:2\" \
+        2 \"digest\" \"a:1\" 31 \"world\" \"anyone\"";
+    let proved = "3 31 \"digest\" \"a:1\" 31 \"digest\" \"b:2\" 31 \"digest\" \"a:1\"";
+    assert_eq!(rt; is_fixed(rt.alloc(), asked, proved, kept), Ok(true));
 }
 
-/// Whether a list of one entry allows this to a caller of the digest `a:1` and the address `10.0.0.1`.
-fn is_allowed(alloc: Global, entry: Entry, perm: u32) -> Result<bool, NoMemory> {
-    let list = list(alloc, &[entry])?;
-    let ids = ids(alloc, &[("digest", "a:1"), ("ip", "10.0.0.1")])?;
-    Ok(allows(list.as_slice(), perm, ids.as_slice()))
+/// Whether entries allow this to a caller of the digest `a:1` and the address `10.0.0.1`.
+fn allow(alloc: Global, entries: &[Acl], perm: u32) -> Result<bool, NoMemory> {
+    let ids = ids(alloc, "2 31 \"digest\" \"a:1\" 31 \"ip\" \"10.0.0.1\"")?;
+    Ok(allows(entries, perm, ids.as_slice()))
 }
+
+/// The same of a spelled list.
+fn is_allowed(alloc: Global, spelled: &str, perm: u32) -> Result<bool, NoMemory> {
+    let entries = list(alloc, spelled)?;
+    allow(alloc, entries.as_slice(), perm)
+}
+
+/// A list of one entry, what is asked, and whether it is allowed.
+static ALLOWED: [(&str, u32, bool); 11] = [
+    ("1 1 \"world\" \"anyone\"", READ, true),
+    ("1 30 \"world\" \"anyone\"", READ, false),
+    ("1 2 \"world\" \"anyone\"", WRITE, true),
+    ("1 4 \"digest\" \"a:1\"", CREATE, true),
+    ("1 8 \"digest\" \"a:1\"", DELETE, true),
+    ("1 16 \"digest\" \"a:1\"", ADMIN, true),
+    ("1 15 \"digest\" \"a:1\"", ADMIN, false),
+    ("1 31 \"digest\" \"b:2\"", READ, false),
+    ("1 31 \"world\" \"a:1\"", READ, false),
+    ("1 31 \"ip\" \"10.0.0.1\"", READ, false),
+    ("1 -1 \"world\" \"anyone\"", ALL, true),
+];
 
 #[test]
 fn entries_allow_by_bit_and_identity(rt: HostRuntime) {
-    for (entry, perm, allowed) in [
-        ((1, "world", "anyone"), READ, true),
-        ((30, "world", "anyone"), READ, false),
-        ((2, "world", "anyone"), WRITE, true),
-        ((4, "digest", "a:1"), CREATE, true),
-        ((8, "digest", "a:1"), DELETE, true),
-        ((16, "digest", "a:1"), ADMIN, true),
-        ((15, "digest", "a:1"), ADMIN, false),
-        ((31, "digest", "b:2"), READ, false),
-        ((31, "world", "a:1"), READ, false),
-        ((31, "ip", "10.0.0.1"), READ, false),
-        ((-1, "world", "anyone"), ALL, true),
-    ] {
+    for (spelled, perm, allowed) in &ALLOWED {
         assert_eq!(rt;
-            is_allowed(rt.alloc(), entry, perm),
-            Ok(allowed),
-            "{entry:?} {perm}"
+            is_allowed(rt.alloc(), spelled, *perm),
+            Ok(*allowed),
+            "{spelled} {perm}"
         );
     }
 }

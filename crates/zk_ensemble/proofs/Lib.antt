@@ -2,3 +2,4 @@ pub mod Lent
 pub mod Quiet
 pub mod Replicas
 pub mod Runs
+pub mod Unwatched

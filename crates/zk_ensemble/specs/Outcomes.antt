@@ -7,6 +7,7 @@ use Rattle.zab_broadcast.specs.declared.syncs.Caught.{Caught}
 use Rattle.zk_machine.specs.declared.change.Change.{Change}
 use Rattle.zk_runs.specs.declared.answer.Answered.{Answered}
 use Rattle.zk_watch.specs.declared.watch.Fired.{Fired}
+use Rattle.zk_ensemble.specs.declared.outcome.Mark.{Mark}
 use Rattle.zk_ensemble.specs.declared.outcome.Outcome.{Outcome}
 
 -- what the call with this tag was answered; over every run a tag stands there once
@@ -27,9 +28,12 @@ change_in fired = record { path = fired.path; kind = fired.kind }
 abbrev pub news_of : ℤ → ℕ → List Fired → List Change
 news_of session from events = map change_in (filter (is_for session) (drop from events))
 
--- what has come of the call or the sync with this tag, and what the session is to be told behind the first so many events
-pub record IsOutcome (answers : List Answered) (syncs : List Caught) (all : List Fired) (tag : ℕ) (session : ℤ) (from : ℕ) (it : Outcome) : Type 0 where
-  pub answered : it.answered ≡ answered_with tag answers
-  pub caught : it.caught ≡ caught_with tag syncs
-  pub events : it.events.items ≡ news_of session from all
-  pub fired : it.fired ≡ length all
+abbrev pub mark : ℕ → ℕ → ℕ → Mark
+mark answers syncs events = record { answers = answers; syncs = syncs; events = events }
+
+-- what has come of the call or the sync with this tag, and what the session is to be told, of all behind the mark
+pub record IsOutcome (answers : List Answered) (syncs : List Caught) (all : List Fired) (tag : ℕ) (session : ℤ) (from : Mark) (it : Outcome) : Type 0 where
+  pub answered : it.answered ≡ answered_with tag (drop from.answers answers)
+  pub caught : it.caught ≡ caught_with tag (drop from.syncs syncs)
+  pub events : it.events.items ≡ news_of session from.events all
+  pub mark : it.mark ≡ mark (length answers) (length syncs) (length all)

@@ -11,6 +11,6 @@ mod outcome;
 mod replica;
 
 pub use ensemble::Ensemble;
-pub use outcome::Outcome;
+pub use outcome::{Mark, Outcome};
 pub use zab_world::Caught;
 pub use zk_runs::{Answer, Answered, EnsembleFault, Event, Question};

@@ -2,7 +2,7 @@
 
 ghost use Rattle.std.specs.Prelude.{◌≡◌, ◌==◌, drop, map, option_map, IfOk};
 ghost use Rattle.std.specs.List.{filter};
-ghost use Rattle.zk_ensemble.specs.Outcomes.{answered_with, caught_with, change_in, is_for, news_of};
+ghost use Rattle.zk_ensemble.specs.Outcomes.{answered_with, caught_with, change_in, is_for, mark, news_of};
 
 use crate::ensemble::Ensemble;
 use std::alloc::Global;
@@ -21,35 +21,62 @@ pub struct Outcome {
     pub caught: Option<u64>,
     /// The session's events behind the first ones, in order.
     pub events: Vec<Change>,
-    /// How many events the server has fired since it started, for whichever session.
-    pub fired: usize,
+    /// All that the server has now.
+    pub mark: Mark,
+}
+
+/// How far a server's answers, caught syncs and events were looked at: how many of each, since it started.
+#[derive(Clone, Copy, Debug, Drop, PartialEq, Eq)]
+pub struct Mark {
+    pub answers: usize,
+    pub syncs: usize,
+    pub events: usize,
+}
+
+impl Mark {
+    /// Nothing was looked at.
+    pub fn new() -> Mark
+        ensures { result ≡ mark 0 0 0 }
+    {
+        Mark {
+            answers: 0,
+            syncs: 0,
+            events: 0,
+        }
+    }
 }
 
 impl Ensemble {
-    ghost use Rattle.std.specs.Prelude.{◌≡◌, option_map, IfOk};
+    ghost use Rattle.std.specs.Prelude.{◌≡◌, length, option_map, IfOk};
     ghost use Rattle.zab_runs.specs.Runs.{syncs_of};
     ghost use Rattle.zk_runs.specs.Ensembles.{shown_at};
     ghost use Rattle.zk_ensemble.specs.Views.{answers_in, events_in};
     ghost use Rattle.zk_ensemble.specs.Outcomes.{answered_with, caught_with, news_of, IsOutcome};
 
-    /// What has come of the call or the sync with this tag at a server, and the session's events there behind the first
-    /// `from` of all. Nothing, where no server has this number.
+    /// What has come of the call or the sync with this tag at a server, and the session's events there, of all that stands behind
+    /// the mark. Nothing, where no server has this number. It costs what stands behind the mark.
     pub fn outcome(
         &self,
         number: usize,
         tag: u64,
         session: i64,
-        from: usize,
+        from: Mark,
     ) -> Result<Outcome, NoMemory>
         ensures { IfOk result (λ outcome. IsOutcome (answers_in (shown_at self.now.shown number))
             (syncs_of self.now.below.world number) (events_in (shown_at self.now.shown number)) tag session from outcome) }
     {
-        let answered = copied(self.answered(number, tag))?;
+        let answers = self.answers(number);
+        let syncs = self.syncs(number);
+        let answered = copied(answered_with(behind(answers, from.answers), tag))?;
         Ok(Outcome {
             answered,
-            caught: self.caught(number, tag),
-            events: self.news(number, session, from)?,
-            fired: self.events_of(number).len(),
+            caught: caught_with(behind(syncs, from.syncs), tag),
+            events: self.news(number, session, from.events)?,
+            mark: Mark {
+                answers: answers.len(),
+                syncs: syncs.len(),
+                events: self.events_of(number).len(),
+            },
         })
     }
 
@@ -105,11 +132,11 @@ fn caught_with(syncs: &[Caught], tag: u64) -> Option<u64>
     }
 }
 
-/// What stands behind so many events.
-fn behind(fired: &[Fired], from: usize) -> &[Fired]
-    ensures { result.now ≡ drop from fired.now }
+/// What stands behind the first so many.
+fn behind<T>(all: &[T], from: usize) -> &[T]
+    ensures { result.now ≡ drop from all.now }
 {
-    match fired.get(from..) {
+    match all.get(from..) {
         Some(rest) => rest,
         None => &[],
     }

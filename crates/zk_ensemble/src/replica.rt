@@ -1,4 +1,4 @@
-ghost use Rattle.std.specs.Prelude.{◌≡◌, ◌<◌, length, false, IfOk, OnOk, OnErr};
+ghost use Rattle.std.specs.Prelude.{◌≡◌, ◌<◌, ◌-◌, ◌^◌, [], length, false, None, IfOk, OnOk, OnErr};
 ghost use Rattle.zk_machine.specs.Changes.{changes_of};
 ghost use Rattle.zk_runs.specs.Ensembles.{fresh, waiting, take_in, take_all, kind_set, watching, reply_of};
 ghost use Rattle.zk_table.specs.Steps.{step};
@@ -11,7 +11,7 @@ use zk_machine::{Applied, Machine};
 use zk_path::NoMemory;
 use zk_runs::{Answered, Question};
 use zk_table::codes::{NO_NODE, SESSION_EXPIRED};
-use zk_table::{Op, ReadCall, ReadReply, Txn};
+use zk_table::{Op, ReadCall, ReadReply, Txn, TxnResult};
 use zk_watch::{Fired, WatchKind, Watches};
 
 /// What a server of an ensemble shows of what it has delivered: its tree, what each entry was answered, who watches there,
@@ -57,6 +57,31 @@ impl Replica {
 
     /// Delivers an entry with this tag and this transaction.
     fn take_in(&mut self, alloc: Global, tag: u64, txn: &Txn) -> Result<(), NoMemory>
+        ensures { OnOk result (self.new ≡ take_in self.old (record { tag = tag; txn = txn.now })) }
+    {
+        if self.watches.as_slice().is_empty() {
+            self.take_unwatched(alloc, tag, txn)
+        } else {
+            self.take_watched(alloc, tag, txn)
+        }
+    }
+
+    /// Delivers an entry where nobody watches: what it changes is told to none, and is not asked for.
+    fn take_unwatched(&mut self, alloc: Global, tag: u64, txn: &Txn) -> Result<(), NoMemory>
+        requires { self.old.watches ≡ [] }
+        ensures { OnOk result (self.new ≡ take_in self.old (record { tag = tag; txn = txn.now })) }
+    {
+        let result = advance(alloc, &mut self.machine, txn)?;
+        self.answers.push(Answered {
+            tag,
+            session: txn.session,
+            result,
+        })?;
+        Ok(())
+    }
+
+    /// Delivers an entry, and tells those who watch.
+    fn take_watched(&mut self, alloc: Global, tag: u64, txn: &Txn) -> Result<(), NoMemory>
         ensures { OnOk result (self.new ≡ take_in self.old (record { tag = tag; txn = txn.now })) }
     {
         let applied = apply(alloc, &mut self.machine, txn)?;
@@ -149,6 +174,23 @@ impl Replica {
     }
 }
 
+/// A machine that can count one step more, taken out of its place: a new one where there is none. Where memory was refused,
+/// there is none any more.
+fn take_machine(alloc: Global, machine: &mut Option<Machine>) -> Result<Machine, NoMemory>
+    requires { HasNotFailed machine.old }
+    ensures state { IfOk result (λ it. it.state ≡ tree_by machine.old) }
+    ensures fine { IfOk result (λ it. it.failed ≡ false) }
+    ensures room { IfOk result (λ it. it.steps < 2 ^ 64 - 1) }
+    ensures gone { machine.new ≡ None }
+{
+    let mut it = match machine.take() {
+        Some(it) => it,
+        None => Machine::new(alloc)?,
+    };
+    it.make_countable()?;
+    Ok(it)
+}
+
 /// Applies a transaction to the tree of a machine, which is made where there is none. Where memory was refused, there is none
 /// any more.
 fn apply(alloc: Global, machine: &mut Option<Machine>, txn: &Txn) -> Result<Applied, NoMemory>
@@ -157,16 +199,26 @@ fn apply(alloc: Global, machine: &mut Option<Machine>, txn: &Txn) -> Result<Appl
     ensures changes { IfOk result (λ applied. applied.changes.items ≡ changes_of (tree_by machine.old) txn.now) }
     ensures fine { HasNotFailed machine.new }
 {
-    let mut it = match machine.take() {
-        Some(it) => it,
-        None => Machine::new(alloc)?,
-    };
-    it.make_countable()?;
+    let mut it = take_machine(alloc, machine)?;
     let Ok(applied) = it.apply(txn) else {
         return Err(NoMemory);
     };
     *machine = Some(it);
     Ok(applied)
+}
+
+/// The same, where only the answer is asked for.
+fn advance(alloc: Global, machine: &mut Option<Machine>, txn: &Txn) -> Result<TxnResult, NoMemory>
+    requires { HasNotFailed machine.old }
+    ensures stepped { IfOk result (λ answered. (tree_by machine.new, answered) ≡ step (tree_by machine.old) txn.now) }
+    ensures fine { HasNotFailed machine.new }
+{
+    let mut it = take_machine(alloc, machine)?;
+    let Ok(answered) = it.advance(txn) else {
+        return Err(NoMemory);
+    };
+    *machine = Some(it);
+    Ok(answered)
 }
 
 /// What a client's question is told by a machine.

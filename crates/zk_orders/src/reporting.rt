@@ -44,7 +44,7 @@ pub fn tell_log<F: Read, O: Write, E: Write>(
     }
 }
 
-/// Loads a log into a machine, and writes the report of its tree. Answers the exit status.
+/// Loads a log into a table, and writes the report of its tree. Answers the exit status.
 fn tell_tree<F: Read, O: Write, E: Write>(
     alloc: Global,
     upto: Option<i64>,

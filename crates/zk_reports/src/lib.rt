@@ -7,4 +7,4 @@ mod report;
 
 pub use fault::{ScriptFault, script_line};
 pub use lines::next_line;
-pub use report::{push_entry_line, push_head, push_tree, spell_tree};
+pub use report::{push_entry_line, push_head, push_head_of, push_tree, spell_tree};

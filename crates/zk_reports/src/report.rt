@@ -35,7 +35,7 @@ pub fn spell_tree(page: &mut String, machine: &Machine) -> Result<(), NoMemory>
         unreachable!()
     };
     let entries = tree.entries()?;
-    spell_head(page, machine)?;
+    push_head(page, machine)?;
     push_entries(page, entries.as_slice())
 }
 
@@ -47,26 +47,26 @@ pub fn push_head(page: &mut String, machine: &Machine) -> Result<(), NoMemory>
         ++ flat_map (λ session. line (session_line session)) (finite.entries machine.now.state.sessions))) }
     ensures unchanged { OnErr result (string_bytes page.new ≡ string_bytes page.old) }
 {
-    let mut head = String::new(*page.allocator());
-    spell_head(&mut head, machine)?;
-    page.push_str(head.as_str())?;
-    Ok(())
-}
-
-fn spell_head(page: &mut String, machine: &Machine) -> Result<(), NoMemory>
-    requires { machine.now.failed ≡ false }
-    ensures { OnOk result (string_bytes page.new ≡ string_bytes page.old
-        ++ (line (zxid_line machine.now.state.last)
-        ++ flat_map (λ session. line (session_line session)) (finite.entries machine.now.state.sessions))) }
-{
     let Ok(last) = machine.last() else {
         unreachable!()
     };
     let Ok(sessions) = machine.sessions() else {
         unreachable!()
     };
-    push_zxid_line(page, last)?;
-    push_sessions(page, sessions)
+    push_head_of(page, last, sessions)
+}
+
+/// Appends the lines of this last transaction and of these open sessions.
+pub fn push_head_of(page: &mut String, last: i64, sessions: &[(u64, i32)]) -> Result<(), NoMemory>
+    ensures appended { OnOk result (string_bytes page.new ≡ string_bytes page.old
+        ++ (line (zxid_line last) ++ flat_map (λ session. line (session_line session)) sessions.now)) }
+    ensures unchanged { OnErr result (string_bytes page.new ≡ string_bytes page.old) }
+{
+    let mut head = String::new(*page.allocator());
+    push_zxid_line(&mut head, last)?;
+    push_sessions(&mut head, sessions)?;
+    page.push_str(head.as_str())?;
+    Ok(())
 }
 
 /// Appends the line of a tree's last transaction.

@@ -2,7 +2,6 @@ ghost use Rattle.std.specs.Prelude.{◌≡◌, length, map, IfOk, vec_len};
 ghost use Rattle.zk_servers.specs.Running.{AllDid, ArePromised, AreWorkers, DidRun, IsRunOf};
 ghost use Rattle.zk_servers.specs.Turns.{DidTurns};
 
-use crate::inbox::{Inbox, Post, Senders};
 use crate::record::Receipt;
 use crate::seat::Seat;
 use crate::serving::{Gate, Worked, Worker, serve};
@@ -14,6 +13,7 @@ use std::sync::ledger::Ledger;
 use std::thread;
 use std::thread::{Promise, PromisedHandle, Scope, Threads};
 use zk_ensemble::Event;
+use zk_inboxes::{Inbox, Post, Senders};
 use zk_path::NoMemory;
 
 /// What a server's thread is to do.

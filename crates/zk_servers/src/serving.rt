@@ -2,7 +2,6 @@ ghost use Rattle.std.specs.Prelude.{◌≡◌, ◌++◌, ◌∷◌, [], true, fa
 ghost use Rattle.zk_servers.specs.Calls.{made};
 ghost use Rattle.zk_servers.specs.Turns.{DidTurns};
 
-use crate::inbox::{Inbox, Senders};
 use crate::record::Receipt;
 use crate::seat::Seat;
 use crate::shared::Shared;
@@ -11,6 +10,7 @@ use std::sync::Wait;
 use std::sync::ledger::Ledger;
 use zab_runs::Moved;
 use zk_ensemble::{Answer, Event};
+use zk_inboxes::{Inbox, Senders};
 
 /// What each thread passes before each of its turns.
 pub trait Gate {

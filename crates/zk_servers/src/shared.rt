@@ -12,9 +12,10 @@ use crate::kept::{Viewed, views_of};
 use crate::record::Receipt;
 use crate::seat::Seat;
 use std::alloc::Global;
+use std::sync::atomic::{AtomicU64, Ordering};
 use std::sync::ledger::{Blank, Ledger, Share};
 use std::sync::{Mutex, Wait};
-use zk_ensemble::Event;
+use zk_ensemble::{Event, Mark, Outcome};
 use zk_path::NoMemory;
 use zk_views::Reader;
 
@@ -22,6 +23,8 @@ use zk_views::Reader;
 #[derive(Drop)]
 pub struct Shared<L: Ledger> {
     board: Mutex<Board<L>>,
+    /// How many calls were made, in 64 bits that wrap.
+    called: AtomicU64,
 }
 
 /// What begins with a new ensemble.
@@ -79,6 +82,7 @@ impl<L: Ledger> Shared<L> {
     pub fn over(board: Board<L>) -> Shared<L> {
         Shared {
             board: Mutex::new(board),
+            called: AtomicU64::new(0),
         }
     }
 
@@ -92,7 +96,28 @@ impl<L: Ledger> Shared<L> {
         ensures seated { IfOk result (λ receipt. seat.new ≡ seat.old ++ made receipt.number event ∷ []) }
         ensures refused { OnErr result (seat.new ≡ seat.old) }
     {
-        self.board.lock(rt).add(rt, seat, event)
+        let told = self.board.lock(rt).add(rt, seat, event);
+        self.called.fetch_add(1, Ordering::SeqCst);
+        told
+    }
+
+    /// A number that changes with each call, once its event has happened: who waits for an outcome looks here first, and asks under the
+    /// lock only where it has changed.
+    pub fn called(&self) -> u64 {
+        self.called.load(Ordering::SeqCst)
+    }
+
+    /// What has come of a call or a sync with this tag at a server, and a session's events there, of all behind the mark. It is what
+    /// [`Board::outcome`] tells under the lock: no clause can name what a lock holds.
+    pub fn outcome<R: Wait>(
+        &self,
+        rt: &R,
+        number: usize,
+        tag: u64,
+        session: i64,
+        from: Mark,
+    ) -> Result<Outcome, NoMemory> {
+        self.board.lock(rt).outcome(number, tag, session, from)
     }
 
     /// The server that a message is for; 0 where no message has the number.
@@ -115,7 +140,7 @@ impl<L: Ledger> Shared<L> {
         ensures seats { IfErr result (λ it. it.seats.items ≡ seats.items) }
         ensures receipts { IfErr result (λ it. it.receipts.items ≡ receipts.items) }
     {
-        let Shared { board } = self;
+        let Shared { board, called: _ } = self;
         let board = board.into_inner();
         match compare(
             alloc,

@@ -23,7 +23,7 @@ returns-in-Ok g c =
     let start = c.in_ok-shower.shower in
     let output' = c.write_report-written.new.output in
     let written = c.write_report-written.result in
-    let text = taken_report c.args.upto start.upto start.machine.state c.load_into.new.taker.machine.state loaded s.state s.upto t.taken.0 in
+    let text = taken_report c.args.upto start.upto start.table.state c.load_into.new.taker.table.state loaded s.state s.upto t.taken.0 in
     record {
       answer = loaded_of t.txns (Ok head);
       loads = loads_taken g.F.Read.remaining _ c.args.file.now c.load_into.new.source _ 1048576 (Ok head) t e.sparing e.ends e.reads e.tells;

@@ -14,4 +14,4 @@ returns c =
     let head = line (zxid_line state.last) ++ flat_map (λ session. line (session_line session)) (entries state.sessions) in
     let nodes = flat_map (λ entry. line (tree_node_line state.nodes entry)) (entries state.nodes) in
     let lines : flat_map entry_line c.as_slice.result.now ≡ nodes = ap (flat_map entry_line) c.as_slice.ensures.value ∙ lines_lent state.nodes c.in_ok-entries.entries.items (c.in_ok-entries.ensures ∙ ap entries_of c.in-Ok.ensures.tree.1) in
-    appended_both c.push_entries.result (string_bytes c.args.page.now) (string_bytes c.spell_head.new.page) (string_bytes c.push_entries.new.page) head nodes (flat_map entry_line c.as_slice.result.now) c.in_ok-spell_head.ensures lines c.push_entries.ensures
+    appended_both c.push_entries.result (string_bytes c.args.page.now) (string_bytes c.push_head.new.page) (string_bytes c.push_entries.new.page) head nodes (flat_map entry_line c.as_slice.result.now) c.in_ok-push_head.ensures.appended lines c.push_entries.ensures

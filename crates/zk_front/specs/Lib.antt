@@ -1,0 +1,4 @@
+-- What the contracts of this crate cite.
+pub mod Calling
+pub mod Remotes
+pub mod Starting

@@ -1,0 +1,159 @@
+//! The calls of a service by its seat, and their receipts.
+
+ghost use Rattle.std.specs.Prelude.{◌≡◌, ◌+◌, IfOk, OnOk, OnErr};
+ghost use Rattle.zk_front.specs.Calling.{CallsOne, IsGiven};
+ghost use Rattle.zk_front.specs.Remotes.{TellsIn, TellsLast};
+ghost use Rattle.zk_servers.specs.Turns.{numbers_of, numbers_told};
+
+use std::marker::Model;
+use std::sync::Wait;
+use std::sync::ledger::Ledger;
+use zk_ensemble::{Answer, EnsembleFault, Event};
+use zk_front_asks::{looked_by, service_fault_of};
+use zk_servers::{CallFault, Receipt, Seat, Senders, Shared, send_on};
+use zk_serving::{Reply, ServiceFault};
+
+/// Calls by a seat, and keeps a receipt for each call.
+#[derive(Drop)]
+pub(crate) struct Caller<'s, L: Ledger, R: Wait> {
+    pub rt: &'s R,
+    pub shared: &'s Shared<L>,
+    pub senders: Senders,
+    pub seat: Seat<L>,
+    pub receipts: Vec<Receipt>,
+    /// The last tag that was given out: no call of the seat has one above it.
+    pub tag: u64,
+}
+
+impl<'s, L: Ledger, R: Wait> Model for Caller<'s, L, R> {
+    ghost use Rattle.zk_front.specs.Calling.{Calling, IsKept};
+
+    ghost Value = { Calling };
+
+    ghost view = { λ it. record { calls = it.seat; receipts = it.receipts.items; tag = it.tag } };
+
+    ghost invariant = { λ it. IsKept (record { calls = it.seat; receipts = it.receipts.items; tag = it.tag }) };
+}
+
+impl<L: Ledger, R: Wait> Caller<'_, L, R> {
+    /// A tag that no call of this seat has.
+    #[tactic(auto, using(crate::proofs::Calling::kept_tag))]
+    pub(crate) fn next_tag(&mut self) -> Result<u64, ServiceFault>
+        ensures next { IfOk result (λ tag. tag ≡ self.old.tag + 1) }
+        ensures given { IfOk result (λ tag. self.new.tag ≡ tag) }
+        ensures last { OnErr result (self.new.tag ≡ self.old.tag) }
+        ensures same { (self.new.calls ≡ self.old.calls) × (self.new.receipts ≡ self.old.receipts) }
+    {
+        let tag = self.tag.checked_add(1).ok_or(ServiceFault::Server)?;
+        self.tag = tag;
+        Ok(tag)
+    }
+
+    /// Makes an event happen, and keeps its receipt. What it is answered may be a refusal.
+    #[tactic(auto, using(crate::proofs::Calling::kept_call))]
+    pub(crate) fn call(&mut self, event: Event) -> Result<(), ServiceFault>
+        requires given { IsGiven self.old.tag event }
+        ensures called { OnOk result (CallsOne self.old event self.new) }
+        ensures tag { self.new.tag ≡ self.old.tag }
+        ensures refused { OnErr result (self.new ≡ self.old) }
+    {
+        if self.receipts.reserve(1).is_err() {
+            return Err(ServiceFault::Memory);
+        }
+        match self.shared.call(self.rt, &mut self.seat, event) {
+            Ok(receipt) => {
+                self.receipts.push_reserved(receipt);
+                Ok(())
+            }
+            Err(fault) => Err(fault_of_call(fault)),
+        }
+    }
+
+    /// Makes an event happen, and sends the numbers of its messages to their addressees.
+    pub(crate) fn make(&mut self, event: Event) -> Result<(), ServiceFault>
+        requires given { IsGiven self.old.tag event }
+        ensures called { OnOk result (CallsOne self.old event self.new) }
+        ensures tag { self.new.tag ≡ self.old.tag }
+        ensures refused { OnErr result (self.new ≡ self.old) }
+    {
+        self.call(event)?;
+        self.send_on();
+        Ok(())
+    }
+
+    /// Sends the numbers of the messages of the last call to their addressees.
+    fn send_on(&self) {
+        if let Some(receipt) = self.receipts.last() {
+            send_on(self.rt, self.shared, &self.senders, receipt);
+        }
+    }
+
+    /// Why the last event was refused, if it was.
+    pub(crate) fn refusal(&self) -> Option<EnsembleFault> {
+        match self.receipts.last() {
+            Some(receipt) => refusal_in(receipt),
+            None => None,
+        }
+    }
+
+    /// What the last call, a read, was told.
+    pub(crate) fn looked(&self) -> Result<Reply, ServiceFault>
+        ensures { IfOk result (λ reply. TellsLast self.now.receipts reply) }
+    {
+        match self.receipts.last() {
+            Some(receipt) => told_by(receipt),
+            None => Err(ServiceFault::Server),
+        }
+    }
+
+    /// The seat and the receipts.
+    pub(crate) fn end(self) -> (Seat<L>, Vec<Receipt>)
+        ensures seat { result.0 ≡ self.entry.calls }
+        ensures receipts { result.1.items ≡ self.entry.receipts }
+        ensures told { numbers_told result.1.items ≡ numbers_of result.0 }
+    {
+        let Caller { seat, receipts, .. } = self;
+        (seat, receipts)
+    }
+
+    /// The number of the last message that the last call sent; 0 where it sent none.
+    pub(crate) fn sent(&self) -> Result<usize, ServiceFault> {
+        match self.receipts.last() {
+            Some(receipt) => sent_by(receipt),
+            None => Ok(0),
+        }
+    }
+}
+
+fn refusal_in(receipt: &Receipt) -> Option<EnsembleFault> {
+    match &receipt.answer {
+        Ok(_) => None,
+        Err(fault) => Some(*fault),
+    }
+}
+
+fn told_by(receipt: &Receipt) -> Result<Reply, ServiceFault>
+    ensures { IfOk result (λ reply. TellsIn receipt.now reply) }
+{
+    match &receipt.answer {
+        Ok(answer) => looked_by(answer.copy()?, receipt.zxid),
+        Err(fault) => Err(service_fault_of(*fault)),
+    }
+}
+
+pub(crate) fn sent_by(receipt: &Receipt) -> Result<usize, ServiceFault> {
+    match &receipt.answer {
+        Ok(Answer::Moved(moved)) => match moved.first.checked_add(moved.count) {
+            Some(next) => Ok(next.saturating_sub(1)),
+            None => Err(ServiceFault::Server),
+        },
+        _ => Ok(0),
+    }
+}
+
+fn fault_of_call(fault: CallFault) -> ServiceFault {
+    match fault {
+        CallFault::NoMemory => ServiceFault::Memory,
+        CallFault::Full => ServiceFault::Server,
+    }
+}

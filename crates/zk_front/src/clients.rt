@@ -1,0 +1,66 @@
+//! The sessions of a service: when each is due, and how far it was told events.
+
+use std::alloc::Global;
+use std::collections::BTreeMap;
+use zk_ensemble::Mark;
+use zk_path::NoMemory;
+use zk_prepare::Tracker;
+
+/// The sessions that are kept, by their timeouts, and how many of the server's events each was told of.
+#[derive(Drop)]
+pub(crate) struct Clients {
+    pub tracker: Tracker,
+    timeouts: BTreeMap<i64, i32>,
+    told: BTreeMap<i64, usize>,
+}
+
+impl Clients {
+    pub(crate) fn new(alloc: Global) -> Clients {
+        Clients {
+            tracker: Tracker::new(alloc),
+            timeouts: BTreeMap::new(alloc),
+            told: BTreeMap::new(alloc),
+        }
+    }
+
+    /// A session that is kept was heard of now.
+    pub(crate) fn hear(&mut self, session: i64, now: i64) -> Result<(), NoMemory> {
+        match self.timeouts.get(&session) {
+            Some(timeout) => self.tracker.touch(session, *timeout, now),
+            None => Ok(()),
+        }
+    }
+
+    /// A session is kept from now on.
+    pub(crate) fn keep(&mut self, session: i64, timeout: i32, now: i64) -> Result<(), NoMemory> {
+        self.timeouts.insert(session, timeout)?;
+        self.tracker.touch(session, timeout, now)
+    }
+
+    /// A session is not kept any more.
+    pub(crate) fn forget(&mut self, session: i64) {
+        self.tracker.forget(session);
+        self.timeouts.remove(&session);
+    }
+
+    /// Where a session's events are to be looked for, when answers and syncs were looked at up to this mark.
+    pub(crate) fn mark_of(&self, session: i64, mark: Mark) -> Mark {
+        let events = match self.told.get(&session) {
+            Some(events) => *events,
+            None => 0,
+        };
+        Mark { events, ..mark }
+    }
+
+    /// A session is told of all of the server's events, so many.
+    pub(crate) fn tell(&mut self, session: i64, events: usize) -> Result<(), NoMemory> {
+        self.told.insert(session, events)?;
+        Ok(())
+    }
+
+    /// A session that has closed is told nothing more.
+    pub(crate) fn close(&mut self, session: i64) {
+        self.forget(session);
+        self.told.remove(&session);
+    }
+}

@@ -1,0 +1,102 @@
+//! A service over servers that run as threads.
+
+ghost use Rattle.std.specs.Prelude.{◌≡◌, [], IfOk, IfErr};
+ghost use Rattle.zk_front.specs.Calling.{unused};
+ghost use Rattle.zk_front.specs.Remotes.{Asks};
+ghost use Rattle.zk_front.specs.Starting.{Begins};
+ghost use Rattle.zk_servers.specs.Turns.{numbers_of, numbers_told};
+
+use crate::asker::Asker;
+use crate::caller::Caller;
+use crate::clients::Clients;
+use std::alloc::Global;
+use std::sync::Wait;
+use std::sync::ledger::Ledger;
+use std::time;
+use zk_ensemble::Mark;
+use zk_front_asks::Clock;
+use zk_servers::{Receipt, Seat, Senders, Shared};
+use zk_serving::{Ask, Service, ServiceFault, Told};
+
+/// A service over servers that run as threads: each ask is made at server 1, by calls of a seat. It keeps a receipt for each call.
+///
+/// A session that it opened is kept until it closes. An ask first closes each session whose deadline has come, and then its own
+/// session is heard of. It waits for what comes of a write or a sync, and faults [`ServiceFault::Server`] where nothing has come
+/// after 1,048,576 looks, most of them 50 microseconds apart.
+#[derive(Drop)]
+pub struct Remote<'s, L: Ledger, R: Wait, C: Clock> {
+    asker: Asker<'s, L, R>,
+    clock: C,
+}
+
+/// What is handed back where a service can't start.
+#[derive(Drop)]
+pub struct Unstarted<L: Ledger> {
+    pub fault: ServiceFault,
+    /// The seat, with the calls that were made.
+    pub seat: Seat<L>,
+    /// One for each call.
+    pub receipts: Vec<Receipt>,
+}
+
+impl<'s, L: Ledger, R: Wait, C: Clock> Remote<'s, L, R, C> {
+    /// Server 1 leads, the others follow it, and each message arrives once, in order of number, at most 1,048,576, past which it
+    /// faults. Only then are the servers' threads to run. The senders are those of the servers' inboxes.
+    pub fn start(
+        rt: &'s R,
+        alloc: Global,
+        shared: &'s Shared<L>,
+        seat: Seat<L>,
+        senders: Senders,
+        clock: C,
+        servers: usize,
+    ) -> Result<Remote<'s, L, R, C>, Unstarted<L>>
+        requires first { seat ≡ [] }
+        ensures begun { IfOk result (λ it. Begins servers unused it.asker.caller) }
+        ensures refused { IfErr result (λ it. numbers_told it.receipts.items ≡ numbers_of it.seat) }
+    {
+        let mut caller = Caller {
+            rt,
+            shared,
+            senders,
+            seat,
+            receipts: Vec::new(alloc),
+            tag: 0,
+        };
+        if let Err(fault) = caller.begin(servers) {
+            let (seat, receipts) = caller.end();
+            return Err(Unstarted {
+                fault,
+                seat,
+                receipts,
+            });
+        }
+        let asker = Asker {
+            caller,
+            clients: Clients::new(alloc),
+            mark: Mark::new(),
+        };
+        Ok(Remote { asker, clock })
+    }
+
+    /// The seat, and a receipt for each of its calls, in order.
+    pub fn end(self) -> (Seat<L>, Vec<Receipt>)
+        ensures seat { result.0 ≡ self.entry.asker.caller.calls }
+        ensures receipts { result.1.items ≡ self.entry.asker.caller.receipts }
+        ensures told { numbers_told result.1.items ≡ numbers_of result.0 }
+    {
+        let Remote { asker, .. } = self;
+        let Asker { caller, .. } = asker;
+        caller.end()
+    }
+}
+
+impl<L: Ledger, R: Wait + time::Clock, C: Clock> Service for Remote<'_, L, R, C> {
+    ghost does = { λ old ask told new. Asks C.tells old.clock new.clock old.asker.clients.tracker old.asker.caller ask told new.asker.caller };
+
+    #[tactic(auto, using(crate::proofs::Expiring::asks_at))]
+    fn ask(&mut self, ask: Ask) -> Result<Told, ServiceFault> {
+        let now = self.clock.now();
+        self.asker.ask(ask, now)
+    }
+}

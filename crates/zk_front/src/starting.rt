@@ -1,0 +1,100 @@
+//! How a service over servers begins: server 1 leads, and the others follow it.
+
+ghost use Rattle.std.specs.Prelude.{◌≡◌, ◌≤◌, ◌-◌, OnOk};
+ghost use Rattle.zab_runs.specs.declared.event.Event.TheVariants.{Arrive, Follow, Lead};
+ghost use Rattle.zk_front.specs.Calling.{Calls, CallsOne};
+ghost use Rattle.zk_front.specs.Starting.{Arrives, Begins, followings};
+ghost use Rattle.zk_runs.specs.declared.event.Event.TheVariants as events;
+
+use crate::caller::{Caller, sent_by};
+use std::sync::Wait;
+use std::sync::ledger::Ledger;
+use zab_runs::Event as WorldEvent;
+use zk_ensemble::{EnsembleFault, Event};
+use zk_front_asks::{HOME, service_fault_of};
+use zk_serving::ServiceFault;
+
+/// How many messages arrive at most until the servers are ready.
+const MOST_ARRIVALS: usize = 1_048_576;
+
+impl<L: Ledger, R: Wait> Caller<'_, L, R> {
+    /// Server 1 leads, the others follow it, and each message arrives once. Messages are not sent to inboxes.
+    #[tactic(auto, using(crate::proofs::Beginning::begun))]
+    pub(crate) fn begin(&mut self, servers: usize) -> Result<(), ServiceFault>
+        ensures { OnOk result (Begins servers self.old self.new) }
+    {
+        self.lead()?;
+        self.follow_all(servers)?;
+        self.arrive_all()
+    }
+
+    fn lead(&mut self) -> Result<(), ServiceFault>
+        ensures { OnOk result (CallsOne self.old (events.World (Lead 1)) self.new) }
+    {
+        self.call(Event::World(WorldEvent::Lead { server: HOME }))?;
+        self.not_refused()
+    }
+
+    fn follow_all(&mut self, servers: usize) -> Result<(), ServiceFault>
+        ensures { OnOk result (Calls self.old (followings (servers - 1)) self.new) }
+    {
+        for others in 1..servers {
+            self.follow(others + 1)?;
+        }
+        Ok(())
+    }
+
+    fn follow(&mut self, server: usize) -> Result<(), ServiceFault>
+        ensures { OnOk result (CallsOne self.old (events.World (Follow server 1)) self.new) }
+    {
+        self.call(Event::World(WorldEvent::Follow {
+            server,
+            leader: HOME,
+        }))?;
+        self.not_refused()
+    }
+
+    fn not_refused(&self) -> Result<(), ServiceFault> {
+        match self.refusal() {
+            Some(fault) => Err(service_fault_of(fault)),
+            None => Ok(()),
+        }
+    }
+
+    fn arrive_all(&mut self) -> Result<(), ServiceFault>
+        ensures { OnOk result (Arrives self.old self.new) }
+    {
+        let mut last = self.last_sent()?;
+        for arrived in 0..MOST_ARRIVALS {
+            if arrived >= last {
+                return Ok(());
+            }
+            self.arrive(arrived + 1)?;
+            last = last.max(self.sent()?);
+        }
+        if last > MOST_ARRIVALS {
+            return Err(ServiceFault::Server);
+        }
+        Ok(())
+    }
+
+    /// A message arrives. That it is refused is no fault, unless its server died.
+    fn arrive(&mut self, message: usize) -> Result<(), ServiceFault>
+        ensures { OnOk result (CallsOne self.old (events.World (Arrive message)) self.new) }
+    {
+        self.call(Event::World(WorldEvent::Arrive { message }))?;
+        match self.refusal() {
+            Some(EnsembleFault::Died(_)) => Err(ServiceFault::Memory),
+            _ => Ok(()),
+        }
+    }
+
+    /// The number of the last message that was sent so far.
+    fn last_sent(&self) -> Result<usize, ServiceFault> {
+        let mut last = 0;
+        for receipt in &self.receipts {
+            last = last.max(sent_by(receipt)?);
+        }
+        Ok(last)
+    }
+}

@@ -1,0 +1,61 @@
+//! How the ensemble of a service starts: server 1 leads, and the others follow it.
+
+ghost use Rattle.std.specs.Prelude.{◌≡◌, ◌∷◌, ◌-◌, [], IfOk, OnOk};
+ghost use Rattle.zk_front_local.specs.Happening.{Ran};
+ghost use Rattle.zk_runs.specs.declared.event.Event.TheVariants as events;
+ghost use Rattle.zk_front_local.specs.Starting.{IsBegun, beginning, followers, new_view};
+
+use crate::happening::happen;
+use crate::servers::Servers;
+use std::alloc::Global;
+use zk_connections::ServiceFault;
+use zk_ensemble::{Ensemble, Event};
+use zk_front_asks::{HOME, service_fault_of};
+use zk_prepare::Call;
+
+/// A new ensemble of so many servers: server 1 leads, the others follow it, and all messages have arrived.
+pub(crate) fn start(alloc: Global, count: usize) -> Result<Servers, ServiceFault>
+    ensures { IfOk result (λ it. IsBegun count it) }
+{
+    let mut servers = Servers {
+        ensemble: Ensemble::new(alloc, count)?,
+        arrived: 0,
+    };
+    begin(&mut servers.ensemble, count)?;
+    servers.deliver()?;
+    Ok(servers)
+}
+
+/// Server 1 leads, and the others are told to follow it.
+fn begin(ensemble: &mut Ensemble, count: usize) -> Result<(), ServiceFault>
+    ensures { OnOk result (Ran ensemble.old (beginning count) ensemble.new) }
+{
+    obey(ensemble, zab_runs::Event::Lead { server: HOME })?;
+    follow_all(ensemble, count)?;
+    Ok(())
+}
+
+/// Each server behind the first is told to follow it.
+fn follow_all(ensemble: &mut Ensemble, count: usize) -> Result<(), ServiceFault>
+    ensures { OnOk result (Ran ensemble.old (followers (count - 1)) ensemble.new) }
+{
+    let others = count.saturating_sub(1);
+    for place in 0..others {
+        let follow = zab_runs::Event::Follow {
+            server: place + 2,
+            leader: HOME,
+        };
+        obey(ensemble, follow)?;
+    }
+    Ok(())
+}
+
+/// An event of the world happens, whose answer nobody waits for.
+fn obey(ensemble: &mut Ensemble, event: zab_runs::Event<Call>) -> Result<(), ServiceFault>
+    ensures { OnOk result (Ran ensemble.old (events.World event ∷ []) ensemble.new) }
+{
+    match happen(ensemble, Event::World(event)) {
+        Ok(_) => Ok(()),
+        Err(fault) => Err(service_fault_of(fault)),
+    }
+}

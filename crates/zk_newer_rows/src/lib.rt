@@ -1,5 +1,0 @@
-//! Rows of `zk_newer`.
-#![tactic(auto)]
-
-#[cfg(test)]
-mod newer_rows;
