@@ -41,6 +41,12 @@ refuses "zk debug [OPTIONS] <FILE> [SCRIPT]" debug @ @
 refuses "zk asm <TEXT> <FILE>" asm "$listing"
 refuses "zk asm <TEXT> <FILE>" asm --force "$listing" "$work/kept"
 refuses "zk asm <TEXT> <FILE>" asm "$listing" "$work/kept" more
+refuses "zk serve <PORT> <N>" serve 2181
+refuses "zk serve [OPTIONS] <PORT> <N>" serve 0 3
+refuses "zk serve [OPTIONS] <PORT> <N>" serve 65536 3
+refuses "zk serve [OPTIONS] <PORT> <N>" serve 2181 1
+refuses "zk serve [OPTIONS] <PORT> <N>" serve 2181 16
+refuses "zk serve [OPTIONS] <PORT> <N>" serve --conns 4294967296 2181 3
 
 # an input that can't be opened leaves the output as it was
 ends 1 asm "$work/none" "$work/kept"
@@ -62,6 +68,8 @@ ends 0 --help
 grep -qF "Usage: zk <COMMAND>" "$work/out"
 ends 0 show --help
 grep -qF "Usage: zk show <FILE> <ZXID>" "$work/out"
+ends 0 serve 0 0 --help
+grep -qF "Usage: zk serve [OPTIONS] <PORT> <N>" "$work/out"
 ends 0 help asm
 grep -qF "Usage: zk asm <TEXT> <FILE>" "$work/out"
 

@@ -1,5 +1,6 @@
 #!/usr/bin/env bash
-# The helps of `zk debug` and `zk run` list the lines of a script: every word of the definitions of these lines, and no other.
+# The helps of `zk debug` and `zk run` list the lines of a script, and that of `zk serve` the lines of a connection: every word of the
+# definitions of these lines, and no other.
 # Each order's help names docs/FAULTS.md, which has each number and each word that the definitions of faults have.
 set -euo pipefail
 work=$(mktemp -d)
@@ -15,6 +16,7 @@ defining() {
 debug_lines=$(defining 'command_text commands\.Step')
 session_lines=$(defining 'abbrev pub own_words')
 run_lines=$(defining 'SpellsWorldEvent \(Lead|SpellsRequest \(requests\.Create|abbrev pub SpellsWeights')
+serve_lines=$(defining 'SpellsRequest \(requests\.Create|pub record SpellsProof')
 fault_lines=$(defining 'line_of_(log_fault log_faults\.Header|mend_fault \(faults\.NoReason)')
 debug_numbers=$(defining 'fault_text faults\.AtEnd')
 run_numbers=$(defining 'fault_text \(faults\.Behind')
@@ -41,8 +43,9 @@ lists() {
 
 lists debug $debug_lines $session_lines
 lists run $run_lines
+lists serve $serve_lines
 
-for order in show list asm mend debug run; do
+for order in show list asm mend debug run serve; do
     "$zk" "$order" --help </dev/null | grep -qF "$faults"
 done
 
@@ -50,7 +53,7 @@ done
 for number in $(texts_in $fault_lines $debug_numbers $run_numbers | grep -o '\b[BEGLN][0-9]\b' | sort -u | grep -v '[GL]8'); do
     grep -qE "^\\| (\`zk: )?$number\\b" "$faults"
 done
-for word in $(texts_in $fault_lines | grep -o '^zk: [a-z][a-z0-9]*' | sed 's/^zk: //' | sort -u) read write memory utf8; do
+for word in $(texts_in $fault_lines | grep -o '^zk: [a-z][a-z0-9]*' | sed 's/^zk: //' | sort -u) read write listen memory utf8; do
     grep -qE "^\\| \`zk: $word\\b" "$faults"
 done
-echo "helps: the words of scripts, and each fault"
+echo "helps: the words of scripts and connections, and each fault"

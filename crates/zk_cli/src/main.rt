@@ -2,8 +2,10 @@
 #![tactic(auto)]
 
 mod act;
+mod clock;
 #[cfg(test)]
 mod debug_tests;
+mod listening;
 #[cfg(test)]
 mod mend_tests;
 #[cfg(test)]
@@ -14,23 +16,32 @@ mod tests;
 mod text_tests;
 
 use act::act;
+use listening::listen;
 use std::io::{IsTerminal, Read, Write};
+use std::net::{Net, TcpListener, TcpStream};
 use std::process::ExitCode;
-use std::{env, fs, io};
-use zk_command_line::{CommandFault, Job, Order, read_command_line};
+use std::sync::Wait;
+use std::thread::Threads;
+use std::{env, fs, io, time};
+use zk_command_line::{Command, CommandFault, Job, Order, read_command_line};
 use zk_log::{Sink, Source};
 use zk_path::NoMemory;
 use zk_usage::{Refusal, refusal_of_bytes};
 
 fn main(rt: HostRuntime) -> ExitCode {
-    match run(&rt) {
+    match run(&rt, &rt) {
         Ok(status) => ExitCode::from(status),
         Err(NoMemory) => ExitCode::from(refuse(&rt, "memory")),
     }
 }
 
 /// Reads the command line and does what it asks for. Answers the exit status.
-fn run(rt: &HostRuntime) -> Result<u8, NoMemory> {
+///
+/// Servers are threads, and may wait; nothing else is or does.
+fn run<R: Threads + Wait + Net<Listener = TcpListener, Stream = TcpStream> + time::Clock + Sync>(
+    rt: &HostRuntime,
+    threads: &R,
+) -> Result<u8, NoMemory> {
     let words = match env::args(rt) {
         Ok(args) => args.collect::<Vec<_>>(rt.alloc())?,
         Err(error) if error.kind() == io::ErrorKind::InvalidData => {
@@ -43,7 +54,8 @@ fn run(rt: &HostRuntime) -> Result<u8, NoMemory> {
         .map(|word| word.as_str())
         .collect::<Vec<_>>(rt.alloc())?;
     match read_command_line(rt.alloc(), texts.as_slice()) {
-        Ok(job) => open_and_act(rt, &job),
+        Ok(Command::Act(job)) => open_and_act(rt, &job),
+        Ok(Command::Serve(serving)) => listen(threads, rt, serving),
         Err(CommandFault::Refused(refusal)) => Ok(print(rt, &refusal)),
         Err(CommandFault::NoMemory) => Err(NoMemory),
     }

@@ -1,0 +1,38 @@
+//! The order that serves connections.
+
+ghost use Rattle.std.specs.Prelude.{◌≤◌};
+
+use crate::clock::SystemClock;
+use crate::refuse;
+use std::net::{Ipv4Addr, Net, SocketAddr, TcpListener, TcpStream};
+use std::sync::Wait;
+use std::thread::Threads;
+use std::{io, time};
+use zk_command_line::Serving;
+use zk_log::Sink;
+use zk_path::NoMemory;
+use zk_serve_order::serve;
+
+/// Listens on a port of this machine, and serves the connections. Answers the exit status.
+pub(crate) fn listen<
+    R: Threads + Wait + Net<Listener = TcpListener, Stream = TcpStream> + time::Clock + Sync,
+>(threads: &R, rt: &HostRuntime, serving: Serving) -> Result<u8, NoMemory>
+    requires { (2 ≤ serving.servers) × (serving.servers ≤ 15) }
+{
+    let address = SocketAddr::from((Ipv4Addr::LOCALHOST, serving.port));
+    let Ok(listener) = TcpListener::bind(threads, address) else {
+        return Ok(refuse(rt, "listen"));
+    };
+    let mut output = Sink::new(io::writer(rt));
+    let mut faults = Sink::new(rt.stderr());
+    serve(
+        threads,
+        rt.alloc(),
+        &listener,
+        serving.servers,
+        serving.connections,
+        SystemClock::new(threads),
+        &mut output,
+        &mut faults,
+    )
+}

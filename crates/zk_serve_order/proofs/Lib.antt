@@ -1,0 +1,2 @@
+pub mod SeatsLaws
+pub mod ServesLaws

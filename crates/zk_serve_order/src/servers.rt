@@ -1,0 +1,210 @@
+//! Servers as threads, beside connections that one of them serves.
+ghost use Rattle.std.specs.Prelude.{◌≡◌, ◌+◌, ◌≤◌, IfOk, length};
+
+use crate::accepting::{Served, serve_connections};
+use crate::doors::Doors;
+use std::alloc::Global;
+use std::marker::Brand;
+use std::net::TcpListener;
+use std::sync::Wait;
+use std::sync::ledger::{Blank, Ledger};
+use std::thread::Threads;
+use std::{thread, time};
+use zk_ensemble::Event;
+use zk_front::{Clock, Remote, ServiceFault, Unstarted};
+use zk_path::NoMemory;
+use zk_servers::{
+    CloseFault, Post, Receipt, Run, Seat, Senders, Shared, Started, Unclosed, inboxes, run_servers,
+};
+
+/// What the threads hand back.
+#[derive(Drop)]
+struct Ended<L: Ledger> {
+    served: Served,
+    run: Run<L>,
+    /// That of the connections.
+    seat: Seat<L>,
+    receipts: Vec<Receipt>,
+}
+
+/// Starts so many servers, and serves connections at server 1.
+pub(crate) fn serve_clients<R: Threads + Wait + time::Clock + Sync, C: Clock>(
+    rt: &R,
+    alloc: Global,
+    listener: &TcpListener,
+    servers: usize,
+    connections: u32,
+    clock: C,
+) -> Result<Served, NoMemory>
+    requires servers { (2 ≤ servers) × (servers ≤ 15) }
+{
+    // The ledger is picked here.
+    serve_over::<Brand, R, C>(
+        rt,
+        alloc,
+        Blank::new(servers as u64 + 2),
+        listener,
+        servers,
+        connections,
+        clock,
+    )
+}
+
+/// The same over a ledger.
+fn serve_over<L: Ledger + Send + Sync, R: Threads + Wait + time::Clock + Sync, C: Clock>(
+    rt: &R,
+    alloc: Global,
+    blank: Blank,
+    listener: &TcpListener,
+    servers: usize,
+    connections: u32,
+    clock: C,
+) -> Result<Served, NoMemory>
+    requires name { blank.name ≡ L.name }
+    requires parts { blank.parts ≡ L.parts }
+    requires enough { blank.parts ≡ servers + 2 }
+    requires servers { (2 ≤ servers) × (servers ≤ 15) }
+{
+    let Started {
+        shared,
+        mut seats,
+        readers,
+    } = Shared::<L>::start(rt, alloc, blank, servers, servers + 1, 1)?;
+    // Nobody reads past the lock.
+    drop(readers);
+    let Some(seat) = seats.pop() else {
+        unreachable!()
+    };
+    let post = inboxes(alloc, servers)?;
+    let senders = post.senders.copy(alloc)?;
+    let remote = match Remote::start(rt, alloc, &shared, seat, senders, clock, servers) {
+        Ok(remote) => remote,
+        Err(unstarted) => return why_unserved(&unstarted),
+    };
+    let ended = run_and_serve(
+        rt,
+        alloc,
+        &shared,
+        post,
+        seats,
+        remote,
+        listener,
+        connections,
+    )?;
+    close(rt, alloc, shared, ended)
+}
+
+/// What becomes of connections where the servers could not begin.
+fn why_unserved<L: Ledger>(unstarted: &Unstarted<L>) -> Result<Served, NoMemory> {
+    match unstarted.fault {
+        ServiceFault::Memory => Err(NoMemory),
+        ServiceFault::Server | ServiceFault::Behind => Ok(Served::Unheard),
+    }
+}
+
+/// Servers that run, and connections that are served beside them; then the servers are told to end.
+fn run_and_serve<L: Ledger + Send + Sync, R: Threads + Wait + time::Clock + Sync, C: Clock>(
+    rt: &R,
+    alloc: Global,
+    shared: &Shared<L>,
+    post: Post,
+    seats: Vec<Seat<L>>,
+    remote: Remote<'_, L, R, C>,
+    listener: &TcpListener,
+    connections: u32,
+) -> Result<Ended<L>, NoMemory>
+    requires inboxes { length post.inboxes.items ≡ length seats.items }
+{
+    let senders = post.senders.copy(alloc)?;
+    let servers = seats.len();
+    let doors = Doors::new();
+    let doors = &doors;
+    thread::scope(
+        thread::scope_env(),
+        rt,
+        move |scope| -> Result<Ended<L>, NoMemory> {
+            let Ok(running) = scope.spawn(move || run_all(rt, alloc, shared, doors, post, seats))
+            else {
+                return Err(NoMemory);
+            };
+            let mut remote = remote;
+            let served = if doors.wait(rt, servers) {
+                serve_connections(alloc, listener, connections, &mut remote)
+            } else {
+                Err(NoMemory)
+            };
+            senders.end_all(rt);
+            let run = running.join(rt)?;
+            let (seat, receipts) = remote.end();
+            Ok(Ended {
+                served: served?,
+                run,
+                seat,
+                receipts,
+            })
+        },
+    )
+}
+
+/// Runs servers that have nothing to do but what comes to them, and closes the doors behind them.
+fn run_all<L: Ledger + Send + Sync, R: Threads + Wait + Sync>(
+    rt: &R,
+    alloc: Global,
+    shared: &Shared<L>,
+    doors: &Doors,
+    post: Post,
+    seats: Vec<Seat<L>>,
+) -> Result<Run<L>, NoMemory>
+    requires inboxes { length post.inboxes.items ≡ length seats.items }
+{
+    let run = match no_jobs(alloc, seats.len()) {
+        Ok(jobs) => run_servers(rt, alloc, shared, doors, post, seats, jobs, u32::MAX),
+        Err(NoMemory) => Err(NoMemory),
+    };
+    doors.close();
+    run
+}
+
+/// So many lists without a job.
+fn no_jobs(alloc: Global, servers: usize) -> Result<Vec<Vec<Event>>, NoMemory>
+    ensures { IfOk result (λ jobs. length jobs.items ≡ servers) }
+{
+    let mut jobs = Vec::new(alloc);
+    jobs.reserve(servers)?;
+    for _ in 0..servers {
+        jobs.push_reserved(Vec::new(alloc));
+    }
+    Ok(jobs)
+}
+
+/// Ends the sharing, with all seats and receipts.
+fn close<L: Ledger, R: Wait>(
+    rt: &R,
+    alloc: Global,
+    shared: Shared<L>,
+    ended: Ended<L>,
+) -> Result<Served, NoMemory> {
+    let Ended {
+        served,
+        run,
+        seat,
+        receipts: own,
+    } = ended;
+    let Run {
+        mut seats,
+        mut receipts,
+        passed: _,
+    } = run;
+    let mut own = own;
+    seats.push(seat)?;
+    receipts.append(&mut own)?;
+    match shared.close(rt, alloc, seats, receipts) {
+        Err(
+            Unclosed {
+                fault: CloseFault::NoMemory,
+                ..
+            },
+        ) => Err(NoMemory),
+        _ => Ok(served),
+    }
+}
