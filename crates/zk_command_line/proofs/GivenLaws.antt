@@ -1,7 +1,6 @@
 -- The job that an order's name and all words behind it name.
-use Rattle.std.proofs.Common.{◌≡◌, Bool, true, false, ℕ, List, [], ◌∷◌, Option, Some, None, refl, sym, ap, ◌∙◌, subst, option_map}
-use Rattle.zk_command_line.specs.Commands.{NamesBy, Names, ReadsBehind, ReadsGiven, ReadsJob, given_by, given_with, prompts_of, script_of, values_of, without_prompt}
-use Rattle.zk_command_line.specs.declared.command.Order.{Order}
+use Rattle.std.proofs.Common.{◌≡◌, Bool, true, false, ℕ, List, ◌∷◌, Option, Some, None, refl, sym, ap, ◌∙◌, subst, option_map}
+use Rattle.zk_command_line.specs.Commands.{NamesBy, ReadsBehind, ReadsGiven, ReadsJob, given_by, given_with, prompts_of, values_of, without_prompt}
 use Rattle.zk_command_line.specs.declared.command.Job.{Job}
 
 -- whether prompts are asked for, with the values

@@ -2,8 +2,8 @@
 use Rattle.std.proofs.Common.{◌≡◌, ℕ, ◌<◌, ◌≤◌, ◌^◌, List, [], ◌∷◌, Option, Some, None, refl, sym, ap, ◌∙◌, subst, codes, arith}
 use Rattle.std.proofs.lemmas.Fmt.{decimal_injective}
 use Rattle.zk_command_line.specs.Commands.{Names, NamesBy, script_of}
-use Rattle.zk_command_line.specs.Lines.{IsJob, IsServing, NamesCommand, NamesOnly}
-use Rattle.zk_command_line.specs.Serving.{NamesBehind, NamesServers, NamesServing, SpellsConnections, SpellsWithin, served_by}
+use Rattle.zk_command_line.specs.Lines.{NamesCommand, NamesOnly}
+use Rattle.zk_command_line.specs.Serving.{NamesBehind, NamesServers, NamesServing, SpellsConnections, SpellsWithin}
 use Rattle.zk_command_line.specs.declared.command.Order.{Order}
 use Rattle.zk_command_line.specs.declared.command.Order.TheVariants as orders
 use Rattle.zk_command_line.specs.declared.serving.Serving.{Serving}

@@ -1,4 +1,4 @@
-use Rattle.std.proofs.Common.{◌≡◌, ◌∙◌, sym, false, Some}
+use Rattle.std.proofs.Common.{◌≡◌, ◌∙◌, sym, Some}
 use Rattle.std.specs.Result.{result_ok}
 use Rattle.zk_command_line.proofs.ServingLaws.{leaves_more}
 use Rattle.zk_command_line.proofs.serving.whole_decimal.Goals as goal
