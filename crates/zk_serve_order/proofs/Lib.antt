@@ -1,2 +1,1 @@
-pub mod SeatsLaws
 pub mod ServesLaws

@@ -122,9 +122,15 @@ fn run_and_serve<L: Ledger + Send + Sync, R: Threads + Wait + time::Clock + Sync
     thread::scope(
         thread::scope_env(),
         rt,
-        move |scope| -> Result<Ended<L>, NoMemory> {
-            let Ok(running) = scope.spawn(move || run_all(rt, alloc, shared, doors, post, seats))
-            else {
+        move |scope| -> Result<Ended<L>, NoMemory>
+            requires { length post.inboxes.items ≡ length seats.items }
+        {
+            let started = scope.spawn(
+                move ||
+                    requires { length post.inboxes.items ≡ length seats.items }
+                { run_all(rt, alloc, shared, doors, post, seats) },
+            );
+            let Ok(running) = started else {
                 return Err(NoMemory);
             };
             let mut remote = remote;
