@@ -202,12 +202,19 @@ fn txns_of(alloc: Global, line: &str) -> Result<Vec<Txn>, MachineFault> {
     assemble(alloc, listing.as_str()).map_err(|_| MachineFault::NoMemory)
 }
 
+/// A path and its owner.
+fn owned(alloc: Global, text: &str, owner: i64) -> Result<(Path, i64), NoMemory> {
+    match Path::read(alloc, text) {
+        Ok(path) => Ok((path, owner)),
+        Err(_) => Err(NoMemory),
+    }
+}
+
 /// A row's owners.
 fn given_of(alloc: Global, owners: &[(&'static str, i64)]) -> Result<Vec<(Path, i64)>, NoMemory> {
     let mut given = Vec::new(alloc);
     for (path, owner) in owners {
-        let path = Path::read(alloc, path).map_err(|_| NoMemory)?;
-        given.push((path, *owner))?;
+        given.push(owned(alloc, path, *owner)?)?;
     }
     Ok(given)
 }
@@ -236,24 +243,57 @@ fn follow(
     Ok(())
 }
 
-/// Of each row with a claim, whether the digest is the one that is claimed.
-fn agreements(alloc: Global, rows: &[Row]) -> Result<Vec<bool>, MachineFault> {
-    let mut machine = Machine::new(alloc)?;
-    let mut digest = TreeDigest::new(alloc)?;
-    let mut agreements = Vec::new(alloc);
-    for row in rows {
-        follow(alloc, &mut machine, &mut digest, row)?;
-        if let Some(claim) = row.2 {
-            let agrees = digest.sum() == claim;
-            agreements.push(agrees).map_err(|_| MachineFault::NoMemory)?;
-        }
+/// Notes whether the digest is the one that a row claims, if it claims one.
+fn note(digest: &TreeDigest, agreements: &mut Vec<bool>, row: &Row) -> Result<(), NoMemory> {
+    if let Some(claim) = row.2 {
+        agreements.push(digest.sum() == claim)?;
     }
-    Ok(agreements)
+    Ok(())
+}
+
+/// Notes that of each row with a claim, right behind it.
+fn note_all(
+    alloc: Global,
+    machine: &mut Machine,
+    digest: &mut TreeDigest,
+    agreements: &mut Vec<bool>,
+    rows: &[Row],
+) -> Result<(), MachineFault> {
+    for row in rows {
+        follow(alloc, machine, digest, row)?;
+        note(digest, agreements, row)?;
+    }
+    Ok(())
 }
 
 /// Whether the rows with a claim agree so.
+fn agree_from(
+    alloc: Global,
+    machine: &mut Machine,
+    digest: &mut TreeDigest,
+    rows: &[Row],
+    expected: &[bool],
+) -> Result<bool, MachineFault> {
+    let mut agreements = Vec::new(alloc);
+    note_all(alloc, machine, digest, &mut agreements, rows)?;
+    Ok(agreements.as_slice() == expected)
+}
+
+/// The same of a new digest.
+fn agree_beside(
+    alloc: Global,
+    machine: &mut Machine,
+    rows: &[Row],
+    expected: &[bool],
+) -> Result<bool, MachineFault> {
+    let mut digest = TreeDigest::new(alloc)?;
+    agree_from(alloc, machine, &mut digest, rows, expected)
+}
+
+/// The same of a new machine and a new digest.
 fn agree(alloc: Global, rows: &[Row], expected: &[bool]) -> Result<bool, MachineFault> {
-    Ok(agreements(alloc, rows)?.as_slice() == expected)
+    let mut machine = Machine::new(alloc)?;
+    agree_beside(alloc, &mut machine, rows, expected)
 }
 
 #[test]

@@ -233,16 +233,24 @@ static ROWS: [Row; 8] = [
     },
 ];
 
-/// The bytes of a log with these entries.
-fn log_of(alloc: Global, entries: &[&str]) -> Result<Vec<u8>, NoMemory> {
-    let mut digits = String::from_str(alloc, HEADER)?;
+/// Appends entries.
+fn push_entries(digits: &mut String, entries: &[&str]) -> Result<(), NoMemory> {
     for entry in entries {
         digits.push_str(entry)?;
     }
-    match hex::decode(alloc, digits.as_str()) {
-        Ok(log) => Ok(log),
-        Err(_) => Err(NoMemory),
-    }
+    Ok(())
+}
+
+/// The bytes that digits spell.
+fn decoded(alloc: Global, digits: &str) -> Result<Vec<u8>, NoMemory> {
+    hex::decode(alloc, digits).map_err(|_| NoMemory)
+}
+
+/// The bytes of a log with these entries.
+fn log_of(alloc: Global, entries: &[&str]) -> Result<Vec<u8>, NoMemory> {
+    let mut digits = String::from_str(alloc, HEADER)?;
+    push_entries(&mut digits, entries)?;
+    decoded(alloc, digits.as_str())
 }
 
 /// What a log is mended to, read in small pieces. This promises nothing, so that a proof holds nothing of what was mended.

@@ -253,11 +253,13 @@ fn is_mended(alloc: Global, newer: &[u8], old: &[u8], row: &Row) -> bool {
     }
 }
 
+/// The same of a row's record of 3.4.
+fn is_mended_as(alloc: Global, newer: &[u8], row: &Row) -> bool {
+    matches!(bytes(alloc, row.old), Some(old) if is_mended(alloc, newer, old.as_slice(), row))
+}
+
 fn row_holds(alloc: Global, row: &Row) -> bool {
-    match (bytes(alloc, row.newer), bytes(alloc, row.old)) {
-        (Some(newer), Some(old)) => is_mended(alloc, newer.as_slice(), old.as_slice(), row),
-        _ => false,
-    }
+    matches!(bytes(alloc, row.newer), Some(newer) if is_mended_as(alloc, newer.as_slice(), row))
 }
 
 fn rows_hold(alloc: Global) -> bool {
