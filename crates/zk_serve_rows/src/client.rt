@@ -6,7 +6,7 @@ use std::io::{Read, Write};
 use std::net::TcpStream;
 
 /// Lines that are sent at once, and what is written for them before more is sent.
-pub type Exchange<'a> = (&'a [u8], &'a str);
+pub type Exchange<'a> = (&'a [u8], &'static str);
 
 /// Sends lines once those before them are answered, and reads as many bytes as their answers are to have. What came.
 pub fn converse(alloc: Global, stream: TcpStream, exchanges: &[Exchange]) -> io::Result<Vec<u8>> {
@@ -28,4 +28,14 @@ pub fn answers(alloc: Global, exchanges: &[Exchange]) -> io::Result<Vec<u8>> {
         told.extend_from_slice(answers.as_bytes())?;
     }
     Ok(told)
+}
+
+/// Sends lines at once, and reads as many bytes as their answers are to have. What came.
+pub fn ask(
+    alloc: Global,
+    stream: TcpStream,
+    lines: &[u8],
+    answers: &'static str,
+) -> io::Result<Vec<u8>> {
+    converse(alloc, stream, &[(lines, answers)])
 }

@@ -1,6 +1,6 @@
 //! Clients and servers in one process. Each client is connected before the servers start, and a listener keeps it waiting.
 
-use crate::client::{Exchange, answers, converse};
+use crate::client::{Exchange, answers, ask, converse};
 use crate::clocks::Times;
 use crate::server::{Ended, serve_three};
 use std::net::{Ipv4Addr, SocketAddr, TcpListener, TcpStream};
@@ -124,12 +124,11 @@ fn a_line_that_is_too_long_harms_nobody(rt: HostRuntime) -> Result<(), Fail> {
     let stream = TcpStream::connect(&rt, at)?;
     let mut long = vec![in rt.alloc(); b'x'; 70_000]?;
     long.extend_from_slice(b"\nruok\n")?;
-    let exchanges = [(long.as_slice(), "err -8\nimok\n")];
-    let (rt, listener, exchanges) = (&rt, &listener, &exchanges);
+    let (rt, listener, long) = (&rt, &listener, &long);
     let (ended, told) = thread::join(
         rt,
         move || serve_three(rt, listener, 1, Times::new(&[1000]), None),
-        move || converse(rt.alloc(), stream, exchanges),
+        move || ask(rt.alloc(), stream, long.as_slice(), "err -8\nimok\n"),
     );
     assert_eq!(rt; told?.as_slice(), b"err -8\nimok\n".as_slice());
     check_ended(rt, &ended?, at.port())
