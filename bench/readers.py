@@ -5,8 +5,13 @@ costs beside applying its transactions.
 usage: bench/readers.py     in a checkout where `rt ci`, or `rt run` in crates/zk_servers_load, has left the proved program
 
 The seconds of reads are those of a clock on the wall, less those of a run without reads; so nothing else may run on the machine.
-One core is the calling thread's, and as many others as there are readers are free, if the machine has them. What a publish costs, and
-what applying costs, are CPU seconds of runs with many views or tables, less those of a run with none. The least of several runs counts.
+One core is the calling thread's, and as many others as there are readers are free, if the machine has them.
+
+A publish is measured in a view whose tree has some nodes: transactions that set what these hold are published one by one, or several at
+once as after a reconnect. The same transactions are applied to a table with the same nodes. Either is told in CPU microseconds a
+transaction: those of runs with many transactions, less those of runs with a few, so that what comes before and the first publish, which
+makes the nodes in the second table, count for neither. What the view's two lists take is a part of a publish; the lock, the chronicle and
+the event are none. The least of several runs counts, and runs of each kind take turns, so that a busy minute strikes all alike.
 """
 import os
 import subprocess
@@ -17,22 +22,40 @@ HERE = os.path.dirname(os.path.abspath(__file__))
 LOAD = os.path.join(HERE, "..", "crates", "zk_servers_load", "out", "zk_servers_load")
 READERS = (1, 2, 4)
 READS = 1_000_000
-TXNS = 20_000
-TIMES = 20
+# nodes, transactions, how many times over
+TREES = ((100, 20_000, 10), (1_000, 5_000, 4))
+AT_ONCE = (1, 10)
 TURNS = 5
 
 
-def run(readers, reads, txns=0, views=0, tables=0):
+def run(readers, reads, nodes=0, txns=0, at_once=1, views=0, tables=0):
     """The seconds by the clock, and the CPU seconds."""
-    words = [str(it) for it in (readers, reads, txns, views, tables)]
+    words = [str(it) for it in (readers, reads, nodes, txns, at_once, views, tables)]
     before = time.monotonic()
     child = subprocess.Popen([LOAD, *words], stdin=subprocess.DEVNULL, stdout=subprocess.PIPE)
     told = child.stdout.read().decode().split()
     _, status, usage = os.wait4(child.pid, 0)
     seconds = time.monotonic() - before
-    if status or int(told[2]) != readers * reads or int(told[6]) != txns * views:
+    if status or int(told[2]) != readers * reads or int(told[6]) != (nodes + txns) * views:
         sys.exit("%s: status %d, %r" % (words, os.waitstatus_to_exitcode(status), told))
     return seconds, usage.ru_utime + usage.ru_stime
+
+
+def publishing(nodes, txns, at_once, times):
+    """What a publish and an application cost, in CPU seconds a transaction."""
+    few = 2 * at_once
+    kinds = {(count, views, tables): [] for count in (few, txns) for views, tables in ((0, 0), (times, 0), (0, times))}
+    for _ in range(TURNS):
+        for (count, views, tables), taken in kinds.items():
+            taken.append(run(0, 0, nodes, count, at_once, views, tables)[1])
+
+    def more(views, tables):
+        def above(count):
+            return min(kinds[count, views, tables]) - min(kinds[count, 0, 0])
+
+        return (above(txns) - above(few)) / (txns - few) / times
+
+    return more(times, 0), more(0, times)
 
 
 def least(which, *words):
@@ -49,10 +72,11 @@ def main():
         free = max(1, min(readers, cores - 1))
         print("%d readers: %.2f million reads a second, %.2f times as many for each of %d free cores as one alone"
               % (readers, rate / 1e6, rate / alone / free, free))
-    start = least(1, 0, 0, TXNS)
-    publish = (least(1, 0, 0, TXNS, TIMES) - start) / TIMES / TXNS
-    apply = (least(1, 0, 0, TXNS, 0, TIMES) - start) / TIMES / TXNS
-    print("a publish of one transaction %.2f microseconds, applying it %.2f: %.2f times" % (publish * 1e6, apply * 1e6, publish / apply))
+    for nodes, txns, times in TREES:
+        for at_once in AT_ONCE:
+            publish, apply = publishing(nodes, txns, at_once, times)
+            print("%d nodes, %d at once: a publish %.2f microseconds a transaction, applying it %.2f: %.2f times"
+                  % (nodes, at_once, publish * 1e6, apply * 1e6, publish / apply))
 
 
 if __name__ == "__main__":

@@ -1,7 +1,8 @@
 //! Readers of a server's view, beside one thread that calls; and what a publish costs: `bench/readers.py` measures it.
 //!
-//! usage: zk_servers_load [READERS [READS [TXNS [VIEWS [TABLES]]]]]     so many readers are each answered so many times while another
-//! thread calls; so many transactions are published, one by one, in so many views; and they are applied to so many tables
+//! usage: zk_servers_load [READERS [READS [NODES [TXNS [AT_ONCE [VIEWS [TABLES]]]]]]]     so many readers are each answered so many times
+//! while another thread calls; transactions that make so many nodes are published at once in so many views, and so many more, which
+//! set what the nodes hold, so many at a time; and all are applied to so many tables
 //!
 //! The session is opened and the node is made before anybody reads, so each read is answered, and the number of answers follows.
 #![tactic(auto)]
@@ -16,13 +17,17 @@ use reading::read_all;
 use std::env;
 use std::sync::Wait;
 use std::thread::Threads;
-use txns::txns;
+use txns::{Load, txns};
 
 const READERS: usize = 2;
 
 const READS: usize = 1_000;
 
-const TXNS: usize = 300;
+const NODES: usize = 100;
+
+const TXNS: usize = 200;
+
+const AT_ONCE: usize = 1;
 
 const VIEWS: usize = 1;
 
@@ -35,15 +40,21 @@ fn main(rt: HostRuntime) -> Result<()> {
 fn run<R: Threads + Wait + Sync>(rt: &HostRuntime, threads: &R) -> Result<()> {
     let readers = word(rt, 1, READERS)?;
     let reads = word(rt, 2, READS)?;
-    let count = word(rt, 3, TXNS)?;
-    let views = word(rt, 4, VIEWS)?;
-    let tables = word(rt, 5, TABLES)?;
+    let nodes = word(rt, 3, NODES)?;
+    let others = word(rt, 4, TXNS)?;
+    let at_once = word(rt, 5, AT_ONCE)?;
+    let views = word(rt, 6, VIEWS)?;
+    let tables = word(rt, 7, TABLES)?;
     let answered = read_all(threads, rt.alloc(), readers, reads)?;
     println!(rt; "{readers} readers, {answered} answers")?;
-    let list = txns(rt.alloc(), count)?;
-    let published = publish_to_all(threads, rt.alloc(), &list, views)?;
+    let load = Load {
+        txns: txns(rt.alloc(), nodes, others)?,
+        nodes,
+        at_once,
+    };
+    let published = publish_to_all(threads, rt.alloc(), &load, views)?;
     println!(rt; "{views} views, {published} transactions published")?;
-    apply_to_all(rt.alloc(), &list, tables)?;
+    apply_to_all(rt.alloc(), &load.txns, tables)?;
     println!(rt; "{tables} tables")?;
     Ok(())
 }
@@ -51,11 +62,7 @@ fn run<R: Threads + Wait + Sync>(rt: &HostRuntime, threads: &R) -> Result<()> {
 /// A number of the command line, or another where it is left out.
 fn word(rt: &HostRuntime, place: usize, otherwise: usize) -> Result<usize> {
     match env::args(rt)?.nth(place) {
-        Some(word) => Ok(
-            word.as_str()
-                .parse()
-                .context("READERS, READS, TXNS, VIEWS and TABLES are numbers")?,
-        ),
+        Some(word) => Ok(word.as_str().parse().context("each word is a number")?),
         None => Ok(otherwise),
     }
 }

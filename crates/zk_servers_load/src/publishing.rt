@@ -1,39 +1,48 @@
 //! What a publish costs.
 
+use crate::txns::Load;
 use std::alloc::Global;
 use std::sync::Wait;
 use zk_path::NoMemory;
 use zk_table::{Plain, Txn};
 use zk_views::Publisher;
 
-/// Publishes the next transaction of a list. Whether it was published.
-fn publish_next<R: Wait>(rt: &R, publisher: &mut Publisher, txns: &[Txn]) -> bool {
+/// Publishes the next transactions of a list, at once: so many, or those that are left. Whether any was published.
+fn publish_next<R: Wait>(rt: &R, publisher: &mut Publisher, txns: &[Txn], count: usize) -> bool {
     let offered = publisher.offered();
     if offered >= txns.len() {
         return false;
     }
-    publisher.publish(rt, &txns[offered..offered + 1]).is_ok()
+    let left = &txns[offered..];
+    let more = if count < left.len() {
+        &left[..count]
+    } else {
+        left
+    };
+    publisher.publish(rt, more).is_ok()
 }
 
-/// Publishes transactions in so many new views, one view after the other. How many were published in all.
+/// Publishes the transactions of a load in so many new views, one view after the other. How many were published in all.
 pub(crate) fn publish_to_all<R: Wait>(
     rt: &R,
     alloc: Global,
-    txns: &[Txn],
+    load: &Load,
     views: usize,
 ) -> Result<usize, NoMemory> {
     let mut published: usize = 0;
     for _ in 0..views {
-        published = published.wrapping_add(publish_each(rt, alloc, txns)?);
+        published = published.wrapping_add(publish_all(rt, alloc, load)?);
     }
     Ok(published)
 }
 
-/// Publishes transactions one by one. How many are published then.
-fn publish_each<R: Wait>(rt: &R, alloc: Global, txns: &[Txn]) -> Result<usize, NoMemory> {
+/// Publishes the transactions that make the nodes at once, and those behind them so many at a time. How many are
+/// published then.
+fn publish_all<R: Wait>(rt: &R, alloc: Global, load: &Load) -> Result<usize, NoMemory> {
     let (mut publisher, readers) = Publisher::start(rt, alloc, 1)?;
-    for _ in 0..txns.len() {
-        if !publish_next(rt, &mut publisher, txns) {
+    publish_next(rt, &mut publisher, &load.txns, load.nodes);
+    for _ in 0..load.txns.len() {
+        if !publish_next(rt, &mut publisher, &load.txns, load.at_once) {
             break;
         }
     }

@@ -13,8 +13,14 @@ pub(crate) const SESSION: i64 = 0x1_0000_0001;
 /// What a node holds.
 const CONTENT: [u8; 100] = [104; 100];
 
-/// How many nodes there are. Later transactions set what they hold, in turn.
-const NODES: usize = 100;
+/// Transactions of which the first make so many nodes, and the others set what these hold, in turn; and how many of the
+/// others are published at once.
+#[derive(Drop)]
+pub(crate) struct Load {
+    pub(crate) txns: Vec<Txn>,
+    pub(crate) nodes: usize,
+    pub(crate) at_once: usize,
+}
 
 /// World, anyone, all permissions.
 fn open_to_all(alloc: Global) -> Result<Acls, NoMemory> {
@@ -37,10 +43,11 @@ pub(crate) fn path(alloc: Global, number: usize) -> Result<Path, NoMemory> {
     Ok(path)
 }
 
-fn op(alloc: Global, place: usize) -> Result<Op, NoMemory> {
-    let path = path(alloc, place % NODES)?;
+fn op(alloc: Global, place: usize, nodes: usize) -> Result<Op, NoMemory> {
+    let number = if nodes == 0 { 0 } else { place % nodes };
+    let path = path(alloc, number)?;
     let content = Some(Content::read(alloc, &CONTENT)?);
-    if place < NODES {
+    if place < nodes {
         return Ok(Op::Create {
             path,
             content,
@@ -56,12 +63,12 @@ fn op(alloc: Global, place: usize) -> Result<Op, NoMemory> {
     })
 }
 
-/// So many transactions.
-pub(crate) fn txns(alloc: Global, count: usize) -> Result<Vec<Txn>, NoMemory> {
+/// Transactions that make so many nodes, and so many others.
+pub(crate) fn txns(alloc: Global, nodes: usize, others: usize) -> Result<Vec<Txn>, NoMemory> {
     let mut list = Vec::new(alloc);
     let mut zxid = SESSION;
-    for place in 0..count {
-        let op = op(alloc, place)?;
+    for place in 0..nodes.wrapping_add(others) {
+        let op = op(alloc, place, nodes)?;
         list.push(Txn {
             session: SESSION,
             cxid: 0,
