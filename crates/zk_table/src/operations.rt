@@ -1,6 +1,6 @@
 //! What each operation does to the nodes, alone or as a part of a multi.
 
-ghost use Rattle.std.specs.Prelude.{◌≡◌, IfOk, OnErr};
+ghost use Rattle.std.specs.Prelude.{◌≡◌, IfOk, OnErr, OnOk};
 ghost use Rattle.zk_txn.specs.Nodes.{with_child, without_child};
 ghost use Rattle.zk_table.specs.States.{parent_changed, stat_at, stat_of};
 ghost use Rattle.zk_table.specs.Operations.{create, create_fault, delete, delete_fault, missing_fault, set_data, set_acl, without, without_all};
@@ -104,6 +104,39 @@ impl Nodes {
         self.guard(path.text(), acl, version);
         let stat = self.stat_at(path.text());
         Ok(PartResult::done(told, stat))
+    }
+
+    /// Sets a node's content and its version, where there is such a node. After [`NoMemory`] nothing is changed.
+    pub(crate) fn put_data(
+        &mut self,
+        txn: &Txn,
+        path: &Path,
+        content: &Option<Content>,
+        version: i32,
+    ) -> Result<(), NoMemory>
+        ensures done { OnOk result (self.new ≡ (set_data self.old txn.now path.now content.now version).nodes) }
+        ensures unchanged { OnErr result (self.new ≡ self.old) }
+    {
+        if self.missing_fault(path).is_some() {
+            return Ok(());
+        }
+        let content = Content::copy_of(content)?;
+        self.write(path.text(), txn, content, version);
+        Ok(())
+    }
+
+    /// Sets a node's access control list and the list's version, where there is such a node. After [`NoMemory`] nothing is
+    /// changed.
+    pub(crate) fn put_acl(&mut self, path: &Path, acl: &Acls, version: i32) -> Result<(), NoMemory>
+        ensures done { OnOk result (self.new ≡ (set_acl self.old path.now acl.now version).nodes) }
+        ensures unchanged { OnErr result (self.new ≡ self.old) }
+    {
+        if self.missing_fault(path).is_some() {
+            return Ok(());
+        }
+        let acl = acl.copy()?;
+        self.guard(path.text(), acl, version);
+        Ok(())
     }
 
     /// Why a node can't be made at a path.

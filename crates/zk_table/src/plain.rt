@@ -1,4 +1,4 @@
-ghost use Rattle.std.specs.Prelude.{◌≡◌, ℤ, [], IfOk, IsOk, OnErr};
+ghost use Rattle.std.specs.Prelude.{◌≡◌, ℤ, [], IfOk, IsOk, OnErr, OnOk};
 ghost use Rattle.zk_txn.specs.declared.txn.Op.TheVariants as ops;
 ghost use Rattle.std.specs.FinMap as finite;
 ghost use Rattle.zk_table.specs.States.{start_state, stat_of};
@@ -87,6 +87,33 @@ impl Plain {
             Op::Error { code } => PartResult::plain(*code),
         };
         Ok(self.told(txn, answer))
+    }
+
+    /// Applies a transaction, and tells no answer: for those who only keep the table. After [`NoMemory`] nothing is changed.
+    pub fn absorb(&mut self, txn: &Txn) -> Result<(), NoMemory>
+        ensures step { OnOk result (self.new ≡ (step self.old txn.now).0) }
+        ensures unchanged { OnErr result (self.new ≡ self.old) }
+    {
+        match &txn.op {
+            Op::SetData {
+                path,
+                content,
+                version,
+            } => self.nodes.put_data(txn, path, content, *version)?,
+            Op::SetAcl { path, acl, version } => self.nodes.put_acl(path, acl, *version)?,
+            _ => return self.apply_untold(txn),
+        }
+        self.last = txn.zxid;
+        Ok(())
+    }
+
+    /// The same of any transaction. After [`NoMemory`] nothing is changed.
+    fn apply_untold(&mut self, txn: &Txn) -> Result<(), NoMemory>
+        ensures step { OnOk result (self.new ≡ (step self.old txn.now).0) }
+        ensures unchanged { OnErr result (self.new ≡ self.old) }
+    {
+        let _answer = self.apply(txn)?;
+        Ok(())
     }
 
     /// Opens the session of a transaction. After [`NoMemory`] nothing is changed.

@@ -101,7 +101,7 @@ impl Absorb<Txn> for View {
         if self.txns.reserve(1).is_err() {
             return Err(operation);
         }
-        let Ok(_answered) = self.tree.apply(&operation) else {
+        let Ok(()) = self.tree.absorb(&operation) else {
             return Err(operation);
         };
         self.txns.push_reserved(operation);
