@@ -1,0 +1,134 @@
+//! What an ask makes happen at server 1, and what it is told for what came of that.
+
+use crate::session_rows::path_of;
+use std::alloc::Global;
+use std::test::Fail;
+use zk_acl::Ids;
+use zk_ensemble::{Answer, EnsembleFault, Event};
+use zk_front_asks::{
+    HOME, Sought, caught_by, event_of, looked_by, next_tag, service_fault_of, session_of, sought_by,
+};
+use zk_front_local::{Ask, Reply, ServiceFault};
+use zk_path::Path;
+use zk_prepare::Request;
+use zk_table::{ReadCall, ReadReply};
+
+fn closing(alloc: Global) -> Ask {
+    Ask::Write {
+        session: 7,
+        cxid: 2,
+        auths: Ids::new(Vec::new(alloc)),
+        request: Request::CloseSession,
+    }
+}
+
+fn looking(alloc: Global, path: Path) -> Ask {
+    Ask::Read {
+        session: 8,
+        seen: 5,
+        auths: Ids::new(Vec::new(alloc)),
+        call: ReadCall::GetData { path },
+        watch: true,
+    }
+}
+
+fn syncing() -> Ask {
+    Ask::Sync { session: 9 }
+}
+
+/// Whether an ask is of this session, and is answered by this.
+fn is_of(ask: &Ask, session: i64, sought: Sought) -> bool {
+    session_of(ask) == session && sought_by(ask) == sought
+}
+
+/// Whether an event is the submit of a close, with this tag and at this time.
+fn is_close(event: &Event, tag: u64, now: i64) -> bool {
+    match event {
+        Event::World(zab_runs::Event::Submit { server, call }) => {
+            *server == HOME
+                && call.tag == tag
+                && call.session == 7
+                && call.cxid == 2
+                && call.now == now
+                && matches!(&call.request, Request::CloseSession)
+        }
+        _ => false,
+    }
+}
+
+/// Whether an event is that read.
+fn is_look(event: &Event) -> bool {
+    match event {
+        Event::Read(question) => {
+            question.server == HOME
+                && question.session == 8
+                && question.seen == 5
+                && question.watch
+                && matches!(&question.call, ReadCall::GetData { .. })
+        }
+        Event::World(_) => false,
+    }
+}
+
+/// Whether an event is a sync with this tag.
+fn is_sync(event: &Event, sought: u64) -> bool {
+    match event {
+        Event::World(zab_runs::Event::Sync { server, tag }) => *server == HOME && *tag == sought,
+        _ => false,
+    }
+}
+
+#[test]
+fn asks_happen_at_server_1(rt: HostRuntime) -> Result<(), Fail> {
+    let path = path_of(rt.alloc(), "/a")?;
+    let looking = looking(rt.alloc(), path);
+    assert!(rt; is_of(&closing(rt.alloc()), 7, Sought::Written));
+    assert!(rt; is_of(&looking, 8, Sought::Looked));
+    assert!(rt; is_of(&syncing(), 9, Sought::Caught));
+    assert!(rt; is_close(&event_of(closing(rt.alloc()), 3, 1000), 3, 1000));
+    assert!(rt; is_look(&event_of(looking, 4, 1000)));
+    assert!(rt; is_sync(&event_of(syncing(), 5, 1000), 5));
+    assert_eq!(rt; next_tag(5), 6);
+    assert_eq!(rt; next_tag(u64::MAX), 0);
+    Ok(())
+}
+
+fn is_caught(caught: Option<u64>) -> bool {
+    matches!(caught_by(caught), Ok(Reply::Caught))
+}
+
+fn is_looked(code: i32, seen: i64) -> bool {
+    match looked_by(Answer::Looked(ReadReply::Refused(code)), seen) {
+        Ok(Reply::Looked { reply, zxid }) => {
+            zxid == seen && matches!(reply, ReadReply::Refused(told) if told == code)
+        }
+        _ => false,
+    }
+}
+
+/// Refusals, and how a client is told of each.
+const FAULTS: [(EnsembleFault, ServiceFault); 10] = [
+    (
+        EnsembleFault::Behind { seen: 2, at: 1 },
+        ServiceFault::Behind,
+    ),
+    (EnsembleFault::NoServer, ServiceFault::Server),
+    (EnsembleFault::NoMessage, ServiceFault::Server),
+    (EnsembleFault::Down, ServiceFault::Server),
+    (EnsembleFault::NotDown, ServiceFault::Server),
+    (EnsembleFault::NotServing, ServiceFault::Server),
+    (EnsembleFault::DuplicateCall, ServiceFault::Server),
+    (EnsembleFault::EpochFull, ServiceFault::Server),
+    (EnsembleFault::NoMemory, ServiceFault::Memory),
+    (EnsembleFault::Died(1), ServiceFault::Memory),
+];
+
+#[test]
+fn asks_are_told_what_came_of_them(rt: HostRuntime) {
+    assert!(rt; is_caught(Some(3)));
+    assert!(rt; !is_caught(None));
+    assert!(rt; is_looked(-101, 5));
+    for (fault, told) in FAULTS {
+        assert_eq!(rt; service_fault_of(fault), told);
+    }
+}

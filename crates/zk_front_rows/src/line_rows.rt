@@ -1,0 +1,209 @@
+//! What bytes come to as lines, what a line says and waits for, and how that is told.
+
+use crate::session_rows::path_of;
+use std::alloc::Global;
+use std::test::Fail;
+use zk_front_lines::{
+    Pending, Said, SaidInMulti, Wish, meaning_in_multi, meaning_of, push_caught, push_event,
+    push_looked, push_wrote, split_line, text_of,
+};
+use zk_machine::ChangeKind;
+use zk_path::{NoMemory, Path};
+use zk_prepare::Request;
+use zk_table::{PartResults, ReadCall, ReadReply, TxnResult};
+
+fn is_split(bytes: &[u8], front: &[u8], back: &[u8]) -> bool {
+    match split_line(bytes) {
+        Some((before, behind)) => before == front && behind == back,
+        None => false,
+    }
+}
+
+#[test]
+fn bytes_are_split_at_newlines(rt: HostRuntime) {
+    assert!(rt; is_split(b"ruok\nx\n", b"ruok", b"x\n"));
+    assert!(rt; is_split(b"\n", b"", b""));
+    assert!(rt; split_line(b"ruok").is_none());
+    assert_eq!(rt; text_of(Some(b"ruok")), Some("ruok"));
+    assert_eq!(rt; text_of(Some(&[0xff])), None);
+    assert_eq!(rt; text_of(None), None);
+}
+
+/// Whether a line that comes in two pieces is this, and the next begins behind it.
+fn comes_to(
+    alloc: Global,
+    front: &[u8],
+    back: &[u8],
+    expected: Option<&[u8]>,
+) -> Result<bool, NoMemory> {
+    let mut pending = Pending::new(alloc);
+    let fresh = pending.is_empty();
+    pending.add(front)?;
+    pending.add(back)?;
+    let holds = !pending.is_empty() && pending.line(true) == expected;
+    pending.clear();
+    Ok(fresh && holds && pending.is_empty())
+}
+
+#[test]
+fn pieces_are_lines(rt: HostRuntime) -> Result<(), Fail> {
+    let long = [b'x'; 40_000];
+    assert!(rt; comes_to(rt.alloc(), b"ru", b"ok", Some(b"ruok"))?);
+    assert!(rt; comes_to(rt.alloc(), &long, &long, None)?);
+    Ok(())
+}
+
+/// What a line says.
+#[derive(Clone, Copy, Debug, PartialEq, Eq)]
+enum Kind {
+    Opens(i32),
+    Proves,
+    Writes,
+    Closes,
+    Looks(bool),
+    Syncs,
+    BeginsMulti,
+    AsksWhetherWell,
+    Adds,
+    Commits,
+    Nothing,
+}
+
+fn kind_of(said: &Said) -> Kind {
+    match said {
+        Said::Opens { timeout } => Kind::Opens(*timeout),
+        Said::Proves { .. } => Kind::Proves,
+        Said::Writes { .. } => Kind::Writes,
+        Said::Closes => Kind::Closes,
+        Said::Looks { watch, .. } => Kind::Looks(*watch),
+        Said::Syncs { .. } => Kind::Syncs,
+        Said::BeginsMulti => Kind::BeginsMulti,
+        Said::AsksWhetherWell => Kind::AsksWhetherWell,
+        Said::Nothing => Kind::Nothing,
+    }
+}
+
+fn kind_in_multi(said: &SaidInMulti) -> Kind {
+    match said {
+        SaidInMulti::Adds { .. } => Kind::Adds,
+        SaidInMulti::Commits => Kind::Commits,
+        SaidInMulti::Nothing => Kind::Nothing,
+    }
+}
+
+/// Lines, and what each says outside a multi and inside one.
+static SAID: [(Option<&str>, Kind, Kind); 13] = [
+    (Some("open 30000"), Kind::Opens(30000), Kind::Nothing),
+    (
+        Some("addauth digest \"alice:secret\""),
+        Kind::Proves,
+        Kind::Nothing,
+    ),
+    (
+        Some("create \"/a\" x 1 31 \"world\" \"anyone\""),
+        Kind::Writes,
+        Kind::Adds,
+    ),
+    (Some("close"), Kind::Closes, Kind::Nothing),
+    (Some("ls -w \"/\""), Kind::Looks(true), Kind::Nothing),
+    (Some("get \"/\""), Kind::Looks(false), Kind::Nothing),
+    (Some("sync \"/\""), Kind::Syncs, Kind::Nothing),
+    (Some("multi"), Kind::BeginsMulti, Kind::Nothing),
+    (Some("ruok"), Kind::AsksWhetherWell, Kind::Nothing),
+    (Some("check \"/a\" 1"), Kind::Nothing, Kind::Adds),
+    (Some("commit"), Kind::Nothing, Kind::Commits),
+    (Some("commits"), Kind::Nothing, Kind::Nothing),
+    (None, Kind::Nothing, Kind::Nothing),
+];
+
+fn kind_outside(alloc: Global, line: Option<&str>) -> Result<Kind, NoMemory> {
+    Ok(kind_of(&meaning_of(alloc, line)?))
+}
+
+fn kind_inside(alloc: Global, line: Option<&str>) -> Result<Kind, NoMemory> {
+    Ok(kind_in_multi(&meaning_in_multi(alloc, line)?))
+}
+
+/// The first line that says something else.
+fn other_line(alloc: Global) -> Result<Option<usize>, NoMemory> {
+    for (place, (line, outside, inside)) in SAID.iter().enumerate() {
+        if kind_outside(alloc, *line)? != *outside || kind_inside(alloc, *line)? != *inside {
+            return Ok(Some(place));
+        }
+    }
+    Ok(None)
+}
+
+#[test]
+fn lines_say_what_they_are(rt: HostRuntime) -> Result<(), Fail> {
+    assert_eq!(rt; other_line(rt.alloc())?, None);
+    Ok(())
+}
+
+/// A transaction that was applied, and tells no more.
+fn plain(alloc: Global) -> TxnResult {
+    TxnResult {
+        zxid: 5,
+        err: 0,
+        path: None,
+        stat: None,
+        parts: PartResults::new(Vec::new(alloc)),
+    }
+}
+
+/// Whether this was appended, where the answer fits.
+fn is_told(told: Result<bool, NoMemory>, page: &String, expected: Option<&str>) -> bool {
+    match expected {
+        Some(text) => told == Ok(true) && page.as_str() == text,
+        None => told == Ok(false) && page.as_str().is_empty(),
+    }
+}
+
+fn is_wrote(alloc: Global, wish: &Wish, expected: Option<&str>) -> bool {
+    let mut page = String::new(alloc);
+    let told = push_wrote(&mut page, wish, &plain(alloc));
+    is_told(told, &page, expected)
+}
+
+fn is_looked(alloc: Global, wish: &Wish, expected: Option<&str>) -> bool {
+    let mut page = String::new(alloc);
+    let told = push_looked(&mut page, wish, &ReadReply::Refused(-101));
+    is_told(told, &page, expected)
+}
+
+fn is_caught(alloc: Global, wish: &Wish, expected: Option<&str>) -> bool {
+    let mut page = String::new(alloc);
+    let told = push_caught(&mut page, wish);
+    is_told(told, &page, expected)
+}
+
+fn is_event(alloc: Global, path: &Path, expected: &str) -> bool {
+    let mut page = String::new(alloc);
+    let told = push_event(&mut page, ChangeKind::ChildrenChanged, path);
+    told.is_ok() && page.as_str() == expected
+}
+
+/// What a line that closes, one that reads a path and one that syncs it wait for, and are told.
+fn are_told(alloc: Global, path: Path, same: Path) -> bool {
+    let closed = Wish::of_request(&Request::CloseSession);
+    let content = Wish::of_call(&ReadCall::GetData { path });
+    let event = is_event(alloc, &same, "event 4 \"/a\"");
+    let caught = Wish::Caught { path: same };
+    event
+        && matches!(&closed, Wish::Closed)
+        && matches!(&content, Wish::Content)
+        && is_wrote(alloc, &closed, Some("ok"))
+        && is_wrote(alloc, &content, None)
+        && is_looked(alloc, &content, Some("err -101"))
+        && is_looked(alloc, &closed, None)
+        && is_caught(alloc, &caught, Some("ok \"/a\""))
+        && is_caught(alloc, &content, None)
+}
+
+#[test]
+fn answers_fit_what_is_waited_for(rt: HostRuntime) -> Result<(), Fail> {
+    let path = path_of(rt.alloc(), "/a")?;
+    let same = path_of(rt.alloc(), "/a")?;
+    assert!(rt; are_told(rt.alloc(), path, same));
+    Ok(())
+}

@@ -1,0 +1,328 @@
+//! The front over memory and over an ensemble of three servers, by a clock that stands at 1000.
+
+use std::alloc::Global;
+use std::test::Fail;
+use zk_front_local::{Clock, FrontFault, Local, serve_lines};
+use zk_log::{DripIn, DripOut, Sink, Source};
+use zk_path::NoMemory;
+
+/// A clock that stands.
+#[derive(Drop)]
+pub struct Still;
+
+impl Clock for Still {
+    fn now(&mut self) -> i64 {
+        1000
+    }
+}
+
+/// How the bytes come and go: so many a read, and a write takes one; which read fails and which write, counted from 0; and how
+/// many reads may be made.
+#[derive(Clone, Copy)]
+struct Devices {
+    piece: usize,
+    bad_read: Option<u64>,
+    bad_write: Option<u64>,
+    turns: u32,
+}
+
+/// They do not fail.
+const GOOD: Devices = Devices {
+    piece: 4096,
+    bad_read: None,
+    bad_write: None,
+    turns: 1_048_576,
+};
+
+/// A session of a client, with its answers. The first transaction is the opening.
+const LINES: &str = "open 30000
+create \"/a\" x6869 1 31 \"world\" \"anyone\"
+get \"/a\"
+ruok
+ls -w \"/\"
+create \"/b\" x 1 31 \"world\" \"anyone\"
+sync \"/a\"
+stat \"/\"
+set \"/a\" \"bye\" 0
+set \"/a\" \"bye\" 0
+getacl \"/b\"
+delete \"/b\" 0
+get \"/b\"
+commit
+close
+close
+";
+
+const ANSWERS: &str = "ok 0000000100000001 30000
+ok \"/a\"
+ok x6869 0000000100000002 0000000100000002 1000 1000 0 0 0 0000000000000000 2 0 0000000100000002
+imok
+ok 2 \"a\" \"zookeeper\" 0000000000000000 0000000000000000 0 0 0 0 0 0000000000000000 0 2 0000000100000002
+event 4 \"/\"
+ok \"/b\"
+ok \"/a\"
+ok 0000000000000000 0000000000000000 0 0 0 1 0 0000000000000000 0 3 0000000100000003
+ok 0000000100000002 0000000100000004 1000 1000 1 0 0 0000000000000000 3 0 0000000100000002
+err -103
+ok 1 31 \"world\" \"anyone\" 0000000100000003 0000000100000003 1000 1000 0 0 0 0000000000000000 0 0 0000000100000003
+ok
+err -101
+err -8
+ok
+err -112
+";
+
+/// Multis: a bad part drops its multi, and so does a line that is none.
+const MULTIS: &str = "open 30000
+multi
+create \"/m\" x 1 31 \"world\" \"anyone\"
+get \"/\"
+commit
+stat \"/m\"
+multi
+ruok
+commit
+multi
+create \"/m\" x 1 31 \"world\" \"anyone\"
+create \"/m\" x
+commit
+multi
+create \"/m\" x 1 31 \"world\" \"anyone\"
+create \"/m/n\" x 1 31 \"world\" \"anyone\"
+set \"/m\" x01 0
+check \"/m\" 1
+delete \"/m/n\" 0
+commit
+multi
+delete \"/m\" 5
+create \"/o\" x 1 31 \"world\" \"anyone\"
+commit
+stat \"/o\"
+commit
+";
+
+const MULTI_ANSWERS: &str = "ok 0000000100000001 30000
+err -8
+err -8
+err -101
+err -8
+err -8
+err -8
+err -8
+ok ; 0 \"/m\" - ; 0 \"/m/n\" - ; 0 \"/m\" 0000000100000002 0000000100000002 1000 1000 1 1 0 0000000000000000 1 1 0000000100000002 ; 0 \"/m\" - ; 0 \"/m/n\" -
+err -103 ; -103 - - ; -2 - -
+err -101
+err -8
+";
+
+/// Without a session, and with two after one another on one connection.
+const SESSIONS: &str = "ruok
+create \"/a\" x 1 31 \"world\" \"anyone\"
+what
+multi
+commit
+open 1000
+open 30000
+addauth digest \"alice\"
+addauth digest \"alice:secret\"
+get \"a\"
+create -e \"/e\" x 1 31 \"auth\" \"\"
+getacl \"/e\"
+close
+get \"/e\"
+open 50000
+get \"/e\"
+ruok";
+
+const SESSION_ANSWERS: &str = "imok
+err -112
+err -8
+err -112
+err -8
+ok 0000000100000001 4000
+err -8
+err -8
+ok
+err -8
+ok \"/e\"
+ok 1 31 \"digest\" \"alice:aYXlLOpEooaV1cRAvUL1fp9Qt7E=\" 0000000100000002 0000000100000002 1000 1000 0 0 0 0000000100000001 0 0 0000000100000002
+ok
+err -112
+ok 0000000100000004 40000
+err -101
+imok
+";
+
+/// What serving answers, and the writer. An ensemble that does not start answers nothing.
+fn served(
+    alloc: Global,
+    input: &[u8],
+    devices: Devices,
+) -> Result<(Result<u64, FrontFault>, DripOut), NoMemory> {
+    let Ok(mut local) = Local::start(alloc, 3, Still) else {
+        return Err(NoMemory);
+    };
+    Ok(served_by(alloc, &mut local, input, devices))
+}
+
+fn served_by(
+    alloc: Global,
+    local: &mut Local<Still>,
+    input: &[u8],
+    devices: Devices,
+) -> (Result<u64, FrontFault>, DripOut) {
+    let mut reader = Source::new(DripIn::new(input, devices.piece.max(1), devices.bad_read));
+    let mut writer = Sink::new(DripOut::new(alloc, 1, devices.bad_write));
+    let ended = serve_lines(alloc, &mut reader, &mut writer, local, devices.turns);
+    (ended, writer.into_inner())
+}
+
+/// What is written for these lines, where all goes well.
+fn answers(alloc: Global, input: &[u8], piece: usize) -> Result<(u64, DripOut), NoMemory> {
+    let devices = Devices { piece, ..GOOD };
+    match served(alloc, input, devices)? {
+        (Ok(lines), out) => Ok((lines, out)),
+        (Err(_), _) => Err(NoMemory),
+    }
+}
+
+/// Whether so many lines are answered so, in pieces of any size.
+fn are_answered(alloc: Global, input: &str, lines: u64, expected: &str) -> Result<bool, NoMemory> {
+    for piece in [1, 7, 65_536] {
+        let (count, out) = answers(alloc, input.as_bytes(), piece)?;
+        if count != lines || out.bytes() != expected.as_bytes() {
+            return Ok(false);
+        }
+    }
+    Ok(true)
+}
+
+#[test]
+fn front_lines_over_memory(rt: HostRuntime) -> Result<(), Fail> {
+    assert!(rt; are_answered(rt.alloc(), LINES, 16, ANSWERS)?);
+    assert!(rt; are_answered(rt.alloc(), MULTIS, 26, MULTI_ANSWERS)?);
+    assert!(rt; are_answered(rt.alloc(), SESSIONS, 17, SESSION_ANSWERS)?);
+    Ok(())
+}
+
+/// A line of so many bytes with its newline, and a line that is always answered.
+fn long_line(alloc: Global, front: &str, back: &str, bytes: usize) -> Result<Vec<u8>, NoMemory> {
+    let mut line = Vec::new(alloc);
+    line.extend_from_slice(front.as_bytes())?;
+    for _ in line.len()..bytes.saturating_sub(back.len()) {
+        line.push(b'y')?;
+    }
+    line.extend_from_slice(back.as_bytes())?;
+    line.extend_from_slice(b"ruok\n")?;
+    Ok(line)
+}
+
+/// Whether a line of so many bytes is answered so, and the next one is answered.
+fn long_line_is_answered(alloc: Global, bytes: usize, expected: &str) -> Result<bool, NoMemory> {
+    let front = "open 30000\ncreate \"/l\" \"";
+    let back = "\" 1 31 \"world\" \"anyone\"\n";
+    let input = long_line(
+        alloc,
+        front,
+        back,
+        bytes.saturating_add("open 30000\n".len()),
+    )?;
+    let (lines, out) = answers(alloc, input.as_slice(), 65_536)?;
+    Ok(lines == 3 && out.bytes() == expected.as_bytes())
+}
+
+const READ: &str = "ok 0000000100000001 30000\nok \"/l\"\nimok\n";
+
+const SKIPPED: &str = "ok 0000000100000001 30000\nerr -8\nimok\n";
+
+#[test]
+fn lines_of_65536_bytes_are_read(rt: HostRuntime) -> Result<(), Fail> {
+    assert!(rt; long_line_is_answered(rt.alloc(), 65_535, READ)?);
+    assert!(rt; long_line_is_answered(rt.alloc(), 65_536, READ)?);
+    assert!(rt; long_line_is_answered(rt.alloc(), 65_537, SKIPPED)?);
+    assert!(rt; long_line_is_answered(rt.alloc(), 70_000, SKIPPED)?);
+    assert!(rt; long_line_is_answered(rt.alloc(), 140_000, SKIPPED)?);
+    Ok(())
+}
+
+#[test]
+fn no_reads_are_endless(rt: HostRuntime) -> Result<(), Fail> {
+    let devices = Devices { turns: 0, ..GOOD };
+    let (ended, out) = served(rt.alloc(), b"ruok\n", devices)?;
+    assert_eq!(rt; ended, Err(FrontFault::Endless));
+    assert_eq!(rt; out.bytes().len(), 0);
+    Ok(())
+}
+
+/// How many bytes of the answers stand for the first so many bytes of the input: each line here has one answer.
+fn answered_by(input: &[u8], answers: &[u8], read: usize) -> usize {
+    let mut left = lines_of(input.get(..read).unwrap_or(input));
+    for (at, byte) in answers.iter().enumerate() {
+        if left == 0 {
+            return at;
+        }
+        if *byte == b'\n' {
+            left -= 1;
+        }
+    }
+    answers.len()
+}
+
+/// How many newlines there are.
+fn lines_of(bytes: &[u8]) -> usize {
+    bytes.iter().filter(|byte| **byte == b'\n').count()
+}
+
+/// Lines that have an answer of one line each.
+const PLAIN: &str = "open 30000\nruok\nget \"/\"\nx\n";
+
+const PLAIN_ANSWERS: &str =
+    "ok 0000000100000001 30000\nimok\nok x 0000000000000000 0000000000000000 0 0 0 -1 0 0000000000000000 0 1 0000000000000000\nerr -8\n";
+
+/// The first read that fails, byte by byte, where serving answers something else than it should.
+fn other_read(alloc: Global) -> Result<Option<usize>, NoMemory> {
+    for read in 0..PLAIN.len() + 1 {
+        let devices = Devices {
+            piece: 1,
+            bad_read: Some(read as u64),
+            ..GOOD
+        };
+        let (ended, out) = served(alloc, PLAIN.as_bytes(), devices)?;
+        let expected = answered_by(PLAIN.as_bytes(), PLAIN_ANSWERS.as_bytes(), read);
+        if ended != Err(FrontFault::Read)
+            || Some(out.bytes()) != PLAIN_ANSWERS.as_bytes().get(..expected)
+        {
+            return Ok(Some(read));
+        }
+    }
+    Ok(None)
+}
+
+#[test]
+fn each_read_may_fail(rt: HostRuntime) -> Result<(), Fail> {
+    assert_eq!(rt; other_read(rt.alloc())?, None);
+    Ok(())
+}
+
+/// The first write that fails where serving answers something else than it should: a write takes a byte.
+fn other_write(alloc: Global) -> Result<Option<usize>, NoMemory> {
+    for written in 0..PLAIN_ANSWERS.len() {
+        let devices = Devices {
+            bad_write: Some(written as u64),
+            ..GOOD
+        };
+        let (ended, out) = served(alloc, PLAIN.as_bytes(), devices)?;
+        if ended != Err(FrontFault::Write)
+            || Some(out.bytes()) != PLAIN_ANSWERS.as_bytes().get(..written)
+        {
+            return Ok(Some(written));
+        }
+    }
+    Ok(None)
+}
+
+#[test]
+fn each_write_may_fail(rt: HostRuntime) -> Result<(), Fail> {
+    assert_eq!(rt; other_write(rt.alloc())?, None);
+    Ok(())
+}
