@@ -8,9 +8,9 @@ The seconds of reads are those of a clock on the wall, less those of a run witho
 One core is the calling thread's, and as many others as there are readers are free, if the machine has them.
 
 A publish is measured in a view whose tree has some nodes: transactions that set what these hold are published one by one, or several at
-once as after a reconnect. The same transactions are applied to a table with the same nodes. Either is told in CPU microseconds a
+once as after a reconnect. The same transactions are applied to a machine with the same nodes, as a server does that somebody watches. Either is told in CPU microseconds a
 transaction: those of runs with many transactions, less those of runs with a few, so that what comes before and the first publish, which
-makes the nodes in the second table, count for neither. What the view's two lists take is a part of a publish; the lock, the chronicle and
+makes the nodes in the second machine, count for neither. What the view's two lists take is a part of a publish; the lock, the chronicle and
 the event are none. The least of several runs counts, and runs of each kind take turns, so that a busy minute strikes all alike.
 """
 import os
@@ -28,9 +28,9 @@ AT_ONCE = (1, 10)
 TURNS = 5
 
 
-def run(readers, reads, nodes=0, txns=0, at_once=1, views=0, tables=0):
+def run(readers, reads, nodes=0, txns=0, at_once=1, views=0, machines=0):
     """The seconds by the clock, and the CPU seconds."""
-    words = [str(it) for it in (readers, reads, nodes, txns, at_once, views, tables)]
+    words = [str(it) for it in (readers, reads, nodes, txns, at_once, views, machines)]
     before = time.monotonic()
     child = subprocess.Popen([LOAD, *words], stdin=subprocess.DEVNULL, stdout=subprocess.PIPE)
     told = child.stdout.read().decode().split()
@@ -44,14 +44,14 @@ def run(readers, reads, nodes=0, txns=0, at_once=1, views=0, tables=0):
 def publishing(nodes, txns, at_once, times):
     """What a publish and an application cost, in CPU seconds a transaction."""
     few = 2 * at_once
-    kinds = {(count, views, tables): [] for count in (few, txns) for views, tables in ((0, 0), (times, 0), (0, times))}
+    kinds = {(count, views, machines): [] for count in (few, txns) for views, machines in ((0, 0), (times, 0), (0, times))}
     for _ in range(TURNS):
-        for (count, views, tables), taken in kinds.items():
-            taken.append(run(0, 0, nodes, count, at_once, views, tables)[1])
+        for (count, views, machines), taken in kinds.items():
+            taken.append(run(0, 0, nodes, count, at_once, views, machines)[1])
 
-    def more(views, tables):
+    def more(views, machines):
         def above(count):
-            return min(kinds[count, views, tables]) - min(kinds[count, 0, 0])
+            return min(kinds[count, views, machines]) - min(kinds[count, 0, 0])
 
         return (above(txns) - above(few)) / (txns - few) / times
 

@@ -1,7 +1,8 @@
 -- Events one after the other, and messages that arrive in turn.
-use Rattle.std.proofs.Common.{◌≡◌, ◌<◌, ◌≤◌, ℕ, ◌+◌, false, List, [], ◌∷◌, ◌++◌, length, Ok, Err, refl, sym, ap, subst, ◌∙◌, arith}
-use Rattle.std.proofs.lemmas.List.FromFn.{map-range_with_len_more}
+use Rattle.std.proofs.Common.{◌≡◌, ◌<◌, ◌≤◌, ℕ, ◌+◌, false, List, [], ◌∷◌, ◌++◌, length, take, Ok, Err, refl, sym, ap, subst, ◌∙◌, arith}
+use Rattle.std.proofs.lemmas.List.FromFn.{map-range_with_len_more, take-map-range_with_len}
 use Rattle.zab_quorums.specs.Quorums.{is_heavy}
+use Rattle.zk_connections.specs.declared.told.ServiceFault.{ServiceFault}
 use Rattle.zk_ensemble.specs.Views.{EnsembleView, state_of, profile_in}
 use Rattle.zk_runs.proofs.Worlds.{after_all}
 use Rattle.zk_runs.specs.Counting.{counted}
@@ -11,7 +12,7 @@ use Rattle.zk_runs.specs.declared.event.Event.{Event}
 use Rattle.zk_runs.specs.declared.fault.EnsembleFault.TheVariants as faults
 use Rattle.zk_front_local.specs.Arriving.{arrival, arrivals, most_arrivals, Arrives, ArrivesNext, Broken, Delivered, LacksNext, Overrun}
 use Rattle.zk_front_local.specs.Happening.{Happens, Ran, is_lack}
-use Rattle.zk_front_local.specs.Starting.{followers, following}
+use Rattle.zk_front_local.specs.Starting.{followers, following, Refused, BrokeOff}
 use Rattle.zk_front_local.specs.declared.servers.Servers.{Servers}
 
 pub ran_nothing : (it : EnsembleView) → Ran it [] it
@@ -81,3 +82,34 @@ pub one_more_follows : (old mid new : EnsembleView) (count : ℕ) → Ran old (f
 one_more_follows old mid new count so_far next =
     let more = map-range_with_len_more following 2 count (count + 2) (omega arith) in
     subst (λ (some : List Event). Ran old some new) (sym more) (ran_then old mid new (followers count) (following (count + 2) ∷ []) so_far next)
+
+-- ---- an event that is refused
+
+-- the first one was
+pub broke_first : (old new : EnsembleView) (event : Event) (rest : List Event) (fault : ServiceFault) → Refused old event fault new → BrokeOff old (event ∷ rest) fault new
+broke_first old new event rest fault no = record { count = 0; event = event; mid = old; next = refl; ran = ran_nothing old; refused = no }
+
+-- the first one happened, and one behind it was refused
+pub broke_behind : (old mid new : EnsembleView) (event : Event) (rest : List Event) (fault : ServiceFault) → Ran old (event ∷ []) mid → BrokeOff mid rest fault new → BrokeOff old (event ∷ rest) fault new
+broke_behind old mid new event rest fault first it = record {
+  count = it.count + 1;
+  event = it.event;
+  mid = it.mid;
+  next = ap (λ (l : List Event). event ∷ l) it.next;
+  ran = ran_then old mid it.mid (event ∷ []) (take it.count rest) first it.ran;
+  refused = it.refused;
+}
+
+-- so many servers were told to follow, and the next one could not be
+pub broke_at : (old mid new : EnsembleView) (count total : ℕ) (fault : ServiceFault) → count < total → Ran old (followers count) mid → Refused mid (following (count + 2)) fault new → BrokeOff old (followers total) fault new
+broke_at old mid new count total fault below so_far no =
+    let here = take-map-range_with_len following 2 total count (omega (arith, below)) in
+    record {
+      count = count;
+      event = following (count + 2);
+      mid = mid;
+      next = take-map-range_with_len following 2 total (count + 1) (omega (arith, below))
+          ∙ (map-range_with_len_more following 2 count (count + 2) (omega arith) ∙ ap (λ (l : List Event). l ++ following (count + 2) ∷ []) (sym here));
+      ran = subst (λ (l : List Event). Ran old l mid) (sym here) so_far;
+      refused = no;
+    }

@@ -1,5 +1,6 @@
-ghost use Rattle.std.specs.Prelude.{IfOk};
+ghost use Rattle.std.specs.Prelude.{IfOk, IfErr};
 ghost use Rattle.zk_front_local.specs.Locals.{IsStarted};
+ghost use Rattle.zk_front_local.specs.Starting.{IsUnbegun};
 
 use crate::home::Home;
 use crate::start::start;
@@ -24,7 +25,8 @@ impl<C: Clock> Local<C> {
     /// Refused as [`ServiceFault::Server`] where there is no server, and where more than 1,048,576 messages would have to
     /// arrive; [`ServiceFault::Memory`] where memory was refused.
     pub fn start(alloc: Global, servers: usize, clock: C) -> Result<Local<C>, ServiceFault>
-        ensures { IfOk result (λ it. IsStarted servers clock it) }
+        ensures ok { IfOk result (λ it. IsStarted servers clock it) }
+        ensures err { IfErr result (λ fault. IsUnbegun servers fault) }
     {
         let servers = start(alloc, servers)?;
         Ok(Local {

@@ -1,8 +1,8 @@
 //! Readers of a server's view, beside one thread that calls; and what a publish costs: `bench/readers.py` measures it.
 //!
-//! usage: zk_servers_load [READERS [READS [NODES [TXNS [AT_ONCE [VIEWS [TABLES]]]]]]]     so many readers are each answered so many times
+//! usage: zk_servers_load [READERS [READS [NODES [TXNS [AT_ONCE [VIEWS [MACHINES]]]]]]]     so many readers are each answered so many times
 //! while another thread calls; transactions that make so many nodes are published at once in so many views, and so many more, which
-//! set what the nodes hold, so many at a time; and all are applied to so many tables
+//! set what the nodes hold, so many at a time; and all are applied to so many machines
 //!
 //! The session is opened and the node is made before anybody reads, so each read is answered, and the number of answers follows.
 #![tactic(auto)]
@@ -31,7 +31,7 @@ const AT_ONCE: usize = 1;
 
 const VIEWS: usize = 1;
 
-const TABLES: usize = 2;
+const MACHINES: usize = 2;
 
 fn main(rt: HostRuntime) -> Result<()> {
     run(&rt, &rt)
@@ -44,7 +44,7 @@ fn run<R: Threads + Wait + Sync>(rt: &HostRuntime, threads: &R) -> Result<()> {
     let others = word(rt, 4, TXNS)?;
     let at_once = word(rt, 5, AT_ONCE)?;
     let views = word(rt, 6, VIEWS)?;
-    let tables = word(rt, 7, TABLES)?;
+    let machines = word(rt, 7, MACHINES)?;
     let answered = read_all(threads, rt.alloc(), readers, reads)?;
     println!(rt; "{readers} readers, {answered} answers")?;
     let load = Load {
@@ -54,8 +54,8 @@ fn run<R: Threads + Wait + Sync>(rt: &HostRuntime, threads: &R) -> Result<()> {
     };
     let published = publish_to_all(threads, rt.alloc(), &load, views)?;
     println!(rt; "{views} views, {published} transactions published")?;
-    apply_to_all(rt.alloc(), &load.txns, tables)?;
-    println!(rt; "{tables} tables")?;
+    apply_to_all(rt.alloc(), &load.txns, machines)?;
+    println!(rt; "{machines} machines")?;
     Ok(())
 }
 

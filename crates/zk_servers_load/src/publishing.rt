@@ -1,10 +1,12 @@
 //! What a publish costs.
+ghost use Rattle.std.specs.Prelude.{◌≡◌, false, OnOk};
 
 use crate::txns::Load;
 use std::alloc::Global;
 use std::sync::Wait;
+use zk_machine::Machine;
 use zk_path::NoMemory;
-use zk_table::{Plain, Txn};
+use zk_table::Txn;
 use zk_views::Publisher;
 
 /// Publishes the next transactions of a list, at once: so many, or those that are left. Whether any was published.
@@ -50,18 +52,30 @@ fn publish_all<R: Wait>(rt: &R, alloc: Global, load: &Load) -> Result<usize, NoM
     Ok(publisher.close(rt).len())
 }
 
-/// Applies transactions to so many new tables, one after the other.
-pub(crate) fn apply_to_all(alloc: Global, txns: &[Txn], tables: usize) -> Result<(), NoMemory> {
-    for _ in 0..tables {
+/// Applies transactions to so many new machines, one after the other.
+pub(crate) fn apply_to_all(alloc: Global, txns: &[Txn], machines: usize) -> Result<(), NoMemory> {
+    for _ in 0..machines {
         apply_all(alloc, txns)?;
     }
     Ok(())
 }
 
 fn apply_all(alloc: Global, txns: &[Txn]) -> Result<(), NoMemory> {
-    let mut table = Plain::new(alloc)?;
+    let mut machine = Machine::new(alloc)?;
     for txn in txns {
-        table.apply(txn)?;
+        apply(&mut machine, txn)?;
     }
+    Ok(())
+}
+
+/// Applies a transaction as a server does that somebody watches: with its answer, what it changed, and how it is taken back.
+fn apply(machine: &mut Machine, txn: &Txn) -> Result<(), NoMemory>
+    requires { machine.old.failed ≡ false }
+    ensures { OnOk result (machine.new.failed ≡ false) }
+{
+    machine.make_countable()?;
+    let Ok(_applied) = machine.apply(txn) else {
+        return Err(NoMemory);
+    };
     Ok(())
 }

@@ -6,6 +6,7 @@
 #![tactic(auto)]
 
 mod fault;
+mod machines;
 mod pass;
 mod publisher;
 mod reader;

@@ -1,34 +1,42 @@
 ghost use Rattle.std.specs.Prelude.{◌≡◌, [], IfOk, IfErr, OnErr};
+ghost use Rattle.zk_table.specs.Histories.{tree_of};
+ghost use Rattle.zk_table.specs.Reads.{reply_to};
 ghost use Rattle.zk_views.specs.Answers.{IsAnswered, IsRefused};
 
 use crate::fault::ViewFault;
+use crate::machines::{last_of, machine_after, machine_of, read_from};
 use crate::pass::Pass;
 use crate::seen::Seen;
 use left_right::Absorb;
 use std::alloc::{AllocError, Global};
 use std::marker::Model;
 use zk_acl::Id;
+use zk_machine::Machine;
 use zk_path::NoMemory;
-use zk_table::{Plain, ReadCall, Txn};
+use zk_table::{ReadCall, ReadReply, Txn};
 
 /// One of the two copies of what is published: a list of transactions, and the tree that they make.
 #[derive(Drop)]
 pub struct View {
+    alloc: Global,
     txns: Vec<Txn>,
-    tree: Plain,
+    /// The zxid of the last transaction, and 0 before the first.
+    last: i64,
+    /// None where memory was refused in the middle of a transaction: the next one makes it anew, from the list.
+    machine: Option<Machine>,
 }
 
 /// A view is seen as its list.
 impl Model for View {
     ghost use Rattle.std.specs.Prelude.{◌≡◌, List};
     ghost use Rattle.zk_txn.specs.declared.txn.Txn.{Txn};
-    ghost use Rattle.zk_table.specs.Histories.{tree_of};
+    ghost use Rattle.zk_views.specs.Machines.{IsKeptBeside};
 
     ghost Value = { List Txn };
 
     ghost view = { λ view. view.txns.items };
 
-    ghost invariant = { λ view. view.tree ≡ tree_of view.txns.items };
+    ghost invariant = { λ view. IsKeptBeside view.txns.items view.last view.machine };
 }
 
 impl View {
@@ -36,10 +44,12 @@ impl View {
     pub fn new(alloc: Global) -> Result<View, NoMemory>
         ensures { IfOk result (λ view. view ≡ []) }
     {
-        let tree = Plain::new(alloc)?;
+        let machine = Machine::new(alloc)?;
         Ok(View {
+            alloc,
             txns: Vec::new(alloc),
-            tree,
+            last: 0,
+            machine: Some(machine),
         })
     }
 
@@ -65,13 +75,23 @@ impl View {
         ensures kept { OnErr result (pass.new ≡ pass.old) }
     {
         let seen = pass.seen();
-        let zxid = self.tree.last();
+        let zxid = self.last;
         if zxid < seen {
             return Err(ViewFault::Behind { seen, zxid });
         }
-        let reply = self.tree.read(call, auths)?;
+        let reply = self.reply(call, auths)?;
         pass.take(zxid);
         Ok(Seen { zxid, reply })
+    }
+
+    /// What the tree tells a caller who has proved these identities.
+    fn reply(&self, call: &ReadCall, auths: &[Id]) -> Result<ReadReply, NoMemory>
+        ensures { IfOk result (λ reply. reply ≡ reply_to (tree_of self.now) call.now auths.now) }
+    {
+        match &self.machine {
+            Some(machine) => read_from(machine, call, auths),
+            None => read_from(&machine_of(self.alloc, self.txns.as_slice())?, call, auths),
+        }
     }
 }
 
@@ -96,14 +116,18 @@ impl Absorb<Txn> for View {
         }
     }
 
-    /// The room in the list comes first, so that a refusal changes nothing.
+    /// The room in the list comes first, so that a refusal leaves the list.
     fn absorb_second(&mut self, operation: Txn, _other: &View) -> Result<(), Txn> {
         if self.txns.reserve(1).is_err() {
             return Err(operation);
         }
-        let Ok(()) = self.tree.absorb(&operation) else {
+        let machine = self.machine.take();
+        let Ok(machine) = machine_after(self.alloc, machine, self.txns.as_slice(), &operation)
+        else {
             return Err(operation);
         };
+        self.last = last_of(&machine);
+        self.machine = Some(machine);
         self.txns.push_reserved(operation);
         Ok(())
     }
