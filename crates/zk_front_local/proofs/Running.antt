@@ -1,5 +1,6 @@
 -- Events one after the other, and messages that arrive in turn.
 use Rattle.std.proofs.Common.{◌≡◌, ◌<◌, ◌≤◌, ℕ, ◌+◌, false, List, [], ◌∷◌, ◌++◌, length, take, Ok, Err, refl, sym, ap, subst, ◌∙◌, arith}
+use native.Mathlib.Numerals.{unary_clauses}
 use Rattle.std.proofs.lemmas.List.FromFn.{map-range_with_len_more, take-map-range_with_len}
 use Rattle.zab_quorums.specs.Quorums.{is_heavy}
 use Rattle.zk_connections.specs.declared.told.ServiceFault.{ServiceFault}
@@ -87,7 +88,7 @@ one_more_follows old mid new count so_far next =
 
 -- the first one was
 pub broke_first : (old new : EnsembleView) (event : Event) (rest : List Event) (fault : ServiceFault) → Refused old event fault new → BrokeOff old (event ∷ rest) fault new
-broke_first old new event rest fault no = record { count = 0; event = event; mid = old; next = refl; ran = ran_nothing old; refused = no }
+broke_first old new event rest fault refusal = record { count = 0; event = event; mid = old; next = refl; ran = ran_nothing old; refused = refusal }
 
 -- the first one happened, and one behind it was refused
 pub broke_behind : (old mid new : EnsembleView) (event : Event) (rest : List Event) (fault : ServiceFault) → Ran old (event ∷ []) mid → BrokeOff mid rest fault new → BrokeOff old (event ∷ rest) fault new
@@ -95,14 +96,14 @@ broke_behind old mid new event rest fault first it = record {
   count = it.count + 1;
   event = it.event;
   mid = it.mid;
-  next = ap (λ (l : List Event). event ∷ l) it.next;
-  ran = ran_then old mid it.mid (event ∷ []) (take it.count rest) first it.ran;
+  next = simp unary_clauses (ap (λ (l : List Event). event ∷ l) (simp unary_clauses at it.next));
+  ran = simp unary_clauses (ran_then old mid it.mid (event ∷ []) (take it.count rest) first it.ran);
   refused = it.refused;
 }
 
 -- so many servers were told to follow, and the next one could not be
 pub broke_at : (old mid new : EnsembleView) (count total : ℕ) (fault : ServiceFault) → count < total → Ran old (followers count) mid → Refused mid (following (count + 2)) fault new → BrokeOff old (followers total) fault new
-broke_at old mid new count total fault below so_far no =
+broke_at old mid new count total fault below so_far refusal =
     let here = take-map-range_with_len following 2 total count (omega (arith, below)) in
     record {
       count = count;
@@ -111,5 +112,5 @@ broke_at old mid new count total fault below so_far no =
       next = take-map-range_with_len following 2 total (count + 1) (omega (arith, below))
           ∙ (map-range_with_len_more following 2 count (count + 2) (omega arith) ∙ ap (λ (l : List Event). l ++ following (count + 2) ∷ []) (sym here));
       ran = subst (λ (l : List Event). Ran old l mid) (sym here) so_far;
-      refused = no;
+      refused = refusal;
     }

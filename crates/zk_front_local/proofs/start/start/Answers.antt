@@ -4,9 +4,9 @@ use Rattle.zk_front_local.specs.Happening.{Ran}
 use Rattle.zk_front_local.specs.Starting.{beginning}
 use Rattle.zk_front_local.proofs.start.start.Goals as goal
 
-pub returns : goal.returns
-returns c = record {
+pub returns-clause-ok : goal.returns-clause-ok
+returns-clause-ok c = record {
   mid = c.begin.new.ensemble;
-  ran = subst (λ (it : EnsembleView). Ran it (beginning c.args.count) c.begin.new.ensemble) c.in_ok-new.ensures c.in_ok-begin.ensures;
+  ran = subst (λ (it : EnsembleView). Ran it (beginning c.args.count) c.begin.new.ensemble) c.in_ok-new.ensures c.in_ok-begin.ensures.ok;
   delivered = c.in_ok-deliver.ensures.ok;
 }
