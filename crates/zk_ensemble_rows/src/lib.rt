@@ -13,6 +13,8 @@ mod events;
 #[cfg(test)]
 mod fault_rows;
 #[cfg(test)]
+mod outcome_rows;
+#[cfg(test)]
 mod read_rows;
 #[cfg(test)]
 mod reports;

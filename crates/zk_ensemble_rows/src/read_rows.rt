@@ -117,7 +117,7 @@ fn reads_behind_and_refused_events(rt: HostRuntime) -> Result<(), Fail> {
 }
 
 /// A second session is opened, and the first one owns a node.
-static OWNED: [Row; 9] = [
+pub static OWNED: [Row; 9] = [
     Told(Submit(1, 2, 0, Ask::Open), "ok 10"),
     Told(Arrive(10), "ok 11"),
     Told(Arrive(11), "ok 12"),
@@ -138,7 +138,7 @@ const ABOVE_STAT: &str =
     "0000000000000000 0000000000000000 0 0 0 0 0 0000000000000000 0 2 0000000100000003";
 
 /// The second session watches the node, its children and those of the root.
-static OTHER_WATCHES: [Row; 3] = [
+pub static OTHER_WATCHES: [Row; 3] = [
     Told(
         Read(
             By {
@@ -208,7 +208,7 @@ static NO_WATCHES: [Row; 2] = [
 ];
 
 /// The first session closes.
-static CLOSED: [Row; 4] = [
+pub static CLOSED: [Row; 4] = [
     Told(Submit(1, 4, FIRST, Ask::Close), "ok 16"),
     Told(Arrive(16), "ok 17"),
     Told(Arrive(17), "ok 18"),

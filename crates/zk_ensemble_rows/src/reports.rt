@@ -3,7 +3,7 @@
 use std::alloc::Global;
 use std::test::Fail;
 use zab_epoch::Body;
-use zk_ensemble::Ensemble;
+use zk_ensemble::{Ensemble, Mark, Outcome};
 use zk_listing::{push_line, push_node_line, push_result_line};
 use zk_log::{Ending, Journal, Source, load};
 use zk_machine::Machine;
@@ -13,7 +13,8 @@ use zk_table::Txn;
 use zk_tree::Tree;
 
 /// What is asked for: of a server, the entries that it has delivered, those that it has, those that its journal's bytes load
-/// to, what was answered, to calls or to syncs, what was fired, or the tree; how many messages were sent; or what one of them says.
+/// to, what was answered, to calls or to syncs, what was fired, or the tree; how many messages were sent; or what one of them says;
+/// or what has come of a tag at a server, and a session's events there, behind a mark.
 #[derive(Clone, Copy)]
 pub enum Report {
     Delivered(usize),
@@ -25,6 +26,7 @@ pub enum Report {
     Tree(usize),
     Sent,
     Message(usize),
+    Outcome(usize, u64, i64, Mark),
 }
 
 /// A listing.
@@ -145,6 +147,27 @@ fn message_at(alloc: Global, ensemble: &Ensemble, number: usize) -> Result<Strin
     }
 }
 
+/// What has come of a tag, the session's events, and how far that was looked at.
+fn outcome_line(alloc: Global, outcome: &Outcome) -> Result<String, NoMemory> {
+    let mut text = String::new(alloc);
+    if let Some(it) = &outcome.answered {
+        write!(text, "answered {} {:016x}\n", it.tag, it.result.zxid)?;
+    }
+    if let Some(length) = outcome.caught {
+        write!(text, "caught {length}\n")?;
+    }
+    for event in &outcome.events {
+        write!(text, "{:?} {}\n", event.kind, event.path.text())?;
+    }
+    let mark = outcome.mark;
+    write!(
+        text,
+        "mark {} {} {}\n",
+        mark.answers, mark.syncs, mark.events
+    )?;
+    Ok(text)
+}
+
 /// What is asked for.
 pub fn report_of(alloc: Global, ensemble: &Ensemble, report: Report) -> Result<String, Fail> {
     match report {
@@ -157,5 +180,9 @@ pub fn report_of(alloc: Global, ensemble: &Ensemble, report: Report) -> Result<S
         Report::Tree(server) => tree_at(alloc, ensemble, server),
         Report::Sent => Ok(format!(in alloc; "{}", ensemble.messages().len())?),
         Report::Message(number) => Ok(message_at(alloc, ensemble, number)?),
+        Report::Outcome(server, tag, session, from) => {
+            let outcome = ensemble.outcome(server, tag, session, from)?;
+            Ok(outcome_line(alloc, &outcome)?)
+        }
     }
 }

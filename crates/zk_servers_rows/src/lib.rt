@@ -8,4 +8,5 @@ mod closing_rows;
 mod events;
 mod gate;
 mod inbox_rows;
+mod outcome_rows;
 mod reader_rows;

@@ -15,10 +15,10 @@ use zk_table::{ReadCall, ReadReply};
 /// The transaction that opens the first session, and the one that makes `/q`.
 const OPENED: i64 = 0x1_0000_0001;
 
-const MADE: i64 = 0x1_0000_0002;
+pub const MADE: i64 = 0x1_0000_0002;
 
 /// Two of three servers agree on a session.
-static FIRST_SESSION: [Happening; 11] = [
+pub static FIRST_SESSION: [Happening; 11] = [
     Happening::Lead(1),
     Happening::Follow(2, 1),
     Happening::Arrive(1),
@@ -36,7 +36,7 @@ static FIRST_SESSION: [Happening; 11] = [
 const ARRIVE_8: usize = 9;
 
 /// The session makes a node, which the last of these events delivers at the leader.
-static NODE: [Happening; 3] = [
+pub static NODE: [Happening; 3] = [
     Happening::Make(1),
     Happening::Arrive(10),
     Happening::Arrive(11),
@@ -72,7 +72,7 @@ fn ask(alloc: Global, reader: &mut Reader, pass: &mut Pass) -> Result<Shown, Fai
 }
 
 /// Calls events in turn.
-fn call_all<L: Ledger, R: Wait>(
+pub fn call_all<L: Ledger, R: Wait>(
     rt: &R,
     alloc: Global,
     shared: &Shared<L>,
