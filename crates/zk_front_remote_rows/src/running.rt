@@ -98,6 +98,28 @@ fn ask_all<L: Ledger, R: Wait + time::Clock>(
     })
 }
 
+/// The servers run, and beside them the client asks.
+fn run_and_ask<L: Ledger + Send + Sync, R: Threads + Wait + Sync + time::Clock>(
+    rt: &R,
+    alloc: Global,
+    shared: &Shared<L>,
+    post: Post,
+    seats: Vec<Seat<L>>,
+    remote: Remote<'_, L, R, Times>,
+    ends: &Senders,
+    rows: &'static [Row],
+) -> (Result<Run<L>, NoMemory>, Result<Told<L>, NoMemory>)
+    requires inboxes { length post.inboxes.items ≡ length seats.items }
+{
+    thread::join(
+        rt,
+        move ||
+            requires { length post.inboxes.items ≡ length seats.items }
+        { run_all(rt, alloc, shared, post, seats) },
+        move || ask_all(rt, alloc, remote, ends, rows),
+    )
+}
+
 /// Servers in threads, and a client that plays a script; and then closing.
 fn run<L: Ledger + Send + Sync, R: Threads + Wait + Sync + time::Clock>(
     rt: &R,
@@ -128,13 +150,7 @@ fn run<L: Ledger + Send + Sync, R: Threads + Wait + Sync + time::Clock>(
         Ok(remote) => remote,
         Err(_) => return Err(NoMemory),
     };
-    let (ran, told) = thread::join(
-        rt,
-        ||
-            requires { length post.inboxes.items ≡ length seats.items }
-        { run_all(rt, alloc, &shared, post, seats) },
-        || ask_all(rt, alloc, remote, &ends, rows),
-    );
+    let (ran, told) = run_and_ask(rt, alloc, &shared, post, seats, remote, &ends, rows);
     let (ran, told) = (ran?, told?);
     let Run {
         mut seats,
