@@ -167,7 +167,7 @@ one_back {C} profile w event it messages tags is g m =
 
 -- ---- who runs
 
-runs_by : (o : Option Standing) → is_up o ≡ true → (it : Standing) × (if_up o ≡ Ok it)
+pub runs_by : (o : Option Standing) → is_up o ≡ true → (it : Standing) × (if_up o ≡ Ok it)
 runs_by None up = absurd cc
 runs_by (Some it) up = (it, by_up it.up up)
   where
