@@ -1,5 +1,5 @@
 -- What a server answers to a NewLeader, and what it delivers for it.
-use Rattle.std.proofs.Common.{◌≡◌, ◌≢◌, ℕ, zero, suc, ℤ, ◌+◌, ◌-◌, ◌<◌, ◌≤◌, ◌==◌, ◌&&◌, ◌⊎◌, inl, inr, min, Bool, true, false, cond, List, [], ◌∷◌, ◌++◌, length, take, set, slice_get, Option, Some, None, Result, Ok, Err, IfSome, IfErr, OnOk, refl, sym, ap, subst, ◌∙◌, arith, length-append}
+use Rattle.std.proofs.Common.{◌≡◌, ◌≢◌, ℕ, zero, suc, ℤ, ◌+◌, ◌-◌, ◌<◌, ◌≤◌, ◌==◌, ◌&&◌, ◌⊎◌, inl, inr, min, Bool, true, false, cond, List, [], ◌∷◌, ◌++◌, length, take, set, slice_get, Option, Some, None, Result, Ok, Err, IfSome, OnOk, refl, sym, ap, subst, ◌∙◌, arith, length-append}
 use Rattle.std.proofs.lemmas.List.{length-take, length-take-le, take_at}
 use Rattle.std.specs.Result.{is_err}
 use Rattle.zab_epoch.specs.declared.fault.RuleFault.{RuleFault}
@@ -21,16 +21,14 @@ use Rattle.zab_runs.specs.declared.event.Moved.{Moved}
 use Rattle.zab_runs.specs.declared.fault.WorldFault.{WorldFault}
 use Rattle.zab_runs.specs.declared.fault.WorldFault.TheVariants as faults
 use Rattle.zab_runs.specs.declared.spent.Spent.{Spent}
-use Rattle.zab_runs.specs.Counting.{counted, IsAnswered}
 use Rattle.zab_runs.specs.Movers.{mover, addressee_of}
 use Rattle.zab_runs.specs.Running.{is_up, is_running}
-use Rattle.zab_runs.specs.Runs.{after, IsOfRun, delivered_list, delivered_of}
+use Rattle.zab_runs.specs.Runs.{IsOfRun, delivered_list, delivered_of}
 use Rattle.zab_runs.specs.Standings.{Standing, standing}
 use Rattle.zab_runs.specs.Worlds.{World, Profile, Answer, world, server_at, running, told, said, moved, with_server, acts, receives, message_at, arrives, happens}
 use Rattle.zab_runs.proofs.ServerLists.{found, same_place, up_is}
 use Rattle.zab_world.specs.declared.joining.Joining.{Joining}
 use Rattle.zab_world.specs.Joinings.{brings_new_leader, is_new_leader, tells_new_leader, acked_by, ack_of, Says, DeliversNoMore, IsForeseen, MayFall}
-use Rattle.zab_world.specs.Sayings.{IsLiving}
 use Rattle.zab_world.proofs.Back.{runs_by}
 use Rattle.zab_world.proofs.Living.{fell}
 

@@ -1,4 +1,4 @@
-use Rattle.std.proofs.Common.{◌≡◌, ◌≢◌, ◌∙◌, length, sym, ap, arith}
+use Rattle.std.proofs.Common.{◌≢◌, ◌∙◌, length, sym}
 use Rattle.zab_broadcast.specs.Calls.{setting_of}
 use Rattle.zab_world.proofs.Joinings.{IsHeard, joined_said, joined_silent, joined_refused}
 use Rattle.zab_world.proofs.joining.join.Goals as goal
