@@ -29,12 +29,8 @@ use Rattle.zab_runs.specs.Worlds.{World, Profile, Answer, world, server_at, runn
 use Rattle.zab_runs.proofs.ServerLists.{found, same_place, up_is}
 use Rattle.zab_world.specs.declared.joining.Joining.{Joining}
 use Rattle.zab_world.specs.Joinings.{brings_new_leader, is_new_leader, tells_new_leader, acked_by, ack_of, Says, DeliversNoMore, IsForeseen, MayFall}
-use Rattle.zab_world.proofs.Back.{runs_by}
+use Rattle.zab_world.proofs.Back.{by_test, no_more, runs_by}
 use Rattle.zab_world.proofs.Living.{fell}
-
-by_test : {A : Type 0} (P : A → Type 0) (b : Bool) (x y : A) → P x → P y → P (cond b x y)
-by_test P true x y p q = p
-by_test P false x y p q = q
 
 pub meant_length : (own : List Entry) (keep : ℤ) (rest : List Entry) → length (epoch_rules.meant own keep rest) ≡ length (up_to keep own) + length rest
 meant_length own keep rest = length-append (up_to keep own) rest
@@ -64,13 +60,13 @@ state_says C state from epoch keep rest =
 
 -- ---- what is delivered
 
-no_more : (had : ℕ) (own now : List Entry) → had ≤ length own → length (take (min had (length now)) now) ≤ length (take had own)
-no_more had own now within = omega (arith, length-take (min had (length now)) now, length-take-le had own within)
+no_longer : (had : ℕ) (own now : List Entry) → had ≤ length own → length (take (min had (length now)) now) ≤ length (take had own)
+no_longer had own now within = omega (arith, length-take (min had (length now)) now, length-take-le had own within)
 
 state_delivers : (C : Type 0) (state : State) (from epoch : ℕ) (keep : ℤ) (rest : List Entry) → state.delivered ≤ length state.peer.stable.history → DeliversNoMore {C = C} state (rules.new_leader state from epoch keep rest)
 state_delivers C state from epoch keep rest within =
     by_test (DeliversNoMore {C = C} state) (follows state.peer.role from) _ _
-    (no_more state.delivered state.peer.stable.history (epoch_rules.new_leader {C = C} state.peer from epoch keep rest).0.stable.history within)
+    (no_longer state.delivered state.peer.stable.history (epoch_rules.new_leader {C = C} state.peer from epoch keep rest).0.stable.history within)
     (omega arith)
 
 -- ---- a NewLeader that comes
@@ -159,14 +155,10 @@ says_it {C} setting servers now before tags m it ack given runs says some acted 
       subst (λ (l : List (Message C)). told (world now before tags) (Ok l) ≡ arrives setting (world servers before tags) (Some m)) is (acted before tags)
 ]
 
-append_none : {A : Type 0} (xs : List A) → xs ++ [] ≡ xs
-append_none [] = refl
-append_none (x ∷ xs) = ap (λ l. x ∷ l) (append_none xs)
-
 pub says_nothing : {C : Type 0} (setting : Setting C) (servers now : List Standing) (before : List (Message C)) (tags : Spent) (m : Message C) (given : List (Message C)) → length given ≤ 0 → Acted setting servers now m given → (world now before tags, Ok (moved (length before) 0)) ≡ arrives setting (world servers before tags) (Some m)
 says_nothing {C} setting servers now before tags m given none acted =
     let one : Answer = Ok (moved (length before) 0) in
-    ap (λ (l : List (Message C)). (world now l tags, one)) (sym (append_none before))
+    ap (λ (l : List (Message C)). (world now l tags, one)) (sym (no_more before))
     ∙ subst (λ (l : List (Message C)). told (world now before tags) (Ok l) ≡ arrives setting (world servers before tags) (Some m)) (no_words given none) (acted before tags)
 
 -- ---- what came of an arrival whose answer was sent before
