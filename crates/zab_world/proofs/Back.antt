@@ -32,7 +32,7 @@ set_same [] i x e = refl
 set_same (z ∷ xs) zero x e = cc
 set_same (z ∷ xs) (suc i) x e = ap (λ l. z ∷ l) (set_same xs i x e)
 
-no_more : {A : Type 0} (xs : List A) → xs ++ [] ≡ xs
+pub no_more : {A : Type 0} (xs : List A) → xs ++ [] ≡ xs
 no_more [] = refl
 no_more (x ∷ xs) = ap (λ l. x ∷ l) (no_more xs)
 
@@ -44,7 +44,7 @@ Moves w n next = (stands : Standing) × (next.0.servers ≡ set w.servers (n - 1
 stays : {C : Type 0} (w : World C) (n : ℕ) (it : Standing) (answer : Answer) → server_at w.servers n ≡ Some it → Moves w n (w, answer)
 stays w n it answer is = (it, sym (set_same w.servers (n - 1) it (found w.servers n it is).get))
 
-by_test : {A : Type 0} (P : A → Type 0) (b : Bool) (x y : A) → P x → P y → P (cond b x y)
+pub by_test : {A : Type 0} (P : A → Type 0) (b : Bool) (x y : A) → P x → P y → P (cond b x y)
 by_test P true x y p q = p
 by_test P false x y p q = q
 
@@ -167,7 +167,7 @@ one_back {C} profile w event it messages tags is g m =
 
 -- ---- who runs
 
-runs_by : (o : Option Standing) → is_up o ≡ true → (it : Standing) × (if_up o ≡ Ok it)
+pub runs_by : (o : Option Standing) → is_up o ≡ true → (it : Standing) × (if_up o ≡ Ok it)
 runs_by None up = absurd cc
 runs_by (Some it) up = (it, by_up it.up up)
   where

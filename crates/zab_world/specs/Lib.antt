@@ -1,3 +1,4 @@
 -- What the contracts of this crate cite.
+pub mod Joinings
 pub mod Notes
 pub mod Sayings

@@ -189,7 +189,7 @@ pub(crate) fn find_message<C: Drop>(messages: &Messages<C>, number: usize) -> Op
 }
 
 /// A message arrives, by its number.
-fn arrive<P: Primary, Q: Quorums>(
+pub(crate) fn arrive<P: Primary, Q: Quorums>(
     alloc: Global,
     quorums: &Q,
     places: &mut [Place<P>],
@@ -197,9 +197,9 @@ fn arrive<P: Primary, Q: Quorums>(
     number: usize,
 ) -> Result<Messages<P::Call>, WorldFault>
     requires { EachEndsBelow places.old }
-    ensures acts { (tags : Spent) → result ≢ Err faults.NoMemory
-        → told (world places.new messages.now tags) result
-        ≡ arrives (setting_of (Q.passes quorums.now) P.made_of P.tag_of) (world places.old messages.now tags)
+    ensures acts { (before : List (Message P.Call)) (tags : Spent) → result ≢ Err faults.NoMemory
+        → told (world places.new before tags) result
+        ≡ arrives (setting_of (Q.passes quorums.now) P.made_of P.tag_of) (world places.old before tags)
         (message_at messages.now number) }
     ensures unchanged { result ≡ Err faults.NoMemory → places.new ≡ places.old }
     ensures living { IfErr result IsLiving }

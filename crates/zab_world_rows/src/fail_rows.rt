@@ -1,5 +1,5 @@
 //! Rows of `fail`: after each event that moved, the world that it leaves is the one after the crash of the event's server in
-//! the event's place.
+//! the event's place. And of `advance`, which comes to what `step` does.
 
 use crate::scripts::Happening::{Crash, Expire, Lead, Restart, Submit, Sync};
 use crate::scripts::Row::{Sends, SendsTwo};
@@ -167,4 +167,24 @@ fn terms_that_fail(rt: HostRuntime) {
 fn syncs_that_fail(rt: HostRuntime) {
     let scripts: [&[Row]; 4] = [&FIRST_SUBMIT, &FIRST_COMMIT, &TOLD, &AT_THE_LEADER];
     assert_eq!(rt; first_that_differs(rt.alloc(), &scripts), Ok(None));
+}
+
+/// Whether what happens in the rows of scripts that move comes to the same by `advance` as by `step`, and may be followed by
+/// the same.
+fn advance_as_they_step(alloc: Global, scripts: &[&[Row]]) -> Result<bool, NoMemory> {
+    let mut one = EchoWorld::new(alloc, 3)?;
+    let mut other = EchoWorld::new(alloc, 3)?;
+    for happening in moving(alloc, scripts)?.as_slice() {
+        if one.advance(event_of(*happening)) != other.step(event_of(*happening)) {
+            return Ok(false);
+        }
+    }
+    Ok(go_on_alike(&mut one, &mut other))
+}
+
+/// A follower drops an entry for a NewLeader.
+#[test]
+fn advances_as_it_steps(rt: HostRuntime) {
+    let scripts: [&[Row]; 3] = [&FIRST_SUBMIT, &SECOND_LEADER, &FIRST_FOLLOWS];
+    assert_eq!(rt; advance_as_they_step(rt.alloc(), &scripts), Ok(true));
 }

@@ -1,5 +1,5 @@
 -- The code's ensembles are those of runs.
-use Rattle.std.proofs.Common.{◌≡◌, ◌≢◌, ℕ, ◌≤◌, ◌<◌, Bool, true, false, List, [], ◌∷◌, ◌++◌, length, cond, int_lt, ℤ, Option, Some, None, Result, Ok, Err, OnOk, OnErr, refl, sym, ap, subst, ◌∙◌, arith}
+use Rattle.std.proofs.Common.{◌≡◌, ◌≢◌, ℕ, ◌≤◌, ◌<◌, inl, inr, Bool, true, false, List, [], ◌∷◌, ◌++◌, length, cond, int_lt, ℤ, Option, Some, None, Result, Ok, Err, OnOk, OnErr, refl, sym, ap, subst, ◌∙◌, arith}
 use Rattle.std.specs.Result.{is_err}
 use Rattle.zab_quorums.specs.Shares.{heavy_share}
 use Rattle.zab_quorums.specs.Quorums.{is_heavy}
@@ -39,6 +39,7 @@ use Rattle.zk_runs.proofs.Lists.{is_there}
 use Rattle.zk_headline_laws.proofs.Standing.{Stands, stands_in_run, grows}
 use Rattle.zk_runs.proofs.Worlds.{goes_on}
 use Rattle.zk_table.specs.Histories.{tree_of}
+use Rattle.zab_world.specs.Joinings.{MayFall}
 use Rattle.zk_ensemble.specs.Views.{Below, EnsembleView, state_of, profile_in, IsOfRun, answers_in, tree_in}
 use Rattle.zk_ensemble.proofs.Quiet.{refused_is_quiet, resting_is_quiet}
 
@@ -216,9 +217,15 @@ acted profile w event answer next number before at had s runs more =
 
 -- ---- it is refused memory for that
 
--- the world that its crash leaves
-pub fallen_is : (profile : Profile Call) (w : World Call) (event : WorldEvent Call) (answer : Result Moved WorldFault) (fallen : Option (World Call)) → HasActed w event answer → OnOk answer (is_running w (mover w event) ≡ true → fallen ≡ Some (zab.happens profile w (world_events.Crash (mover w event))).0) → fallen ≡ Some (zab.happens profile w (world_events.Crash (mover w event))).0
-fallen_is profile w event answer fallen a falls = (subst (λ r. OnOk r (is_running w (mover w event) ≡ true → fallen ≡ Some (zab.happens profile w (world_events.Crash (mover w event))).0)) a.is falls) a.ran
+-- the world that its crash leaves: it has delivered more
+pub fallen_is : (profile : Profile Call) (w : World Call) (event : WorldEvent Call) (answer : Result Moved WorldFault) (next : World Call) (number before : ℕ) (fallen : Option (World Call)) → number ≡ mover w event → before ≡ length (delivered_of w number) → before < length (delivered_of next number) → HasActed w event answer → OnOk answer (is_running w (mover w event) ≡ true → MayFall profile w event next fallen) → fallen ≡ Some (zab.happens profile w (world_events.Crash (mover w event))).0
+fallen_is profile w event answer next number before fallen at had more a falls =
+    let grown : length (delivered_of w (mover w event)) < length (delivered_of next (mover w event)) =
+    subst (λ n. length (delivered_of w n) < length (delivered_of next n)) at (subst (λ n. n < length (delivered_of next number)) had more) in
+    elim ((subst (λ r. OnOk r (is_running w (mover w event) ≡ true → MayFall profile w event next fallen)) a.is falls) a.ran) [
+      | inl is ↦ is.1
+      | inr none ↦ absurd (omega (arith, none.1.1, grown))
+    ]
 
 pub is_some : {A : Type 0} (o : Option A) (x : A) → o ≡ Some x → o ≢ None
 is_some o x is none = absurd (cc (is, none))

@@ -141,7 +141,7 @@ impl Ensemble {
         know_session(&event);
         let number = self.world.mover(&event);
         let before = self.world.delivered(number).len();
-        let answer = self.world.step(event);
+        let answer = self.world.advance(event);
         if is_no_memory(&answer) {
             return Err(EnsembleFault::NoMemory);
         }

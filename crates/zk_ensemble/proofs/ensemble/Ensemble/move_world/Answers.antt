@@ -15,13 +15,13 @@ catch_up-requires c =
     let w = below.world in
     let shown = c.self.inside.replicas.items in
     let event = c.args.event in
-    let answer = c.step-answer.result in
-    let next = c.step-answer.new.self.world in
+    let answer = c.advance-answer.result in
+    let next = c.advance-answer.new.self.world in
     let number = c.mover-number.result in
     let before = c.len-before.result in
     let stepped : IsStepped (profile_in below) w event answer next = record {
-      counts = c.step-answer.ensures.counts;
-      answers = c.step-answer.ensures.answers;
+      counts = c.advance-answer.ensures.counts;
+      answers = c.advance-answer.ensures.answers;
       kept = c.is_no_memory.ensures.no c.if-is_no_memory.false;
     } in
     let had : before ≡ length (delivered_of w number) = c.len-before.ensures.value ∙ ap length c.delivered.ensures in
@@ -35,20 +35,20 @@ fail-requires c =
     let given = c.deref_mut.result.now in
     let news = c.catch_up.new.replicas in
     let event = c.args.event in
-    let answer = c.step-answer.result in
-    let next = c.step-answer.new.self.world in
+    let answer = c.advance-answer.result in
+    let next = c.advance-answer.new.self.world in
     let number = c.mover-number.result in
     let before = c.len-before.result in
     let stepped : IsStepped (profile_in below) w event answer next = record {
-      counts = c.step-answer.ensures.counts;
-      answers = c.step-answer.ensures.answers;
+      counts = c.advance-answer.ensures.counts;
+      answers = c.advance-answer.ensures.answers;
       kept = c.is_no_memory.ensures.no c.if-is_no_memory.false;
     } in
     let had : before ≡ length (delivered_of w number) = c.len-before.ensures.value ∙ ap length c.delivered.ensures in
     let refused = sym c.is_err.ensures.value ∙ c.if-is_err.true in
     let a = acted (profile_in below) w event answer next number before c.mover-number.ensures had stepped (err_of c.catch_up.result c.catch_up.ensures.runs refused) (err_of c.catch_up.result c.catch_up.ensures.news refused) in
-    let fallen = fallen_is (profile_in below) w event answer c.step-answer.new.self.fallen a c.step-answer.ensures.falls in
-    is_some c.step-answer.new.self.fallen _ fallen
+    let fallen = fallen_is (profile_in below) w event answer next number before c.advance-answer.new.self.fallen c.mover-number.ensures had (err_of c.catch_up.result c.catch_up.ensures.news refused) a c.advance-answer.ensures.falls in
+    is_some c.advance-answer.new.self.fallen _ fallen
 
 pub invariant_of-self-then-is_err : goal.invariant_of-self-then-is_err
 invariant_of-self-then-is_err c =
@@ -58,24 +58,24 @@ invariant_of-self-then-is_err c =
     let given = c.deref_mut.result.now in
     let news = c.catch_up.new.replicas in
     let event = c.args.event in
-    let answer = c.step-answer.result in
-    let next = c.step-answer.new.self.world in
+    let answer = c.advance-answer.result in
+    let next = c.advance-answer.new.self.world in
     let number = c.mover-number.result in
     let before = c.len-before.result in
     let stepped : IsStepped (profile_in below) w event answer next = record {
-      counts = c.step-answer.ensures.counts;
-      answers = c.step-answer.ensures.answers;
+      counts = c.advance-answer.ensures.counts;
+      answers = c.advance-answer.ensures.answers;
       kept = c.is_no_memory.ensures.no c.if-is_no_memory.false;
     } in
     let had : before ≡ length (delivered_of w number) = c.len-before.ensures.value ∙ ap length c.delivered.ensures in
     let refused = sym c.is_err.ensures.value ∙ c.if-is_err.true in
     let a = acted (profile_in below) w event answer next number before c.mover-number.ensures had stepped (err_of c.catch_up.result c.catch_up.ensures.runs refused) (err_of c.catch_up.result c.catch_up.ensures.news refused) in
-    let fallen = fallen_is (profile_in below) w event answer c.step-answer.new.self.fallen a c.step-answer.ensures.falls in
+    let fallen = fallen_is (profile_in below) w event answer next number before c.advance-answer.new.self.fallen c.mover-number.ensures had (err_of c.catch_up.result c.catch_up.ensures.news refused) a c.advance-answer.ensures.falls in
     let keeps = with_items_is c.self.inside.replicas news (c.catch_up.ensures.count ∙ c.deref_mut.ensures.len) in
-    let counts = fell (profile_in below) w shown given news _ event c.step-answer.new.self.fallen c.fail.new.self.world number c.deref_mut.ensures.value c.mover-number.ensures fallen c.fail.ensures.fell (err_of c.catch_up.result c.catch_up.ensures.forgets refused) keeps in
+    let counts = fell (profile_in below) w shown given news _ event c.advance-answer.new.self.fallen c.fail.new.self.world number c.deref_mut.ensures.value c.mover-number.ensures fallen c.fail.ensures.fell (err_of c.catch_up.result c.catch_up.ensures.forgets refused) keeps in
     let told : Told = Err (faults.Died number) in
     of_run below (below_by c.fail.new.self) shown _ (counted (events.World event) told) c.self.invariant (fit_counted (events.World event) told c.know_session.ensures)
-    (c.fail.ensures.same.0 ∙ c.step-answer.ensures.same.0) (c.fail.ensures.same.1 ∙ c.step-answer.ensures.same.1) counts
+    (c.fail.ensures.same.0 ∙ c.advance-answer.ensures.same.0) (c.fail.ensures.same.1 ∙ c.advance-answer.ensures.same.1) counts
 
 pub returns-then-is_err-clause-counts : goal.returns-then-is_err-clause-counts
 returns-then-is_err-clause-counts c = rw (← c.self.view_is) (
@@ -85,21 +85,21 @@ returns-then-is_err-clause-counts c = rw (← c.self.view_is) (
     let given = c.deref_mut.result.now in
     let news = c.catch_up.new.replicas in
     let event = c.args.event in
-    let answer = c.step-answer.result in
-    let next = c.step-answer.new.self.world in
+    let answer = c.advance-answer.result in
+    let next = c.advance-answer.new.self.world in
     let number = c.mover-number.result in
     let before = c.len-before.result in
     let stepped : IsStepped (profile_in below) w event answer next = record {
-      counts = c.step-answer.ensures.counts;
-      answers = c.step-answer.ensures.answers;
+      counts = c.advance-answer.ensures.counts;
+      answers = c.advance-answer.ensures.answers;
       kept = c.is_no_memory.ensures.no c.if-is_no_memory.false;
     } in
     let had : before ≡ length (delivered_of w number) = c.len-before.ensures.value ∙ ap length c.delivered.ensures in
     let refused = sym c.is_err.ensures.value ∙ c.if-is_err.true in
     let a = acted (profile_in below) w event answer next number before c.mover-number.ensures had stepped (err_of c.catch_up.result c.catch_up.ensures.runs refused) (err_of c.catch_up.result c.catch_up.ensures.news refused) in
-    let fallen = fallen_is (profile_in below) w event answer c.step-answer.new.self.fallen a c.step-answer.ensures.falls in
+    let fallen = fallen_is (profile_in below) w event answer next number before c.advance-answer.new.self.fallen c.mover-number.ensures had (err_of c.catch_up.result c.catch_up.ensures.news refused) a c.advance-answer.ensures.falls in
     let keeps = with_items_is c.self.inside.replicas news (c.catch_up.ensures.count ∙ c.deref_mut.ensures.len) in
-    let counts = fell (profile_in below) w shown given news _ event c.step-answer.new.self.fallen c.fail.new.self.world number c.deref_mut.ensures.value c.mover-number.ensures fallen c.fail.ensures.fell (err_of c.catch_up.result c.catch_up.ensures.forgets refused) keeps in
+    let counts = fell (profile_in below) w shown given news _ event c.advance-answer.new.self.fallen c.fail.new.self.world number c.deref_mut.ensures.value c.mover-number.ensures fallen c.fail.ensures.fell (err_of c.catch_up.result c.catch_up.ensures.forgets refused) keeps in
     counts)
 
 pub returns-then-is_err-clause-answers : goal.returns-then-is_err-clause-answers
@@ -110,20 +110,20 @@ returns-then-is_err-clause-answers c = rw (← c.self.view_is) (
     let given = c.deref_mut.result.now in
     let news = c.catch_up.new.replicas in
     let event = c.args.event in
-    let answer = c.step-answer.result in
-    let next = c.step-answer.new.self.world in
+    let answer = c.advance-answer.result in
+    let next = c.advance-answer.new.self.world in
     let number = c.mover-number.result in
     let before = c.len-before.result in
     let stepped : IsStepped (profile_in below) w event answer next = record {
-      counts = c.step-answer.ensures.counts;
-      answers = c.step-answer.ensures.answers;
+      counts = c.advance-answer.ensures.counts;
+      answers = c.advance-answer.ensures.answers;
       kept = c.is_no_memory.ensures.no c.if-is_no_memory.false;
     } in
     let had : before ≡ length (delivered_of w number) = c.len-before.ensures.value ∙ ap length c.delivered.ensures in
     let refused = sym c.is_err.ensures.value ∙ c.if-is_err.true in
     let a = acted (profile_in below) w event answer next number before c.mover-number.ensures had stepped (err_of c.catch_up.result c.catch_up.ensures.runs refused) (err_of c.catch_up.result c.catch_up.ensures.news refused) in
-    let fallen = fallen_is (profile_in below) w event answer c.step-answer.new.self.fallen a c.step-answer.ensures.falls in
-    has_died (profile_in below) w event answer number c.mover-number.ensures c.step-answer.ensures.answers a)
+    let fallen = fallen_is (profile_in below) w event answer next number before c.advance-answer.new.self.fallen c.mover-number.ensures had (err_of c.catch_up.result c.catch_up.ensures.news refused) a c.advance-answer.ensures.falls in
+    has_died (profile_in below) w event answer number c.mover-number.ensures c.advance-answer.ensures.answers a)
 
 pub invariant_of-self-else-is_err : goal.invariant_of-self-else-is_err
 invariant_of-self-else-is_err c =
@@ -133,21 +133,21 @@ invariant_of-self-else-is_err c =
     let given = c.deref_mut.result.now in
     let news = c.catch_up.new.replicas in
     let event = c.args.event in
-    let answer = c.step-answer.result in
-    let next = c.step-answer.new.self.world in
+    let answer = c.advance-answer.result in
+    let next = c.advance-answer.new.self.world in
     let number = c.mover-number.result in
     let before = c.len-before.result in
     let stepped : IsStepped (profile_in below) w event answer next = record {
-      counts = c.step-answer.ensures.counts;
-      answers = c.step-answer.ensures.answers;
+      counts = c.advance-answer.ensures.counts;
+      answers = c.advance-answer.ensures.answers;
       kept = c.is_no_memory.ensures.no c.if-is_no_memory.false;
     } in
     let had : before ≡ length (delivered_of w number) = c.len-before.ensures.value ∙ ap length c.delivered.ensures in
     let keeps = with_items_is c.self.inside.replicas news (c.catch_up.ensures.count ∙ c.deref_mut.ensures.len) in
     let counts = went_on (profile_in below) w shown given news _ event answer next number before (of_world answer) c.deref_mut.ensures.value c.mover-number.ensures had stepped
     (ok_of c.catch_up.result c.catch_up.ensures.shown (sym c.is_err.ensures.value ∙ c.if-is_err.false)) keeps refl in
-    of_run below (below_by c.step-answer.new.self) shown _ (counted (events.World event) (of_world answer)) c.self.invariant (fit_counted (events.World event) (of_world answer) c.know_session.ensures)
-    c.step-answer.ensures.same.0 c.step-answer.ensures.same.1 counts
+    of_run below (below_by c.advance-answer.new.self) shown _ (counted (events.World event) (of_world answer)) c.self.invariant (fit_counted (events.World event) (of_world answer) c.know_session.ensures)
+    c.advance-answer.ensures.same.0 c.advance-answer.ensures.same.1 counts
 
 pub returns-clause-counts : goal.returns-clause-counts
 returns-clause-counts c = rw (← c.self.view_is) (
@@ -157,13 +157,13 @@ returns-clause-counts c = rw (← c.self.view_is) (
     let given = c.deref_mut.result.now in
     let news = c.catch_up.new.replicas in
     let event = c.args.event in
-    let answer = c.step-answer.result in
-    let next = c.step-answer.new.self.world in
+    let answer = c.advance-answer.result in
+    let next = c.advance-answer.new.self.world in
     let number = c.mover-number.result in
     let before = c.len-before.result in
     let stepped : IsStepped (profile_in below) w event answer next = record {
-      counts = c.step-answer.ensures.counts;
-      answers = c.step-answer.ensures.answers;
+      counts = c.advance-answer.ensures.counts;
+      answers = c.advance-answer.ensures.answers;
       kept = c.is_no_memory.ensures.no c.if-is_no_memory.false;
     } in
     let had : before ≡ length (delivered_of w number) = c.len-before.ensures.value ∙ ap length c.delivered.ensures in
@@ -178,4 +178,4 @@ returns-clause-answers c = rw (← c.self.view_is) (
     let w = below.world in
     let shown = c.self.inside.replicas.items in
     subst (λ (t : Told). IsAnswered (profile_in below) (ensemble w shown) (events.World c.args.event) t) (sym c.told.ensures)
-    (answered_on (profile_in below) w shown c.args.event c.step-answer.result c.step-answer.ensures.answers))
+    (answered_on (profile_in below) w shown c.args.event c.advance-answer.result c.advance-answer.ensures.answers))
