@@ -1,14 +1,9 @@
 ghost use Rattle.std.specs.Prelude.{◌≡◌, ◌<◌, IfOk, vec_len};
 
-use crossbeam_channel::{Receiver, Sender, TryRecvError};
+use crossbeam_channel::{Receiver, Sender};
 use std::alloc::Global;
 use std::sync::Wait;
-use std::thread;
 use zk_path::NoMemory;
-
-/// How often an inbox is looked into, and other threads are let run in between, before a thread sleeps until a number comes. To wake
-/// a thread takes longer than most numbers take to come while there is work.
-const LOOKS: u32 = 64;
 
 /// The end of a server's inbox that is read.
 #[derive(Drop)]
@@ -49,23 +44,12 @@ pub fn inboxes(alloc: Global, servers: usize) -> Result<Post, NoMemory>
     })
 }
 
-/// The message of a number; 0 ends an inbox.
-fn message_of(number: usize) -> Option<usize> {
-    if number == 0 { None } else { Some(number) }
-}
-
 impl Inbox {
     /// The next number: none where the inbox ends.
     pub fn next<R: Wait>(&self, rt: &R) -> Option<usize> {
-        for _ in 0..LOOKS {
-            match self.numbers.try_recv(rt) {
-                Ok(number) => return message_of(number),
-                Err(TryRecvError::Empty) => thread::yield_now(),
-                Err(TryRecvError::Disconnected) => return None,
-            }
-        }
         match self.numbers.recv(rt) {
-            Ok(number) => message_of(number),
+            Ok(0) => None,
+            Ok(message) => Some(message),
             Err(_) => None,
         }
     }
