@@ -1,7 +1,7 @@
 use zk_acl::Ids;
 use zk_front_lines::Wish;
 use zk_prepare::Request;
-use zk_table::ReadCall;
+use zk_txn::ReadCall;
 
 /// What a line asks of the service.
 #[derive(Debug, Drop)]

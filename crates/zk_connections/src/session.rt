@@ -10,8 +10,8 @@ use zk_acl::Id;
 use zk_front_lines::{Said, SaidInMulti, Wish, meaning_in_multi, meaning_of};
 use zk_path::NoMemory;
 use zk_prepare::{Part, Request};
-use zk_table::ReadCall;
-use zk_table::codes::BAD_ARGUMENTS;
+use zk_txn::ReadCall;
+use zk_txn::codes::BAD_ARGUMENTS;
 
 /// A session that a connection has opened.
 #[derive(Debug, Drop)]

@@ -12,8 +12,8 @@ use zk_acl::Ids;
 use zk_front_lines::{Said, Wish, meaning_of};
 use zk_path::NoMemory;
 use zk_prepare::Request;
-use zk_table::TxnResult;
-use zk_table::codes::{BAD_ARGUMENTS, SESSION_EXPIRED};
+use zk_txn::TxnResult;
+use zk_txn::codes::{BAD_ARGUMENTS, SESSION_EXPIRED};
 
 /// How a connection stands between two lines.
 ///

@@ -4,7 +4,7 @@ ghost use Rattle.zk_connections.specs.declared.told.ServiceFault.TheVariants as 
 use std::marker::Model;
 use zk_machine::Change;
 use zk_path::NoMemory;
-use zk_table::{ReadReply, TxnResult};
+use zk_txn::{ReadReply, TxnResult};
 
 /// What happened that a session waited for, in order, seen as its list.
 #[derive(Debug, Drop)]

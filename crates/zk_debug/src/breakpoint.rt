@@ -4,7 +4,7 @@ ghost use Rattle.zk_debug.specs.Breakpoints.{kind_of, names, is_removal, concern
 
 use zk_machine::{Applied, Change, ChangeKind};
 use zk_path::Path;
-use zk_table::{Op, Sub, Txn};
+use zk_txn::{Op, Sub, Txn};
 
 /// What a place of a log is looked for by. It is matched by the transaction that leads to the place.
 #[derive(Debug, Drop)]

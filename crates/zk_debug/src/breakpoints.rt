@@ -9,7 +9,7 @@ use std::alloc::Global;
 use std::marker::Model;
 use zk_machine::Applied;
 use zk_path::NoMemory;
-use zk_table::Txn;
+use zk_txn::Txn;
 
 /// Breakpoints by their numbers, which rise from 1 and are never used again.
 #[derive(Drop)]

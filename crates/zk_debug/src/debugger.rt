@@ -15,7 +15,7 @@ use std::marker::Model;
 use zk_log::Loaded;
 use zk_machine::Machine;
 use zk_path::{NoMemory, Path};
-use zk_table::{Node, Txn, TxnResult};
+use zk_txn::{Node, Txn, TxnResult};
 
 /// How many breakpoints can be set.
 const MOST_BREAKPOINTS: u32 = 65_535;

@@ -7,7 +7,7 @@ use std::marker::Model;
 use zk_log::Txns;
 use zk_machine::{Applied, Machine};
 use zk_path::NoMemory;
-use zk_table::Txn;
+use zk_txn::Txn;
 
 /// A log, a place in it, and a machine that stands there. What each step answered, what it changed and how it is taken
 /// back is kept, so that a step back costs what the step cost.

@@ -13,10 +13,10 @@ use crate::turn::{Turn, turn_of};
 use std::sync::Wait;
 use std::sync::ledger::Ledger;
 use std::time;
-use zk_ensemble::{Event, Mark, Outcome};
 use zk_front_asks::{HOME, Sought, caught_by, event_of, service_fault_of, session_of, sought_by};
 use zk_prepare::clamp;
-use zk_runs::Answered;
+use zk_runs::{Answered, Event};
+use zk_servers::{Mark, Outcome};
 use zk_serving::{Ask, Events, Reply, ServiceFault, Told};
 
 /// What asks: the calls, the sessions that are kept, and how far the server's answers and syncs were looked at.

@@ -5,11 +5,12 @@ ghost use Rattle.zk_front.specs.Calling.{CallsOne, IsGiven};
 ghost use Rattle.zk_front.specs.Remotes.{TellsIn, TellsLast};
 ghost use Rattle.zk_servers.specs.Turns.{numbers_of, numbers_told};
 
+use std::alloc::Global;
 use std::marker::Model;
 use std::sync::Wait;
 use std::sync::ledger::Ledger;
-use zk_ensemble::{Answer, EnsembleFault, Event};
 use zk_front_asks::{looked_by, service_fault_of};
+use zk_runs::{Answer, EnsembleFault, Event};
 use zk_servers::{CallFault, Receipt, Seat, Senders, Shared, send_on};
 use zk_serving::{Reply, ServiceFault};
 
@@ -17,6 +18,7 @@ use zk_serving::{Reply, ServiceFault};
 #[derive(Drop)]
 pub(crate) struct Caller<'s, L: Ledger, R: Wait> {
     pub rt: &'s R,
+    pub alloc: Global,
     pub shared: &'s Shared<L>,
     pub senders: Senders,
     pub seat: Seat<L>,
@@ -70,21 +72,26 @@ impl<L: Ledger, R: Wait> Caller<'_, L, R> {
     }
 
     /// Makes an event happen, and sends the numbers of its messages to their addressees.
+    #[tactic(auto, using(crate::proofs::Calling::kept_call))]
     pub(crate) fn make(&mut self, event: Event) -> Result<(), ServiceFault>
         requires given { IsGiven self.old.tag event }
         ensures called { OnOk result (CallsOne self.old event self.new) }
         ensures tag { self.new.tag ≡ self.old.tag }
         ensures refused { OnErr result (self.new ≡ self.old) }
     {
-        self.call(event)?;
-        self.send_on();
-        Ok(())
-    }
-
-    /// Sends the numbers of the messages of the last call to their addressees.
-    fn send_on(&self) {
-        if let Some(receipt) = self.receipts.last() {
-            send_on(self.rt, self.shared, &self.senders, receipt);
+        if self.receipts.reserve(1).is_err() {
+            return Err(ServiceFault::Memory);
+        }
+        match self
+            .shared
+            .call_routed(self.rt, self.alloc, &mut self.seat, event)
+        {
+            Ok(routed) => {
+                self.receipts
+                    .push_reserved(send_on(self.rt, &self.senders, routed));
+                Ok(())
+            }
+            Err(fault) => Err(fault_of_call(fault)),
         }
     }
 

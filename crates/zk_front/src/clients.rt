@@ -2,9 +2,9 @@
 
 use std::alloc::Global;
 use std::collections::BTreeMap;
-use zk_ensemble::Mark;
 use zk_path::NoMemory;
 use zk_prepare::Tracker;
+use zk_servers::Mark;
 
 /// The sessions that are kept, by their timeouts, and how many of the server's events each was told of.
 #[derive(Drop)]

@@ -18,4 +18,5 @@ pub use zk_front_asks::{
     sought_by,
 };
 pub use zk_front_local::Local;
+pub use zk_servers as servers;
 pub use zk_serving::{Ask, Events, FrontFault, Reply, Service, ServiceFault, Told, serve_lines};

@@ -10,8 +10,8 @@ use crate::caller::{Caller, sent_by};
 use std::sync::Wait;
 use std::sync::ledger::Ledger;
 use zab_runs::Event as WorldEvent;
-use zk_ensemble::{EnsembleFault, Event};
 use zk_front_asks::{HOME, service_fault_of};
+use zk_runs::{EnsembleFault, Event};
 use zk_serving::ServiceFault;
 
 /// How many messages arrive at most until the servers are ready.

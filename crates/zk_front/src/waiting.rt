@@ -5,8 +5,8 @@ use std::sync::Wait;
 use std::sync::ledger::Ledger;
 use std::time::Duration;
 use std::{thread, time};
-use zk_ensemble::{Mark, Outcome};
 use zk_front_asks::{HOME, Sought};
+use zk_servers::{Mark, Outcome};
 use zk_serving::ServiceFault;
 
 /// How often it is looked whether something has happened.
@@ -19,8 +19,8 @@ const YIELDS: u32 = 256;
 const PAUSE: u64 = 50;
 
 impl<L: Ledger, R: Wait + time::Clock> Caller<'_, L, R> {
-    /// What has come of an ask, and of the session's events, once it is there. The lock is taken only where something has happened since
-    /// it was taken last.
+    /// What has come of an ask, and of the session's events, once it is there. The lock is taken only where something has happened at
+    /// the server since it was taken last.
     pub(crate) fn wait_for(
         &self,
         sought: Sought,
@@ -31,7 +31,7 @@ impl<L: Ledger, R: Wait + time::Clock> Caller<'_, L, R> {
         let mut from = from;
         let mut seen = None;
         for looks in 0..MOST_LOOKS {
-            let called = Some(self.shared.called());
+            let called = Some(self.shared.called(HOME));
             if called != seen {
                 let outcome = self.shared.outcome(self.rt, HOME, tag, session, from)?;
                 if is_found(sought, &outcome) {

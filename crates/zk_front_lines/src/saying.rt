@@ -11,7 +11,7 @@ use zk_listing::ListCause;
 use zk_path::{NoMemory, Path};
 use zk_prepare::{Part, Request};
 use zk_request_lines::Lookup;
-use zk_table::ReadCall;
+use zk_txn::ReadCall;
 
 /// What a line says outside a multi.
 #[derive(Debug, Drop)]

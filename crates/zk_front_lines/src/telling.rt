@@ -14,7 +14,7 @@ use zk_machine::ChangeKind;
 use zk_path::{NoMemory, Path};
 use zk_prepare::clamp;
 use zk_request_lines::{push_refusal, push_reply};
-use zk_table::{PartResult, ReadReply, TxnResult};
+use zk_txn::{PartResult, ReadReply, TxnResult};
 
 /// Appends what happened, and where: `event KIND PATH`.
 pub fn push_event(page: &mut String, kind: ChangeKind, path: &Path) -> Result<(), NoMemory>

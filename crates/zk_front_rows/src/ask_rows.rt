@@ -4,13 +4,13 @@ use crate::session_rows::path_of;
 use std::alloc::Global;
 use std::test::Fail;
 use zk_acl::Ids;
-use zk_ensemble::{Answer, EnsembleFault, Event};
 use zk_front_asks::{
     HOME, Sought, caught_by, event_of, looked_by, next_tag, service_fault_of, session_of, sought_by,
 };
 use zk_front_local::{Ask, Reply, ServiceFault};
 use zk_path::Path;
 use zk_prepare::Request;
+use zk_runs::{Answer, EnsembleFault, Event};
 use zk_table::{ReadCall, ReadReply};
 
 fn closing(alloc: Global) -> Ask {

@@ -1,14 +1,24 @@
 ghost use Rattle.std.specs.Prelude.{◌≡◌, ◌<◌, IfOk, vec_len};
 
+use crate::pausing::pause;
 use crossbeam_channel::{Receiver, Sender};
 use std::alloc::Global;
 use std::sync::Wait;
 use zk_path::NoMemory;
 
+/// How often at most an inbox is looked into before its thread sleeps until a number comes: for some hundred microseconds. To put a
+/// thread to sleep and wake it takes about half as long.
+const MOST_LOOKS: u32 = 256;
+
+/// How often at least.
+const FEWEST_LOOKS: u32 = 4;
+
 /// The end of a server's inbox that is read.
 #[derive(Drop)]
 pub struct Inbox {
     numbers: Receiver<usize>,
+    /// How often it is looked into before its thread sleeps.
+    looks: u32,
 }
 
 /// The ends that are written, a server's each.
@@ -36,7 +46,10 @@ pub fn inboxes(alloc: Global, servers: usize) -> Result<Post, NoMemory>
             return Err(NoMemory);
         };
         ends.push_reserved(end);
-        inboxes.push_reserved(Inbox { numbers });
+        inboxes.push_reserved(Inbox {
+            numbers,
+            looks: FEWEST_LOOKS,
+        });
     }
     Ok(Post {
         inboxes,
@@ -46,12 +59,26 @@ pub fn inboxes(alloc: Global, servers: usize) -> Result<Post, NoMemory>
 
 impl Inbox {
     /// The next number: none where the inbox ends.
-    pub fn next<R: Wait>(&self, rt: &R) -> Option<usize> {
+    pub fn next<R: Wait>(&mut self, rt: &R) -> Option<usize> {
+        self.look();
         match self.numbers.recv(rt) {
             Ok(0) => None,
             Ok(message) => Some(message),
             Err(_) => None,
         }
+    }
+
+    /// Looks whether a number comes: the next time twice as often where one came, and half as often where none did. So while numbers
+    /// come one soon after the other the thread does not sleep, and where they don't, or no processor is free, it hardly looks.
+    fn look(&mut self) {
+        for _ in 0..self.looks {
+            if !self.numbers.is_empty() {
+                self.looks = self.looks.saturating_mul(2).min(MOST_LOOKS);
+                return;
+            }
+            pause();
+        }
+        self.looks = (self.looks / 2).max(FEWEST_LOOKS);
     }
 }
 

@@ -4,5 +4,7 @@
 #![tactic(auto)]
 
 mod inbox;
+mod pausing;
 
 pub use inbox::{Inbox, Post, Senders, inboxes};
+pub use pausing::pause;

@@ -3,12 +3,12 @@
 ghost use Rattle.std.specs.Int.{w32, w64};
 ghost use Rattle.zk_jute.specs.Reading.{Takes, TakesBy, number_at, bytes_at, count_at, counted_at, text_at, path_at, content_at, boolean_at};
 
-use crate::fault::JuteFault;
 use bytes::Buf;
+use crate::fault::JuteFault;
 use std::alloc::Global;
 use zk_acl::Text;
 use zk_path::Path;
-use zk_table::Content;
+use zk_txn::Content;
 
 /// Four bytes, in two's complement.
 pub fn int(input: &mut &[u8]) -> Result<i32, JuteFault>

@@ -8,7 +8,7 @@ use crate::fields::{count, counted, int, path};
 use crate::kinds;
 use std::alloc::Global;
 use zk_acl::Acls;
-use zk_table::{Sub, Subs};
+use zk_txn::{Sub, Subs};
 
 /// What a part does.
 #[derive(Clone, Copy, Debug)]

@@ -10,7 +10,7 @@ use crate::kinds;
 use crate::multis::parts;
 use std::alloc::Global;
 use zk_acl::Acls;
-use zk_table::Op;
+use zk_txn::Op;
 
 /// `SetACLTxn`.
 #[tactic(auto, unfolding(crate::specs::Reading::set_acl_at))]

@@ -11,7 +11,7 @@ use crate::fields::id;
 use crate::ops::operation;
 use crate::parts::{space, spaced_id, spaced_int, spaced_long};
 use std::alloc::Global;
-use zk_table::Txn;
+use zk_txn::Txn;
 
 /// The transactions whose listing this text is, one a line.
 ///

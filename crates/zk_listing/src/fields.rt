@@ -9,7 +9,7 @@ ghost use Rattle.std.specs.Char.{is_ascii_uppercase};
 use crate::fault::ListCause;
 use hex::FromHexError;
 use std::alloc::Global;
-use zk_table::Content;
+use zk_txn::Content;
 
 /// The field in front, up to the next space, the end of the line or the end of the input, and none where it is empty.
 pub(crate) fn take_field<'a>(input: &mut &'a str) -> Option<&'a str>

@@ -17,7 +17,7 @@ use crate::quoting::quoted;
 use std::alloc::Global;
 use zk_acl::Acls;
 use zk_path::Path;
-use zk_table::Content;
+use zk_txn::Content;
 
 /// Moves the input on, unless the field was refused.
 fn move_on<'a, T>(

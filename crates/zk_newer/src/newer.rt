@@ -6,7 +6,7 @@ ghost use Rattle.zk_newer.specs.Newer.{listed_of};
 use crate::parts::PartForms;
 use std::marker::Model;
 use zk_path::Path;
-use zk_table::Txn;
+use zk_txn::Txn;
 
 /// The paths that the end of a session lists, seen as the list.
 #[derive(Debug, Drop)]

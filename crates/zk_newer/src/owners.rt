@@ -9,7 +9,7 @@ use crate::newer::{Form, Newer};
 use crate::parts::PartForm;
 use std::alloc::Global;
 use zk_path::{NoMemory, Path};
-use zk_table::{Op, Sub};
+use zk_txn::{Op, Sub};
 
 impl Newer {
     /// The containers and the nodes with a time to live that the record makes, whether or not the table makes them, each

@@ -7,7 +7,7 @@ ghost use Rattle.zk_newer.specs.Newer.{is_kept};
 
 use crate::changes::{CONTAINER_OWNER, Change, ttl_owner};
 use std::marker::Model;
-use zk_table::Sub;
+use zk_txn::Sub;
 
 /// How a part of a multi was written.
 #[derive(Clone, Copy, Debug, PartialEq, Eq)]

@@ -14,7 +14,7 @@ use crate::operations::written;
 use std::alloc::Global;
 use zk_acl::Acls;
 use zk_jute::{JuteFault, txn_header};
-use zk_table::Txn;
+use zk_txn::Txn;
 
 /// The record that these bytes spell, whether or not a failed multi tells why it failed.
 #[tactic(auto, unfolding(crate::specs::Reading::spelled_at))]

@@ -3,9 +3,9 @@
 use crate::seen::Seen;
 use std::alloc::Global;
 use zk_acl::{Acl, Acls, Id, Ids, Text};
-use zk_ensemble::{EnsembleFault, Event, Question};
 use zk_path::{NoMemory, Path};
 use zk_prepare::{Call, Request};
+use zk_runs::{EnsembleFault, Event, Question};
 use zk_servers::{CallFault, Chronicle, Receipt};
 use zk_table::ReadCall;
 

@@ -9,8 +9,8 @@ use std::marker::Brand;
 use std::sync::Wait;
 use std::sync::ledger::{Blank, Ledger};
 use std::thread::Threads;
-use zk_ensemble::Event;
 use zk_path::NoMemory;
+use zk_runs::Event;
 use zk_servers::{
     CloseFault, Gate, Receipt, Run, Seat, Shared, Started, Unclosed, inboxes, run_servers,
 };

@@ -3,8 +3,8 @@
 use crate::events::{FIRST, Happening, answer_line, event_of, question};
 use std::alloc::Global;
 use std::test::Fail;
-use zk_ensemble::{Ensemble, Event};
 use zk_path::NoMemory;
+use zk_servers::{Ensemble, Event};
 
 /// A session is opened by two of three servers. Each event with the server that it is about, and with that server's last
 /// transaction after it.

@@ -3,9 +3,9 @@
 use std::alloc::Global;
 use std::test::Fail;
 use zk_acl::Ids;
-use zk_ensemble::{Answer, EnsembleFault, Event, Question};
 use zk_path::{NoMemory, Path};
 use zk_prepare::{Call, Request};
+use zk_runs::{Answer, EnsembleFault, Event, Question};
 use zk_table::ReadCall;
 
 /// The session that the first call of the first epoch opens, by its own transaction.

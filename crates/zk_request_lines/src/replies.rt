@@ -8,7 +8,7 @@ ghost use Rattle.zk_request_lines.specs.ReplyLines.{refusal_text, reply_text, na
 use zk_acl::{Stat, Text};
 use zk_listing::{push_acl, push_content, push_quoted, push_stat};
 use zk_path::NoMemory;
-use zk_table::ReadReply;
+use zk_txn::ReadReply;
 
 /// Appends a refusal by its code.
 pub fn push_refusal(line: &mut String, code: i32) -> Result<(), NoMemory>

@@ -17,4 +17,5 @@ pub use reading::read_command;
 pub use reports::{push_answers, push_counted_tree, push_events, push_listing, push_syncs};
 pub use script::run_script;
 pub use told::push_told;
+pub use zk_ensemble::Ensemble;
 pub use zk_reports::ScriptFault;

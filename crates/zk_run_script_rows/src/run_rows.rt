@@ -2,10 +2,9 @@
 use std::alloc::Global;
 use std::test::Fail;
 use zab_epoch::Quorums;
-use zk_ensemble::Ensemble;
 use zk_first_line::read_servers;
 use zk_listing::ListCause;
-use zk_run_script::{Command, ScriptFault, read_command, run_command, run_script};
+use zk_run_script::{Command, Ensemble, ScriptFault, read_command, run_command, run_script};
 
 /// Lines that each say a command, and what they are answered in turn by two new servers.
 static COMMANDS: [(&str, &str); 30] = [

@@ -1,5 +1,5 @@
 use zab_runs::Moved;
-use zk_table::{ReadReply, TxnResult};
+use zk_txn::{ReadReply, TxnResult};
 
 /// What an event is answered that is not refused.
 #[derive(Debug, Drop)]

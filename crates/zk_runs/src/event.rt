@@ -1,6 +1,6 @@
 use zk_acl::Ids;
 use zk_prepare::Call;
-use zk_table::ReadCall;
+use zk_txn::ReadCall;
 
 /// A read that a client asks of a server. Servers are numbered from 1.
 #[derive(Debug, Drop)]

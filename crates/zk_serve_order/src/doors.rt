@@ -3,7 +3,7 @@
 use std::sync::Wait;
 use std::sync::atomic::{AtomicBool, AtomicUsize, Ordering};
 use std::thread;
-use zk_servers::Gate;
+use zk_front::servers::Gate;
 
 /// Lets each server pass, and knows how many have passed.
 #[derive(Drop)]

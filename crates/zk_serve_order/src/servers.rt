@@ -10,12 +10,12 @@ use std::sync::Wait;
 use std::sync::ledger::{Blank, Ledger};
 use std::thread::Threads;
 use std::{thread, time};
-use zk_ensemble::Event;
+use zk_front::servers::{
+    CloseFault, Event, Post, Receipt, Run, Seat, Senders, Shared, Started, Unclosed, inboxes,
+    run_servers,
+};
 use zk_front::{Clock, Remote, ServiceFault, Unstarted};
 use zk_path::NoMemory;
-use zk_servers::{
-    CloseFault, Post, Receipt, Run, Seat, Senders, Shared, Started, Unclosed, inboxes, run_servers,
-};
 
 /// What the threads hand back.
 #[derive(Drop)]
@@ -65,13 +65,10 @@ fn serve_over<L: Ledger + Send + Sync, R: Threads + Wait + time::Clock + Sync, C
     requires enough { blank.parts ≡ servers + 2 }
     requires servers { (2 ≤ servers) × (servers ≤ 15) }
 {
-    let Started {
-        shared,
-        mut seats,
-        readers,
-    } = Shared::<L>::start(rt, alloc, blank, servers, servers + 1, 1)?;
     // Nobody reads past the lock.
-    drop(readers);
+    let Started {
+        shared, mut seats, ..
+    } = Shared::<L>::start(rt, alloc, blank, servers, servers + 1, 0)?;
     let Some(seat) = seats.pop() else {
         unreachable!()
     };

@@ -5,7 +5,7 @@ use std::alloc::Global;
 use std::mem::ManuallyDrop;
 use std::sync::Wait;
 use zk_path::NoMemory;
-use zk_table::Txn;
+use zk_txn::Txn;
 use zk_views::{Publisher, Reader};
 
 /// The view of a server, and whether it is late: whether memory was refused to the last try to publish.
@@ -67,8 +67,44 @@ pub(crate) struct Viewed {
     pub(crate) readers: Vec<Vec<Reader>>,
 }
 
-/// So many views, each with so many readers.
+/// So many views, each with so many readers; no views where there are no readers.
 pub(crate) fn views_of<R: Wait>(
+    rt: &R,
+    alloc: Global,
+    count: usize,
+    readers: usize,
+) -> Result<Viewed, NoMemory>
+    requires { readers < 2 ^ 32 }
+    ensures views { IfOk result (λ it. All IsUnpublished it.views.items) }
+    ensures long { IfOk result (λ it. length it.readers.items ≡ count) }
+    ensures readers { IfOk result (λ it. All (AreOfOneView readers) (map (λ list. list.items) it.readers.items)) }
+{
+    if readers == 0 {
+        unread_views(alloc, count)
+    } else {
+        read_views(rt, alloc, count, readers)
+    }
+}
+
+/// No views, and for each of so many servers no readers.
+fn unread_views(alloc: Global, count: usize) -> Result<Viewed, NoMemory>
+    ensures views { IfOk result (λ it. All IsUnpublished it.views.items) }
+    ensures long { IfOk result (λ it. length it.readers.items ≡ count) }
+    ensures readers { IfOk result (λ it. All (AreOfOneView 0) (map (λ list. list.items) it.readers.items)) }
+{
+    let mut readers = Vec::new(alloc);
+    readers.reserve(count)?;
+    for _ in 0..count {
+        readers.push_reserved(Vec::new(alloc));
+    }
+    Ok(Viewed {
+        views: Vec::new(alloc),
+        readers,
+    })
+}
+
+/// So many views, each with so many readers.
+fn read_views<R: Wait>(
     rt: &R,
     alloc: Global,
     count: usize,

@@ -2,14 +2,14 @@ ghost use Rattle.std.specs.Prelude.{◌≡◌, ◌++◌, ◌∷◌, [], true, fa
 ghost use Rattle.zk_servers.specs.Calls.{made};
 ghost use Rattle.zk_servers.specs.Turns.{DidTurns};
 
+use crate::board::sent_by;
 use crate::record::Receipt;
 use crate::seat::Seat;
-use crate::shared::Shared;
+use crate::shared::{Routed, Shared};
 use std::alloc::Global;
 use std::sync::Wait;
 use std::sync::ledger::Ledger;
-use zab_runs::Moved;
-use zk_ensemble::{Answer, Event};
+use zk_ensemble::Event;
 use zk_inboxes::{Inbox, Senders};
 
 /// What each thread passes before each of its turns.
@@ -53,6 +53,7 @@ pub(crate) fn serve<L: Ledger, G: Gate, R: Wait>(
         jobs,
     } = worker;
     let mut seat = seat;
+    let mut inbox = inbox;
     let mut jobs = jobs;
     jobs.truncate(turns as usize);
     let first = jobs.len() as u32;
@@ -62,7 +63,7 @@ pub(crate) fn serve<L: Ledger, G: Gate, R: Wait>(
     for job in jobs {
         gate.enter(server, turn);
         turn += 1;
-        if !call_once(rt, shared, senders, &mut seat, &mut receipts, job) {
+        if !call_once(rt, alloc, shared, senders, &mut seat, &mut receipts, job) {
             passed += 1;
         }
     }
@@ -73,6 +74,7 @@ pub(crate) fn serve<L: Ledger, G: Gate, R: Wait>(
         };
         call_once(
             rt,
+            alloc,
             shared,
             senders,
             &mut seat,
@@ -90,6 +92,7 @@ pub(crate) fn serve<L: Ledger, G: Gate, R: Wait>(
 /// One call, whose new messages go to their addressees. Whether it was made.
 fn call_once<L: Ledger, R: Wait>(
     rt: &R,
+    alloc: Global,
     shared: &Shared<L>,
     senders: &Senders,
     seat: &mut Seat<L>,
@@ -102,34 +105,25 @@ fn call_once<L: Ledger, R: Wait>(
     if receipts.reserve(1).is_err() {
         return false;
     }
-    let Ok(receipt) = shared.call(rt, seat, event) else {
+    let Ok(routed) = shared.call_routed(rt, alloc, seat, event) else {
         return false;
     };
-    send_on(rt, shared, senders, &receipt);
-    receipts.push_reserved(receipt);
+    receipts.push_reserved(send_on(rt, senders, routed));
     true
 }
 
 /// The numbers of the messages that an event sent go to their addressees; one that can't be sent is lost.
-pub fn send_on<L: Ledger, R: Wait>(
-    rt: &R,
-    shared: &Shared<L>,
-    senders: &Senders,
-    receipt: &Receipt,
-) {
-    let sent = sent_by(receipt);
-    for more in 0..sent.count {
-        let Some(message) = sent.first.checked_add(more) else {
-            return;
-        };
-        senders.send(rt, shared.addressee(rt, message), message);
+pub fn send_on<R: Wait>(rt: &R, senders: &Senders, routed: Routed) -> Receipt
+    ensures { result ≡ routed.receipt }
+{
+    let Routed {
+        receipt,
+        addressees,
+    } = routed;
+    let mut message = sent_by(&receipt).first;
+    for addressee in addressees {
+        senders.send(rt, addressee, message);
+        message = message.wrapping_add(1);
     }
-}
-
-/// The messages that an event sent.
-fn sent_by(receipt: &Receipt) -> Moved {
-    match &receipt.answer {
-        Ok(Answer::Moved(moved)) => *moved,
-        _ => Moved { first: 0, count: 0 },
-    }
+    receipt
 }

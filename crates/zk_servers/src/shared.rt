@@ -12,19 +12,36 @@ use crate::kept::{Viewed, views_of};
 use crate::record::Receipt;
 use crate::seat::Seat;
 use std::alloc::Global;
+use std::array;
 use std::sync::atomic::{AtomicU64, Ordering};
 use std::sync::ledger::{Blank, Ledger, Share};
-use std::sync::{Mutex, Wait};
+use std::sync::{Mutex, MutexGuard, Wait};
 use zk_ensemble::{Event, Mark, Outcome};
+use zk_inboxes::pause;
 use zk_path::NoMemory;
 use zk_views::Reader;
+
+/// How often a thread tries the lock before it sleeps until it is free: for some ten microseconds. An event takes a few, and to put a
+/// thread to sleep and wake it takes about fifty.
+const TRIES: u32 = 32;
+
+/// A counter for each server, and one for the number 0, which is no server's.
+const COUNTERS: usize = 16;
 
 /// A chronicle that threads share, and a view of each server, which readers enter without the lock.
 #[derive(Drop)]
 pub struct Shared<L: Ledger> {
     board: Mutex<Board<L>>,
-    /// How many calls were made, in 64 bits that wrap.
-    called: AtomicU64,
+    /// How many calls were made about each server, in 64 bits that wrap.
+    called: [AtomicU64; COUNTERS],
+}
+
+/// What a call is told, and whom the messages of its event are for.
+#[derive(Drop)]
+pub struct Routed {
+    pub receipt: Receipt,
+    /// A server for each message, from the first that the receipt tells on; fewer where memory was refused.
+    pub addressees: Vec<usize>,
 }
 
 /// What begins with a new ensemble.
@@ -48,7 +65,8 @@ pub struct Unclosed<L: Ledger> {
 
 impl<L: Ledger> Shared<L> {
     /// An ensemble of so many servers in which nothing has happened, seats that have not called, and for each server so many readers
-    /// of its view, in which nothing is published. [`NoMemory`] also where a view can't give so many.
+    /// of its view, in which nothing is published. Where nobody is to read there are no views. [`NoMemory`] also where a view can't
+    /// give so many readers.
     pub fn start<R: Wait>(
         rt: &R,
         alloc: Global,
@@ -61,7 +79,7 @@ impl<L: Ledger> Shared<L> {
         requires parts { blank.parts ≡ L.parts }
         requires enough { blank.parts ≡ seats + 1 }
         requires many { (0 < seats) × (seats < 2 ^ 32) }
-        requires few { (0 < readers) × (readers < 2 ^ 32) }
+        requires few { readers < 2 ^ 32 }
         ensures seats { IfOk result (λ started. started.seats.items ≡ replicate seats []) }
         ensures views { IfOk result (λ started. length started.readers.items ≡ servers) }
         ensures readers { IfOk result (λ started. All (AreOfOneView readers) (map (λ list. list.items) started.readers.items)) }
@@ -82,7 +100,25 @@ impl<L: Ledger> Shared<L> {
     pub fn over(board: Board<L>) -> Shared<L> {
         Shared {
             board: Mutex::new(board),
-            called: AtomicU64::new(0),
+            called: array::from_fn(|_| AtomicU64::new(0)),
+        }
+    }
+
+    /// What lies under the lock, once no other thread holds it.
+    fn held<R: Wait>(&self, rt: &R) -> MutexGuard<'_, Board<L>> {
+        for _ in 0..TRIES {
+            if let Some(board) = self.board.try_lock() {
+                return board;
+            }
+            pause();
+        }
+        self.board.lock(rt)
+    }
+
+    /// A call about a server was made.
+    fn count(&self, server: usize) {
+        if let Some(calls) = self.called.get(server) {
+            calls.fetch_add(1, Ordering::SeqCst);
         }
     }
 
@@ -96,15 +132,44 @@ impl<L: Ledger> Shared<L> {
         ensures seated { IfOk result (λ receipt. seat.new ≡ seat.old ++ made receipt.number event ∷ []) }
         ensures refused { OnErr result (seat.new ≡ seat.old) }
     {
-        let told = self.board.lock(rt).add(rt, seat, event);
-        self.called.fetch_add(1, Ordering::SeqCst);
+        let mut board = self.held(rt);
+        let server = board.server_of(&event);
+        let told = board.add(rt, seat, event);
+        drop(board);
+        self.count(server);
         told
     }
 
-    /// A number that changes with each call, once its event has happened: who waits for an outcome looks here first, and asks under the
-    /// lock only where it has changed.
-    pub fn called(&self) -> u64 {
-        self.called.load(Ordering::SeqCst)
+    /// The same, and whom the messages of the event are for, under one lock.
+    pub fn call_routed<R: Wait>(
+        &self,
+        rt: &R,
+        alloc: Global,
+        seat: &mut Seat<L>,
+        event: Event,
+    ) -> Result<Routed, CallFault>
+        ensures seated { IfOk result (λ routed. seat.new ≡ seat.old ++ made routed.receipt.number event ∷ []) }
+        ensures refused { OnErr result (seat.new ≡ seat.old) }
+    {
+        let mut board = self.held(rt);
+        let server = board.server_of(&event);
+        let receipt = board.add(rt, seat, event)?;
+        let addressees = board.addressees(alloc, &receipt);
+        drop(board);
+        self.count(server);
+        Ok(Routed {
+            receipt,
+            addressees,
+        })
+    }
+
+    /// A number that changes with each call about a server, once its event has happened; 0 where there is none of that number. Who waits
+    /// for an outcome looks here first, and asks under the lock only where it has changed.
+    pub fn called(&self, server: usize) -> u64 {
+        match self.called.get(server) {
+            Some(calls) => calls.load(Ordering::SeqCst),
+            None => 0,
+        }
     }
 
     /// What has come of a call or a sync with this tag at a server, and a session's events there, of all behind the mark. It is what
@@ -117,13 +182,7 @@ impl<L: Ledger> Shared<L> {
         session: i64,
         from: Mark,
     ) -> Result<Outcome, NoMemory> {
-        self.board.lock(rt).outcome(number, tag, session, from)
-    }
-
-    /// The server that a message is for; 0 where no message has the number.
-    pub(crate) fn addressee<R: Wait>(&self, rt: &R, message: usize) -> usize {
-        let arrival = Event::World(zab_runs::Event::Arrive { message });
-        self.board.lock(rt).server_of(&arrival)
+        self.held(rt).outcome(number, tag, session, from)
     }
 
     /// Ends the sharing: the chronicle is handed out exactly where each of its events was called by one of these seats and is told by

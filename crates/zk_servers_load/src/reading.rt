@@ -9,8 +9,8 @@ use std::sync::Wait;
 use std::sync::atomic::{AtomicUsize, Ordering};
 use std::sync::ledger::{Blank, Ledger};
 use std::thread::{Threads, join, map_vec};
-use zk_ensemble::Event;
 use zk_path::{NoMemory, Path};
+use zk_servers::Event;
 use zk_servers::{Pass, Reader, Seat, Shared, Started};
 use zk_table::ReadCall;
 

@@ -2,9 +2,9 @@
 
 use std::alloc::Global;
 use zk_acl::{Acl, Acls, Id, Ids, Text};
-use zk_ensemble::Event;
 use zk_path::{NoMemory, Path};
 use zk_prepare::{Call, Request};
+use zk_servers::Event;
 use zk_table::{Content, Op, Txn};
 
 /// The session that the first call opens, as its transaction is the first one of the first epoch.

@@ -9,8 +9,8 @@ use std::marker::Brand;
 use std::sync::Wait;
 use std::sync::ledger::{Blank, Ledger};
 use std::thread::Threads;
-use zk_ensemble::{Answer, Event};
 use zk_path::NoMemory;
+use zk_runs::{Answer, Event};
 use zk_servers::{
     Chronicle, CloseFault, Receipt, Run, Seat, Shared, Started, Unclosed, inboxes, run_servers,
 };

@@ -2,9 +2,9 @@
 
 use std::alloc::Global;
 use zk_acl::{Acl, Acls, Id, Ids, Text};
-use zk_ensemble::Event;
 use zk_path::NoMemory;
 use zk_prepare::{Call, Request};
+use zk_runs::Event;
 
 /// The session that the first call of the first epoch opens, by its own transaction.
 pub const FIRST: i64 = 0x1_0000_0001;

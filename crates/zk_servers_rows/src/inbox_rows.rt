@@ -9,8 +9,8 @@ use std::marker::Brand;
 use std::sync::Wait;
 use std::sync::ledger::{Blank, Ledger};
 use std::thread::Threads;
-use zk_ensemble::{EnsembleFault, Event};
 use zk_path::NoMemory;
+use zk_runs::{EnsembleFault, Event};
 use zk_servers::{Inbox, Post, Run, Seat, Shared, Started, inboxes, run_servers};
 
 /// What servers were answered.

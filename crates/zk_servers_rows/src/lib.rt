@@ -10,3 +10,4 @@ mod gate;
 mod inbox_rows;
 mod outcome_rows;
 mod reader_rows;
+mod route_rows;

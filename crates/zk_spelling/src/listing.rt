@@ -8,7 +8,7 @@ use crate::spelling::{LINE, push_id, spell_acl, spell_content, spell_next_id, sp
 use std::alloc::Global;
 use zk_acl::Acls;
 use zk_path::{NoMemory, Path};
-use zk_table::{Content, Op, Sub, Txn};
+use zk_txn::{Content, Op, Sub, Txn};
 
 /// The listing of these transactions: one line for each. `assemble` of `zk_listing` gives them back, unless an access
 /// control list has more entries than a line can count.

@@ -11,7 +11,7 @@ ghost use Rattle.zk_spelling.specs.Spelling.{sixteen_digits, id_digits, is_escap
 use std::str;
 use zk_acl::{Acl, Acls, Stat};
 use zk_path::NoMemory;
-use zk_table::Content;
+use zk_txn::Content;
 
 /// The room that is made for a line before it is spelled, in bytes. Most lines fit, and need no growth.
 pub(crate) const LINE: usize = 1024;

@@ -1,6 +1,6 @@
 use Rattle.std.proofs.Common.{◌≡◌, ◌≤◌, All, length, map}
 use Rattle.zk_servers.specs.Keeping.{IsUnpublished, AreOfOneView}
-use Rattle.zk_servers.proofs.kept.views_of.Given as goal
+use Rattle.zk_servers.proofs.kept.read_views.Given as goal
 
 abbrev pub invariant-loop : goal.invariant-loop
 invariant-loop g l =

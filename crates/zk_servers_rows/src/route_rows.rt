@@ -1,0 +1,101 @@
+//! Whom the messages of events are for, and which server each call was about, of servers that nobody reads past the lock.
+
+ghost use Rattle.std.specs.Prelude.{◌≡◌};
+
+use crate::events::{Happening, event_of};
+use std::alloc::Global;
+use std::marker::Brand;
+use std::sync::Wait;
+use std::sync::ledger::{Blank, Ledger};
+use std::test::Fail;
+use zk_path::NoMemory;
+use zk_servers::{Routed, Seat, Shared, Started};
+
+/// The first server comes to lead the second, and a session is opened.
+const BEGINNING: [Happening; 8] = [
+    Happening::Lead(1),
+    Happening::Follow(2, 1),
+    Happening::Arrive(1),
+    Happening::Arrive(2),
+    Happening::Arrive(3),
+    Happening::Arrive(4),
+    Happening::Arrive(5),
+    Happening::Open(1),
+];
+
+/// How many messages an event sent, and the server that the last of them is for.
+type Route = (usize, Option<usize>);
+
+/// What was seen of a beginning: the route of each event, the calls about servers 1, 2, 3 and 16, and the views.
+#[derive(Debug, Drop, PartialEq)]
+struct Seen {
+    routes: Vec<Route>,
+    called: [u64; 4],
+    views: usize,
+    readers: usize,
+}
+
+fn route_of(routed: &Routed) -> Route {
+    let addressees = &routed.addressees;
+    (addressees.len(), addressees.last().copied())
+}
+
+fn call_all<L: Ledger, R: Wait>(
+    rt: &R,
+    alloc: Global,
+    shared: &Shared<L>,
+    seat: &mut Seat<L>,
+) -> Result<Vec<Route>, Fail> {
+    let mut routes = Vec::new(alloc);
+    for happening in &BEGINNING {
+        let event = event_of(alloc, *happening)?;
+        let routed = shared.call_routed(rt, alloc, seat, event)?;
+        routes.push(route_of(&routed))?;
+    }
+    Ok(routes)
+}
+
+fn run<L: Ledger, R: Wait>(rt: &R, alloc: Global, blank: Blank) -> Result<Seen, Fail>
+    requires name { blank.name ≡ L.name }
+    requires parts { blank.parts ≡ L.parts }
+    requires enough { blank.parts ≡ 2 }
+{
+    let Started {
+        shared,
+        mut seats,
+        readers,
+    } = Shared::<L>::start(rt, alloc, blank, 3, 1, 0)?;
+    let mut seat = seats.pop().ok_or(NoMemory)?;
+    let routes = call_all(rt, alloc, &shared, &mut seat)?;
+    let called = [1, 2, 3, 16].map(|server| shared.called(server));
+    Ok(Seen {
+        routes,
+        called,
+        views: readers.len(),
+        readers: readers.iter().map(|list| list.len()).sum(),
+    })
+}
+
+/// The ledger is picked here.
+fn routes<R: Wait>(rt: &R, alloc: Global) -> Result<Seen, Fail> {
+    run::<Brand, R>(rt, alloc, Blank::new(2))
+}
+
+#[test]
+fn messages_are_for_leader_and_follower_in_turn(rt: HostRuntime) -> Result<(), Fail> {
+    let seen = routes(&rt, rt.alloc())?;
+    let told = [
+        (0, None),
+        (1, Some(1)),
+        (1, Some(2)),
+        (1, Some(1)),
+        (1, Some(2)),
+        (1, Some(1)),
+        (1, Some(2)),
+        (1, Some(2)),
+    ];
+    assert_eq!(rt; seen.routes.as_slice(), told.as_slice());
+    assert_eq!(rt; seen.called, [5, 3, 0, 0]);
+    assert_eq!(rt; (seen.views, seen.readers), (3, 0));
+    Ok(())
+}
