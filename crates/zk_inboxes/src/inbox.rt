@@ -6,12 +6,12 @@ use std::alloc::Global;
 use std::sync::Wait;
 use zk_path::NoMemory;
 
-/// How often at most an inbox is looked into before its thread sleeps until a number comes: for some hundred microseconds. To put a
-/// thread to sleep and wake it takes about half as long.
-const MOST_LOOKS: u32 = 256;
+/// How often at most an inbox is looked into before its thread sleeps until a number comes: for some two hundred microseconds. To put
+/// a thread to sleep and wake it takes some fifty.
+const MOST_LOOKS: u32 = 512;
 
-/// How often at least.
-const FEWEST_LOOKS: u32 = 4;
+/// How often at least: for some thirty microseconds, so that a thread that slept finds the next number without sleeping again.
+const FEWEST_LOOKS: u32 = 64;
 
 /// The end of a server's inbox that is read.
 #[derive(Drop)]

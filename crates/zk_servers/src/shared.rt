@@ -21,9 +21,9 @@ use zk_inboxes::pause;
 use zk_path::NoMemory;
 use zk_views::Reader;
 
-/// How often a thread tries the lock before it sleeps until it is free: for some ten microseconds. An event takes a few, and to put a
-/// thread to sleep and wake it takes about fifty.
-const TRIES: u32 = 32;
+/// How often a thread tries the lock before it sleeps until it is free: for some hundred microseconds. An event takes a few, and a
+/// thread that sleeps asks the others to leave the lock to it, so that they come to sleep too.
+const TRIES: u32 = 256;
 
 /// A counter for each server, and one for the number 0, which is no server's.
 const COUNTERS: usize = 16;
