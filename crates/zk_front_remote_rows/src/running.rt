@@ -9,7 +9,9 @@ use std::sync::Wait;
 use std::sync::ledger::{Blank, Ledger};
 use std::thread::Threads;
 use std::{thread, time};
-use zk_front::servers::{Event, Gate, Post, Receipt, Run, Seat, Senders, Shared, Started, inboxes, run_servers};
+use zk_front::servers::{
+    Event, Gate, Post, Receipt, Run, Seat, Senders, Shared, Started, inboxes, run_servers,
+};
 use zk_front::{Remote, Unstarted};
 use zk_path::NoMemory;
 

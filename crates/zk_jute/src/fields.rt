@@ -3,8 +3,8 @@
 ghost use Rattle.std.specs.Int.{w32, w64};
 ghost use Rattle.zk_jute.specs.Reading.{Takes, TakesBy, number_at, bytes_at, count_at, counted_at, text_at, path_at, content_at, boolean_at};
 
-use bytes::Buf;
 use crate::fault::JuteFault;
+use bytes::Buf;
 use std::alloc::Global;
 use zk_acl::Text;
 use zk_path::Path;

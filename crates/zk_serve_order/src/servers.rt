@@ -67,7 +67,9 @@ fn serve_over<L: Ledger + Send + Sync, R: Threads + Wait + time::Clock + Sync, C
 {
     // Nobody reads past the lock.
     let Started {
-        shared, mut seats, ..
+        shared,
+        mut seats,
+        ..
     } = Shared::<L>::start(rt, alloc, blank, servers, servers + 1, 0)?;
     let Some(seat) = seats.pop() else {
         unreachable!()

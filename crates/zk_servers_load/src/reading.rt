@@ -10,8 +10,7 @@ use std::sync::atomic::{AtomicUsize, Ordering};
 use std::sync::ledger::{Blank, Ledger};
 use std::thread::{Threads, join, map_vec};
 use zk_path::{NoMemory, Path};
-use zk_servers::Event;
-use zk_servers::{Pass, Reader, Seat, Shared, Started};
+use zk_servers::{Event, Pass, Reader, Seat, Shared, Started};
 use zk_table::ReadCall;
 
 /// The most calls that are made beside the reads.

@@ -26,13 +26,14 @@ const BEGINNING: [Happening; 8] = [
 /// How many messages an event sent, and the server that the last of them is for.
 type Route = (usize, Option<usize>);
 
-/// What was seen of a beginning: the route of each event, the calls about servers 1, 2, 3 and 16, and the views.
+/// What was seen of a beginning: the route of each event, the calls about servers 1, 2, 3 and 16, how
+/// many servers have a list of readers, and whether each list is empty.
 #[derive(Debug, Drop, PartialEq)]
 struct Seen {
     routes: Vec<Route>,
     called: [u64; 4],
-    views: usize,
-    readers: usize,
+    servers: usize,
+    unread: bool,
 }
 
 fn route_of(routed: &Routed) -> Route {
@@ -71,8 +72,8 @@ fn run<L: Ledger, R: Wait>(rt: &R, alloc: Global, blank: Blank) -> Result<Seen, 
     Ok(Seen {
         routes,
         called,
-        views: readers.len(),
-        readers: readers.iter().map(|list| list.len()).sum(),
+        servers: readers.len(),
+        unread: readers.iter().all(|list| list.is_empty()),
     })
 }
 
@@ -96,6 +97,6 @@ fn messages_are_for_leader_and_follower_in_turn(rt: HostRuntime) -> Result<(), F
     ];
     assert_eq!(rt; seen.routes.as_slice(), told.as_slice());
     assert_eq!(rt; seen.called, [5, 3, 0, 0]);
-    assert_eq!(rt; (seen.views, seen.readers), (3, 0));
+    assert_eq!(rt; (seen.servers, seen.unread), (3, true));
     Ok(())
 }

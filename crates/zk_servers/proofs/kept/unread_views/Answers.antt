@@ -18,7 +18,7 @@ loop-preserved c =
     let more : c.push_reserved.new.self.items ≡ all ++ c.new.result ∷ [] = c.push_reserved.ensures.items in
     let empty : c.new.result.items ≡ [] = search rules in
     let listed : map items c.push_reserved.new.self.items ≡ map items all ++ [] ∷ [] =
-      ap (map items) more ∙ map-append items all (c.new.result ∷ []) ∙ ap (λ (last : List Entering). map items all ++ last ∷ []) empty in (
+    ap (map items) more ∙ map-append items all (c.new.result ∷ []) ∙ ap (λ (last : List Entering). map items all ++ last ∷ []) empty in (
       search rules,
       subst (All (AreOfOneView 0)) (sym listed) (all_push (AreOfOneView 0) (map items all) [] c.loop.invariant.1 nobody),
       search rules,
