@@ -8,8 +8,10 @@ use std::marker::Brand;
 use std::sync::Wait;
 use std::sync::ledger::{Blank, Ledger};
 use std::test::Fail;
+use zab_runs::Moved;
 use zk_path::NoMemory;
-use zk_servers::{Routed, Seat, Shared, Started};
+use zk_runs::Answer;
+use zk_servers::{Post, Receipt, Routed, Seat, Shared, Started, inboxes, send_on};
 
 /// The first server comes to lead the second, and a session is opened.
 const BEGINNING: [Happening; 8] = [
@@ -98,5 +100,40 @@ fn messages_are_for_leader_and_follower_in_turn(rt: HostRuntime) -> Result<(), F
     assert_eq!(rt; seen.routes.as_slice(), told.as_slice());
     assert_eq!(rt; seen.called, [5, 3, 0, 0]);
     assert_eq!(rt; (seen.servers, seen.unread), (3, true));
+    Ok(())
+}
+
+/// The numbers that two servers find in their inboxes behind an event that sent messages 5 and 6, for the second server and the first.
+fn sent<R: Wait>(rt: &R, alloc: Global) -> Result<[Option<usize>; 2], Fail> {
+    let Post {
+        mut inboxes,
+        senders,
+    } = inboxes(alloc, 2)?;
+    let mut addressees = Vec::new(alloc);
+    addressees.push(2)?;
+    addressees.push(1)?;
+    let moved = Moved { first: 5, count: 2 };
+    let receipt = Receipt {
+        number: 1,
+        answer: Ok(Answer::Moved(moved)),
+        zxid: 0,
+    };
+    send_on(
+        rt,
+        &senders,
+        Routed {
+            receipt,
+            addressees,
+        },
+    );
+    senders.end_all(rt);
+    let mut second = inboxes.pop().ok_or(NoMemory)?;
+    let mut first = inboxes.pop().ok_or(NoMemory)?;
+    Ok([first.next(rt), second.next(rt)])
+}
+
+#[test]
+fn each_message_goes_to_its_own_server(rt: HostRuntime) -> Result<(), Fail> {
+    assert_eq!(rt; sent(&rt, rt.alloc())?, [Some(6), Some(5)]);
     Ok(())
 }
