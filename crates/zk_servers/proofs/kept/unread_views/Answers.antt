@@ -1,6 +1,5 @@
 use Rattle.std.proofs.Common.{rules, ◌≡◌, ◌++◌, ◌∷◌, [], All, List, Vec, Global, map, sym, ap, subst, ◌∙◌, refl}
 use Rattle.std.proofs.lemmas.List.{map-append}
-use Rattle.atomic_table.specs.Seated.{TableId}
 use Rattle.zk_servers.specs.Keeping.{AreOfOneView}
 use Rattle.zk_servers.proofs.Pushes.{all_push}
 use Rattle.zk_servers.proofs.kept.unread_views.Goals as goal
