@@ -1,21 +1,9 @@
 //! The program `zk`: a look at transaction logs of ZooKeeper, and runs of its servers.
 #![tactic(auto)]
 
-mod act;
 mod clock;
-#[cfg(test)]
-mod debug_tests;
 mod listening;
-#[cfg(test)]
-mod mend_tests;
-#[cfg(test)]
-mod run_tests;
-#[cfg(test)]
-mod tests;
-#[cfg(test)]
-mod text_tests;
 
-use act::act;
 use listening::listen;
 use std::io::{IsTerminal, Read, Write};
 use std::net::{Net, TcpListener, TcpStream};
@@ -23,6 +11,7 @@ use std::process::ExitCode;
 use std::sync::Wait;
 use std::thread::Threads;
 use std::{env, fs, io, time};
+use zk_acting::act;
 use zk_command_line::{Command, CommandFault, Job, Order, read_command_line};
 use zk_log::{Sink, Source};
 use zk_path::NoMemory;

@@ -77,11 +77,14 @@ fn with_flags<'a>(
 }
 
 fn flag_arg<'a>(alloc: Global, flag: &FlagHelp) -> Result<Arg<'a>, AllocError> {
-    Arg::new(alloc, flag.name)
-        .long(flag.name)
+    option_arg(alloc, flag.name, flag.help)
         .action(ArgAction::SetTrue)
-        .help(flag.help)
         .conflicts_with(flag.without)
+}
+
+/// An option of this name, and its line in the help.
+fn option_arg<'a>(alloc: Global, name: &'static str, help: &'static str) -> Arg<'a> {
+    Arg::new(alloc, name).long(name).help(help)
 }
 
 /// A grammar with these options more.
@@ -97,8 +100,5 @@ fn with_counts<'a>(
 }
 
 fn count_arg<'a>(alloc: Global, count: &CountHelp) -> Arg<'a> {
-    Arg::new(alloc, count.name)
-        .long(count.name)
-        .value_name(count.value)
-        .help(count.help)
+    option_arg(alloc, count.name, count.help).value_name(count.value)
 }

@@ -12,7 +12,7 @@ mod helps;
 use clap::Error;
 pub use clap::error::ErrorKind;
 use grammar::{command, order_command};
-use helps::{DEBUG, MEND, SERVE, SHOW};
+use helps::{DEBUG, MEND, OrderHelp, SERVE, SHOW};
 use std::alloc::{AllocError, Global};
 use std::fmt;
 
@@ -65,12 +65,16 @@ fn refused_by_clap<'a>(alloc: Global, words: &'a [&'a str]) -> Result<Option<Err
 /// What is wrong with the values of an order, which clap takes.
 fn value_fault(alloc: Global, is_debug: bool) -> Result<Error, AllocError> {
     if is_debug {
-        return order_command(alloc, &DEBUG)?.bin_name(DEBUG.title)?.error(
+        return fault_of(
+            alloc,
+            &DEBUG,
             ErrorKind::ArgumentConflict,
             "FILE cannot be standard input where SCRIPT is, or where there is none",
         );
     }
-    order_command(alloc, &SHOW)?.bin_name(SHOW.title)?.error(
+    fault_of(
+        alloc,
+        &SHOW,
         ErrorKind::ValueValidation,
         "ZXID is neither sixteen lower-case hexadecimal digits nor `last`",
     )
@@ -78,7 +82,9 @@ fn value_fault(alloc: Global, is_debug: bool) -> Result<Error, AllocError> {
 
 /// What is wrong with the values of `mend`, which clap takes.
 fn mend_fault(alloc: Global) -> Result<Error, AllocError> {
-    order_command(alloc, &MEND)?.bin_name(MEND.title)?.error(
+    fault_of(
+        alloc,
+        &MEND,
         ErrorKind::ArgumentConflict,
         "OUT cannot be FILE or standard output, which has the report",
     )
@@ -86,10 +92,24 @@ fn mend_fault(alloc: Global) -> Result<Error, AllocError> {
 
 /// What is wrong with the values of `serve`, which clap takes.
 fn serve_fault(alloc: Global) -> Result<Error, AllocError> {
-    order_command(alloc, &SERVE)?.bin_name(SERVE.title)?.error(
+    fault_of(
+        alloc,
+        &SERVE,
         ErrorKind::ValueValidation,
         "PORT is no decimal from 1 to 65535, N none from 2 to 15, or C none from 0 to 4294967295",
     )
+}
+
+/// The refusal of an order's values, with the order's usage.
+fn fault_of(
+    alloc: Global,
+    order: &OrderHelp,
+    kind: ErrorKind,
+    text: &str,
+) -> Result<Error, AllocError> {
+    order_command(alloc, order)?
+        .bin_name(order.title)?
+        .error(kind, text)
 }
 
 /// The refusal of a command line with a word that is not in UTF-8.

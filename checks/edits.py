@@ -1,0 +1,177 @@
+#!/usr/bin/env python3
+"""Tries wrong bodies that the prover must refuse, a crate's edits together: those of `checks/edits`.
+
+usage: checks/edits.py [CRATE..]     in a checkout where `rt ci` has left the libraries
+
+An edit is a file `checks/edits/CRATE/NAME.edit`. Its first line names the function that it turns, as a check prints it without
+the crate. A line `file: src/..` and pairs of lines `old: TEXT`, `new: TEXT` follow, each old text standing once in that file.
+
+The edits of a crate that turn different functions are tried in one check, of these functions and of what they call. A proof
+rests on a function's own body and on the contracts of what it calls, and no edit changes a contract; so each turned function is
+refused for its own edit or not at all. It must be refused at a goal or an answer of its own: one that only calls what is not
+proved is tried again by itself. The edits of one function are tried one after the other.
+"""
+import os
+import re
+import shutil
+import subprocess
+import sys
+import tempfile
+from concurrent.futures import ThreadPoolExecutor
+
+HERE = os.path.dirname(os.path.abspath(__file__))
+ROOT = os.path.dirname(HERE)
+PARTS = ("src", "specs", "proofs")
+# The most memory that a check of one of these crates has been seen to take.
+NEED = 5_000_000_000
+
+
+class Edit:
+    def __init__(self, crate, name):
+        self.crate, self.name, self.pairs, self.function = crate, name, [], None
+        file = old = None
+        with open(os.path.join(HERE, "edits", crate, name), encoding="utf-8") as it:
+            for line in it.read().splitlines():
+                if line.startswith("function: "):
+                    self.function = line[10:].strip()
+                elif line.startswith("file: "):
+                    file = line[6:].strip()
+                elif line.startswith("old: "):
+                    old = line[5:]
+                elif line.startswith("new:") and file and old is not None:
+                    self.pairs.append((file, old, line[5:]))
+                    old = None
+        if not self.function or not self.pairs:
+            sys.exit("%s/%s: an edit names its function, its file, and what is old and new there" % (crate, name))
+
+    def apply(self, room):
+        for file, old, new in self.pairs:
+            with open(os.path.join(room, file), encoding="utf-8") as it:
+                text = it.read()
+            if text.count(old) != 1:
+                sys.exit("%s/%s: its old text stands %d times in %s" % (self.crate, self.name, text.count(old), file))
+            with open(os.path.join(room, file), "w", encoding="utf-8") as it:
+                it.write(text.replace(old, new))
+
+
+def kit():
+    return os.path.dirname(subprocess.run(["rt", "doc"], check=True, capture_output=True, text=True).stdout.strip())
+
+
+def named(lists, crate):
+    """The libraries of the repository and of the kit that a crate's line names, and the repository's below it."""
+    ours = [it for it in lists[crate] if it in lists]
+    below = []
+    for it in ours:
+        below += [name for name in [*named(lists, it)[2], it] if name not in below]
+    return ours, [it for it in lists[crate] if it not in lists], below
+
+
+def lists_of():
+    with open(os.path.join(ROOT, "crates.txt"), encoding="utf-8") as it:
+        rows = [line.partition("#")[0].partition(":") for line in it]
+    return {head.strip(): uses.split() for head, _, uses in rows if head.strip()}
+
+
+def words_of(crate):
+    """How `rt` calls a check of a crate over the libraries that stand in out/."""
+    top, (ours, kits, below) = kit(), named(lists_of(), crate)
+    rlib = lambda name: os.path.join(ROOT, "crates", name, "out", "rlib", name + ".rlib")
+    for name in below:
+        if not os.path.isdir(rlib(name)):
+            sys.exit("%s is not there: run `rt ci` first" % os.path.relpath(rlib(name), ROOT))
+    words = ["--crate-name", crate, "src/lib.rt"]
+    for name in ["std", *kits]:
+        words += ["--extern", "%s=%s/rlibs/%s.rlib" % (name, top, name)]
+    words += ["-L", "dependency=%s/rlibs" % top]
+    for name in ours:
+        words += ["--extern", "%s=%s" % (name, rlib(name))]
+    for name in below:
+        words += ["-L", "dependency=" + os.path.dirname(rlib(name))]
+    words += ["--antt-project", top + "/rattle/logic/antt-project.json", "--logic-built", top + "/logic_built"]
+    return [top + "/bin/rattle", "check", *words, "--jobs", "1", "--links", crate + "="]
+
+
+def check(crate, edits):
+    """What a check of the edited functions says, line by line, and its status."""
+    with tempfile.TemporaryDirectory(prefix="edits-") as room:
+        for part in PARTS:
+            if os.path.isdir(os.path.join(ROOT, "crates", crate, part)):
+                shutil.copytree(os.path.join(ROOT, "crates", crate, part), os.path.join(room, part))
+        for edit in edits:
+            edit.apply(room)
+        only = [word for function in sorted({it.function for it in edits}) for word in ("--only", function)]
+        ran = subprocess.run([*words_of(crate), *only], cwd=room, stdin=subprocess.DEVNULL, capture_output=True, text=True, errors="replace")
+    return (ran.stdout + ran.stderr).splitlines(), ran.returncode
+
+
+# What says only that a proof file names something that the edit took away.
+NAMES = re.compile(r"has no field|is not in scope|has no `|was not admitted")
+
+
+def refusal(edit, lines):
+    """What refuses the edited function for its own body: a goal that no search proves, or an error in an answer of its own. Else None."""
+    start = "fn %s::%s: " % (edit.crate, edit.function)
+    said = next((line[len(start) :] for line in lines if line.startswith(start)), "")
+    if said.startswith("no proof: expected answers"):
+        return said[said.index("`search` did not") :] if "`search` did not" in said else None
+    if said.startswith(("no proof", "not proved")):
+        folder = "proofs/%s/" % edit.function.replace("::", "/")
+        return next((line for line in lines if folder in line and ": error: " in line and not NAMES.search(line)), None)
+    return None
+
+
+def groups(edits):
+    """The edits in groups, of which each turns a function once."""
+    found = []
+    for edit in edits:
+        room = next((it for it in found if all(other.function != edit.function for other in it)), None)
+        if room is None:
+            found.append([edit])
+        else:
+            room.append(edit)
+    return found
+
+
+def trial(crate, edits):
+    """Tries a group, and by itself what is not refused there. Answers what to print, and how many were not refused."""
+    lines, status = check(crate, edits)
+    if status != 1 and len(edits) == 1:
+        return ["%s/%s: NOT REFUSED" % (crate, edits[0].name), *lines[-12:]], 1
+    told, missed = [], 0
+    for edit in edits:
+        said = refusal(edit, lines) if status == 1 else None
+        if said:
+            told.append("%s/%s: refused: %s" % (crate, edit.name, said[:110]))
+        elif len(edits) > 1:
+            more, lost = trial(crate, [edit])
+            told, missed = told + more, missed + lost
+        else:
+            told += ["%s/%s: NOT REFUSED for a goal of its own" % (crate, edit.name), *[it for it in lines if it.startswith("fn ") and not it.endswith(": proved")]]
+            missed += 1
+    return told, missed
+
+
+def lanes():
+    with open("/proc/meminfo", encoding="utf-8") as it:
+        free = next(int(line.split()[1]) * 1024 for line in it if line.startswith("MemAvailable"))
+    return max(1, min(len(os.sched_getaffinity(0)), free // NEED))
+
+
+def main(crates):
+    every = sorted(os.listdir(os.path.join(HERE, "edits")))
+    work = []
+    for crate in crates or every:
+        edits = [Edit(crate, it) for it in sorted(os.listdir(os.path.join(HERE, "edits", crate)))]
+        work += [(crate, it) for it in groups(edits)]
+    missed = 0
+    with ThreadPoolExecutor(lanes()) as pool:
+        for told, of in pool.map(lambda it: trial(*it), work):
+            print("\n".join(told), flush=True)
+            missed += of
+    print("%d edits refused, %d not" % (sum(len(it) for _, it in work) - missed, missed))
+    return 1 if missed else 0
+
+
+if __name__ == "__main__":
+    sys.exit(main(sys.argv[1:]))
