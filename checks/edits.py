@@ -152,6 +152,13 @@ def trial(crate, edits):
     return told, missed
 
 
+def size_of(crate):
+    """The bytes of a crate's files, and of those that its line names."""
+    names = [crate, *[it for it in lists_of()[crate] if it in lists_of()]]
+    walked = [it for name in names for part in PARTS for it in os.walk(os.path.join(ROOT, "crates", name, part))]
+    return sum(os.path.getsize(os.path.join(at, name)) for at, _, files in walked for name in files)
+
+
 def lanes():
     with open("/proc/meminfo", encoding="utf-8") as it:
         free = next(int(line.split()[1]) * 1024 for line in it if line.startswith("MemAvailable"))
@@ -164,6 +171,8 @@ def main(crates):
     for crate in crates or every:
         edits = [Edit(crate, it) for it in sorted(os.listdir(os.path.join(HERE, "edits", crate)))]
         work += [(crate, it) for it in groups(edits)]
+    # (the dearest first, so that none is left alone at the end)
+    work.sort(key=lambda it: size_of(it[0]), reverse=True)
     missed = 0
     with ThreadPoolExecutor(lanes()) as pool:
         for told, of in pool.map(lambda it: trial(*it), work):
