@@ -105,8 +105,8 @@ def check(crate, edits):
     return (ran.stdout + ran.stderr).splitlines(), ran.returncode
 
 
-# What says only that a proof file names something that the edit took away.
-NAMES = re.compile(r"has no field|is not in scope|has no `|was not admitted")
+# What says only that a proof file names something that the edit took away, or that the edited function wants a proof of another kind.
+NAMES = re.compile(r"has no field|is not in scope|has no `|was not admitted|rattle does not read")
 
 
 def refusal(edit, lines):
