@@ -40,18 +40,16 @@ fn has_asked(alloc: Global, server: &Server<Echo>, shown: &str) -> bool {
     matches!(format!(in alloc; "{:?}", server.state().asked), Ok(text) if text.as_str() == shown)
 }
 
-/// A server that leads itself alone in epoch 1, in broadcast.
-fn leader_alone(alloc: Global) -> Result<Server<Echo>, RuleFault> {
-    let mut server = Server::restored(alloc, 1, 1, Stable::new(alloc));
+/// Whether a server comes to lead itself alone in epoch 1, in broadcast.
+fn leads_alone(alloc: Global, server: &mut Server<Echo>) -> bool {
     let own = Vote {
         current: 0,
         last: 0,
     };
-    server.lead(alloc)?;
-    server.c_epoch(alloc, &ALONE, 1, 0)?;
-    server.ack_epoch(alloc, &ALONE, 1, 1, false, own)?;
-    server.ack_leader(alloc, &ALONE, 1, 1, 0)?;
-    Ok(server)
+    server.lead(alloc).is_ok()
+        && server.c_epoch(alloc, &ALONE, 1, 0).is_ok()
+        && server.ack_epoch(alloc, &ALONE, 1, 1, false, own).is_ok()
+        && server.ack_leader(alloc, &ALONE, 1, 1, 0).is_ok()
 }
 
 /// Whether a leader takes a call.
@@ -62,11 +60,12 @@ fn takes_call(alloc: Global, server: &mut Server<Echo>, tag: u64) -> bool {
 #[test]
 fn a_leader_answers_a_sync_at_once(rt: HostRuntime) {
     let alloc = rt.alloc();
-    let mut leader = leader_alone(alloc).expect(&rt, "memory");
+    let mut leader = Server::restored(alloc, 1, 1, Stable::new(alloc));
     let tells =
         "[Message { sender: 1, addressee: 2, body: SyncTell { epoch: 1, tag: 9, length: 1 } }]";
     assert!(rt;
-        takes_call(alloc, &mut leader, 7)
+        leads_alone(alloc, &mut leader)
+            && takes_call(alloc, &mut leader, 7)
             && syncs(alloc, &mut leader, 4, "[]")
             && has_caught(alloc, &leader, "[Caught { tag: 4, length: 1 }]")
             && says(alloc, leader.sync_ask(alloc, 2, 1, 9), tells)
@@ -74,13 +73,18 @@ fn a_leader_answers_a_sync_at_once(rt: HostRuntime) {
     );
 }
 
-/// Server 2 of three, a synced follower of server 1 in epoch 1.
-fn synced_follower(alloc: Global) -> Result<Server<Echo>, NoMemory> {
-    let mut server = Server::restored(alloc, 3, 2, Stable::new(alloc));
-    server.follow(alloc, 1)?;
-    server.new_epoch(alloc, 1, 1)?;
-    server.new_leader(alloc, 1, 1, 0, &History::new(alloc))?;
-    Ok(server)
+/// Server 2 of three.
+fn second(alloc: Global) -> Server<Echo> {
+    Server::restored(alloc, 3, 2, Stable::new(alloc))
+}
+
+/// Whether a server comes to be a synced follower of server 1 in epoch 1.
+fn follows(alloc: Global, server: &mut Server<Echo>) -> bool {
+    server.follow(alloc, 1).is_ok()
+        && server.new_epoch(alloc, 1, 1).is_ok()
+        && server
+            .new_leader(alloc, 1, 1, 0, &History::new(alloc))
+            .is_ok()
 }
 
 /// What an echo makes of a call, as the entry at an index of epoch 1.
@@ -124,10 +128,11 @@ fn catches(alloc: Global, server: &mut Server<Echo>, length: u64, shown: &str) -
 #[test]
 fn a_follower_answers_a_sync_once_it_has_delivered(rt: HostRuntime) {
     let alloc = rt.alloc();
-    let mut follower = synced_follower(alloc).expect(&rt, "memory");
+    let mut follower = second(alloc);
     let asks = "[Message { sender: 2, addressee: 1, body: SyncAsk { epoch: 1, tag: 4 } }]";
     assert!(rt;
-        syncs(alloc, &mut follower, 4, asks)
+        follows(alloc, &mut follower)
+            && syncs(alloc, &mut follower, 4, asks)
             && is_told(alloc, &mut follower, (4, 1), "[]")
             && takes_entry(alloc, &mut follower, 1)
             && catches(alloc, &mut follower, 0, "[]")
@@ -139,10 +144,11 @@ fn a_follower_answers_a_sync_once_it_has_delivered(rt: HostRuntime) {
 #[test]
 fn a_later_tell_delivers_and_its_length_is_not_kept(rt: HostRuntime) {
     let alloc = rt.alloc();
-    let mut follower = synced_follower(alloc).expect(&rt, "memory");
+    let mut follower = second(alloc);
     let asks = "[Message { sender: 2, addressee: 1, body: SyncAsk { epoch: 1, tag: 4 } }]";
     assert!(rt;
-        syncs(alloc, &mut follower, 4, asks)
+        follows(alloc, &mut follower)
+            && syncs(alloc, &mut follower, 4, asks)
             && is_told(alloc, &mut follower, (4, 2), "[]")
             && is_told(alloc, &mut follower, (4, 9), "[]")
             && has_asked(
@@ -172,12 +178,13 @@ fn a_later_tell_delivers_and_its_length_is_not_kept(rt: HostRuntime) {
 #[test]
 fn two_syncs_are_answered_in_the_order_of_tags(rt: HostRuntime) {
     let alloc = rt.alloc();
-    let mut follower = synced_follower(alloc).expect(&rt, "memory");
+    let mut follower = second(alloc);
     let first = "[Message { sender: 2, addressee: 1, body: SyncAsk { epoch: 1, tag: 9 } }]";
-    let second = "[Message { sender: 2, addressee: 1, body: SyncAsk { epoch: 1, tag: 3 } }]";
+    let later = "[Message { sender: 2, addressee: 1, body: SyncAsk { epoch: 1, tag: 3 } }]";
     assert!(rt;
-        syncs(alloc, &mut follower, 9, first)
-            && syncs(alloc, &mut follower, 3, second)
+        follows(alloc, &mut follower)
+            && syncs(alloc, &mut follower, 9, first)
+            && syncs(alloc, &mut follower, 3, later)
             && is_told(alloc, &mut follower, (9, 1), "[]")
             && is_told(alloc, &mut follower, (3, 1), "[]")
             && takes_entry(alloc, &mut follower, 1)
@@ -193,10 +200,11 @@ fn two_syncs_are_answered_in_the_order_of_tags(rt: HostRuntime) {
 #[test]
 fn another_role_forgets_what_is_asked(rt: HostRuntime) {
     let alloc = rt.alloc();
-    let mut follower = synced_follower(alloc).expect(&rt, "memory");
+    let mut follower = second(alloc);
     let asks = "[Message { sender: 2, addressee: 1, body: SyncAsk { epoch: 1, tag: 4 } }]";
     assert!(rt;
-        syncs(alloc, &mut follower, 4, asks)
+        follows(alloc, &mut follower)
+            && syncs(alloc, &mut follower, 4, asks)
             && follower.follow(alloc, 1).is_ok()
             && has_asked(alloc, &follower, "AskedSyncs { syncs: [] }")
             && matches!(follower.sync(alloc, 5), Err(RuleFault::NotServing))

@@ -115,13 +115,21 @@ fn fails_as_a_crash(
     )
 }
 
-/// What happens in the rows of scripts that move.
-fn moving(alloc: Global, scripts: &[&[Row]]) -> Result<Vec<Happening>, NoMemory> {
-    let mut happenings = Vec::new(alloc);
-    for row in scripts.iter().flat_map(|script| script.iter()) {
+/// Appends what happens in the rows of a script that move.
+fn push_moving(happenings: &mut Vec<Happening>, script: &[Row]) -> Result<(), NoMemory> {
+    for row in script {
         if let Sends(happening, _) | SendsTwo(happening, _) = row {
             happenings.push(*happening)?;
         }
+    }
+    Ok(())
+}
+
+/// What happens in the rows of scripts that move.
+fn moving(alloc: Global, scripts: &[&[Row]]) -> Result<Vec<Happening>, NoMemory> {
+    let mut happenings = Vec::new(alloc);
+    for script in scripts {
+        push_moving(&mut happenings, script)?;
     }
     Ok(happenings)
 }

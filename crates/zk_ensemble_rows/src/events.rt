@@ -262,8 +262,7 @@ fn fault_line(alloc: Global, fault: EnsembleFault) -> Result<String, NoMemory> {
 fn moved_line(alloc: Global, moved: Moved) -> Result<String, NoMemory> {
     let mut text = String::from_str(alloc, "ok")?;
     for more in 0..moved.count {
-        let number = moved.first as u128 + more as u128;
-        write!(text, " {number}")?;
+        write!(text, " {}", moved.first.wrapping_add(more))?;
     }
     Ok(text)
 }
