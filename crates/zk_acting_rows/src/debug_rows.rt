@@ -1,11 +1,8 @@
-//! The order `debug`, on logs that listings spell.
-use crate::order_rows::{acted, check as check_act};
-use std::alloc::Global;
-use std::process::Abort;
-use std::test::Fail;
+//! The orders that debug, on a log that a listing spells.
+use crate::trial::{NOTHING, Trial, is_so, status_of, writer};
+use std::alloc::{AllocError, Global};
 use zk_command_line::Order;
-use zk_log::{DripIn, DripOut};
-use zk_path::NoMemory;
+use zk_log::DripOut;
 use zk_reports::{ScriptFault, script_line};
 
 /// A multi whose parts make and take away a node, and a create that is refused.
@@ -15,7 +12,7 @@ const LISTING: &str = "0000000100000001 0100000000000001 0 1000 createSession 30
 0000000100000005 0100000000000001 3 4000 create \"/a\" x 1 31 \"world\" \"anyone\" p 3
 ";
 
-const SCRIPT: &str = "break path \"/t\"
+const SCRIPT: &[u8] = b"break path \"/t\"
 break at 0000000100000004
 run
 last
@@ -46,7 +43,7 @@ B3
 ";
 
 /// Moves with breakpoints of the other kinds, what is none, and the tree at a place.
-const OTHER_SCRIPT: &str = "last
+const OTHER_SCRIPT: &[u8] = b"last
 break kind multi
 break error
 break session 0100000000000001
@@ -143,139 +140,175 @@ const EACH_PLACE: [(&str, &str); 21] = [
     ("back\n", "B2\n"),
 ];
 
-/// Runs a script over the listing's log, where the read of this number and the write of that one fail.
-fn check(
-    rt: &(impl Abort + AllocGlobal),
-    script: &[u8],
-    answers: &str,
-    told: &str,
-    good_calls: (Option<u64>, Option<u64>),
-) -> Result<(), Fail> {
-    check_order(rt, Order::Debug, script, answers, told, good_calls)
+/// Lines, what they are answered and what is told, and after how many reads of them and after how many writes one fails.
+type Row = (
+    &'static [u8],
+    &'static str,
+    &'static str,
+    Option<u64>,
+    Option<u64>,
+);
+
+static SCRIPTS: [Row; 8] = [
+    (SCRIPT, ANSWERS, "", None, None),
+    (OTHER_SCRIPT, OTHER_ANSWERS, "", None, None),
+    (b"", "", "", None, None),
+    (
+        b"clear 1\nstop\nback\n",
+        "B3\n",
+        "zk: script 2\n",
+        None,
+        None,
+    ),
+    (b"\n", "", "zk: script 1\n", None, None),
+    (b"back\n\xff", "", "zk: utf8\n", None, None),
+    (b"back\nback\n", "", "zk: read\n", Some(2), None),
+    (
+        b"tree\n",
+        "zxid 0000000000000000\n\"/\" x 1 31 \"world\" \"anyone\" 00000000000000",
+        "zk: write\n",
+        None,
+        Some(1),
+    ),
+];
+
+static SESSIONS: [Row; 3] = [
+    (SCRIPT, ANSWERS, "", None, None),
+    (
+        b"stop\nback",
+        "? a command; help lists them\nB2\n",
+        "",
+        None,
+        None,
+    ),
+    // the first line is answered before the eighth read
+    (b"back\nback\n", "B2\n", "zk: read\n", Some(7), None),
+];
+
+static PROMPTED: [Row; 1] = [(
+    b"back\nquit\nback\n",
+    "zk 0 0000000000000000> B2\nzk 0 0000000000000000> ",
+    "",
+    None,
+    None,
+)];
+
+/// Makes the listing's log. Answers whether it could.
+fn assembles(alloc: Global, log: &mut DripOut) -> bool {
+    let trial = Trial {
+        file: (LISTING.as_bytes(), 4096, None),
+        ..NOTHING
+    };
+    let mut report = writer(alloc, (64, None));
+    let mut faults = writer(alloc, (64, None));
+    let status = status_of(alloc, &trial, log, &mut report, &mut faults);
+    matches!(status, Ok(0))
 }
 
-/// The same with a script's order, or with a session's.
-fn check_order(
-    rt: &(impl Abort + AllocGlobal),
+/// Whether an order answers lines over a log so, where the read and the write of these numbers fail.
+fn answers<'x>(
+    alloc: Global,
     order: Order,
-    script: &[u8],
-    answers: &str,
-    told: &str,
-    good_calls: (Option<u64>, Option<u64>),
-) -> Result<(), Fail> {
-    let listing = DripIn::new(LISTING.as_bytes(), 4096, None);
-    let made = acted(
-        rt,
-        Order::Asm,
-        listing,
-        DripIn::new(b"", 1, None),
-        DripOut::new(rt.alloc(), 4096, None),
-    )?;
-    check_act(
-        rt,
+    log: &'x [u8],
+    (lines, good_reads): (&'x [u8], Option<u64>),
+    (written, good_writes): (&'x str, Option<u64>),
+    told: &'x str,
+) -> bool {
+    let trial = Trial {
         order,
-        DripIn::new(made.1.bytes(), 7, None),
-        DripIn::new(script, 5, good_calls.0),
-        DripOut::new(rt.alloc(), 64, good_calls.1),
-        (answers.as_bytes(), told),
-    )
+        file: (log, 7, None),
+        script: (lines, 5, good_reads),
+        output: (64, good_writes),
+        written: written.as_bytes(),
+        told,
+        ..NOTHING
+    };
+    is_so(alloc, &trial)
+}
+
+/// The first of these rows that is not so over a log.
+fn first_wrong_over(alloc: Global, order: Order, log: &[u8], rows: &[Row]) -> Option<usize> {
+    for (at, row) in rows.iter().enumerate() {
+        let (lines, written, told, good_reads, good_writes) = *row;
+        if !answers(
+            alloc,
+            order,
+            log,
+            (lines, good_reads),
+            (written, good_writes),
+            told,
+        ) {
+            return Some(at);
+        }
+    }
+    None
+}
+
+/// The first that is not so over the listing's log.
+fn first_wrong(alloc: Global, order: Order, rows: &[Row]) -> Option<usize> {
+    let mut log = writer(alloc, (4096, None));
+    if assembles(alloc, &mut log) {
+        first_wrong_over(alloc, order, log.bytes(), rows)
+    } else {
+        Some(0)
+    }
 }
 
 #[test]
-fn debug_script_over_a_multi(rt: HostRuntime) -> Result<(), Fail> {
-    for (script, answers, told, good_calls) in [
-        (SCRIPT.as_bytes(), ANSWERS, "", (None, None)),
-        (OTHER_SCRIPT.as_bytes(), OTHER_ANSWERS, "", (None, None)),
-        (b"".as_slice(), "", "", (None, None)),
-        (
-            b"clear 1\nstop\nback\n".as_slice(),
-            "B3\n",
-            "zk: script 2\n",
-            (None, None),
-        ),
-        (b"\n".as_slice(), "", "zk: script 1\n", (None, None)),
-        (b"back\n\xff".as_slice(), "", "zk: utf8\n", (None, None)),
-        (
-            b"back\nback\n".as_slice(),
-            "",
-            "zk: read\n",
-            (Some(2), None),
-        ),
-        (
-            b"tree\n".as_slice(),
-            "zxid 0000000000000000\n\"/\" x 1 31 \"world\" \"anyone\" 00000000000000",
-            "zk: write\n",
-            (None, Some(1)),
-        ),
-    ] {
-        check(&rt, script, answers, told, good_calls)?;
-    }
-    Ok(())
+fn debug_script_over_a_multi(rt: HostRuntime) {
+    assert_eq!(rt; first_wrong(rt.alloc(), Order::Debug, &SCRIPTS), None);
 }
 
 #[test]
-fn session_over_a_multi(rt: HostRuntime) -> Result<(), Fail> {
-    for (prompts, lines, answers, told, good_calls) in [
-        (false, SCRIPT.as_bytes(), ANSWERS, "", (None, None)),
-        (
-            true,
-            b"back\nquit\nback\n".as_slice(),
-            "zk 0 0000000000000000> B2\nzk 0 0000000000000000> ",
-            "",
-            (None, None),
-        ),
-        (
-            false,
-            b"stop\nback".as_slice(),
-            "? a command; help lists them\nB2\n",
-            "",
-            (None, None),
-        ),
-        // the first line is answered before the eighth read
-        (
-            false,
-            b"back\nback\n".as_slice(),
-            "B2\n",
-            "zk: read\n",
-            (Some(7), None),
-        ),
-    ] {
-        let order = Order::Session { prompts };
-        check_order(&rt, order, lines, answers, told, good_calls)?;
-    }
-    Ok(())
+fn session_over_a_multi(rt: HostRuntime) {
+    let plain = Order::Session { prompts: false };
+    assert_eq!(rt; first_wrong(rt.alloc(), plain, &SESSIONS), None);
+    let prompted = Order::Session { prompts: true };
+    assert_eq!(rt; first_wrong(rt.alloc(), prompted, &PROMPTED), None);
 }
 
-/// [`SCRIPT`] and the lines behind it.
-fn each_place_script(alloc: Global) -> Result<String, NoMemory> {
-    let mut script = String::from_str(alloc, SCRIPT)?;
-    for (line, _) in EACH_PLACE {
-        script.push_str(line)?;
-    }
-    Ok(script)
-}
-
-/// The answers to them.
-fn each_place_answers(alloc: Global) -> Result<String, NoMemory> {
-    let mut answers = String::from_str(alloc, ANSWERS)?;
-    for (_, answer) in EACH_PLACE {
+/// Appends [`SCRIPT`] and the lines behind it, and what they are answered.
+fn push_each_place(script: &mut Vec<u8>, answers: &mut String) -> Result<(), AllocError> {
+    script.extend_from_slice(SCRIPT)?;
+    answers.push_str(ANSWERS)?;
+    for (line, answer) in &EACH_PLACE {
+        script.extend_from_slice(line.as_bytes())?;
         answers.push_str(answer)?;
     }
-    Ok(answers)
-}
-
-#[test]
-fn trees_at_each_place_up_and_down(rt: HostRuntime) -> Result<(), Fail> {
-    let script = each_place_script(rt.alloc())?;
-    let answers = each_place_answers(rt.alloc())?;
-    let script = script.as_str().as_bytes();
-    check(&rt, script, answers.as_str(), "", (None, None))
-}
-
-#[test]
-fn lines_of_scripts_are_told_by_their_numbers(rt: HostRuntime) -> Result<(), Fail> {
-    let fault = ScriptFault::Malformed(12);
-    let text = format!(in rt.alloc(); "zk: {fault}\n")?;
-    assert_eq!(rt; script_line(rt.alloc(), 12)?.as_str(), text.as_str());
     Ok(())
+}
+
+/// Whether the trees at each place are answered.
+fn places_are_answered(alloc: Global) -> bool {
+    let mut log = writer(alloc, (4096, None));
+    let mut script = Vec::new(alloc);
+    let mut written = String::new(alloc);
+    assembles(alloc, &mut log)
+        && push_each_place(&mut script, &mut written).is_ok()
+        && answers(
+            alloc,
+            Order::Debug,
+            log.bytes(),
+            (script.as_slice(), None),
+            (written.as_str(), None),
+            "",
+        )
+}
+
+#[test]
+fn trees_at_each_place_up_and_down(rt: HostRuntime) {
+    assert!(rt; places_are_answered(rt.alloc()));
+}
+
+/// Whether the line of a script's fault is its text behind the program's name.
+fn script_line_is_text(alloc: Global, number: u64) -> bool {
+    let fault = ScriptFault::Malformed(number);
+    let text = format!(in alloc; "zk: {fault}\n");
+    let line = script_line(alloc, number);
+    matches!((&text, &line), (Ok(text), Ok(line)) if text.as_str() == line.as_str())
+}
+
+#[test]
+fn lines_of_scripts_are_told_by_their_numbers(rt: HostRuntime) {
+    assert!(rt; script_line_is_text(rt.alloc(), 12));
 }

@@ -1,14 +1,13 @@
+//! What orders write and tell, of logs and listings in parts.
+use crate::trial::{Input, NOTHING, Trial, is_so, push_spelled};
 use std::alloc::Global;
 use std::fmt::Display;
-use std::process::Abort;
-use std::test::Fail;
-use zk_acting::act;
 use zk_command_line::Order;
+use zk_command_line::Order::{Asm, List, Run};
 use zk_jute::JuteFault;
 use zk_listing::{ListCause, ListFault};
-use zk_log::{DripIn, DripOut, LogFault, Sink, Source};
+use zk_log::{DripIn, LogFault, Source};
 use zk_orders::{AsmFault, TextFault, asm_line, log_line, read_text};
-use zk_path::NoMemory;
 
 /// The header of a log with dbid 0.
 const HEADER: &str = "5a4b4c47000000020000000000000000";
@@ -83,305 +82,248 @@ const ZERO_LINE: &str = "0000000000000000 0100000000000001 0 1000 createSession 
 
 /// An order, the parts of what it reads, the parts of what it writes, and what it tells. A log is spelled in hexadecimal
 /// digits.
-type Row<'a> = (Order, &'a [&'a str], &'a [&'a str], &'a str);
+type Row = (
+    Order,
+    &'static [&'static str],
+    &'static [&'static str],
+    &'static str,
+);
 
-/// These texts one behind the other.
-fn joined(rt: &(impl Abort + AllocGlobal), parts: &[&str]) -> Result<String, Fail> {
-    let mut text = String::new(rt.alloc());
+const LAST: Order = Order::Show { upto: None };
+
+const SECOND: Order = Order::Show {
+    upto: Some(0x1_0000_0002),
+};
+
+const FIRST: Order = Order::Show {
+    upto: Some(0x1_0000_0001),
+};
+
+const LEAST: Order = Order::Show {
+    upto: Some(i64::MIN),
+};
+
+/// The first log, and its first two entries.
+const LOG: &[&str] = &[HEADER, OPEN, CREATE_SUM, CREATE_RECORD, LAST_BYTE, CLOSE];
+
+const HEAD: &[&str] = &[HEADER, OPEN, CREATE_SUM, CREATE_RECORD, LAST_BYTE];
+
+/// The same with the second entry twice.
+const TWICE: &[&str] = &[
+    HEADER,
+    OPEN,
+    CREATE_SUM,
+    CREATE_RECORD,
+    LAST_BYTE,
+    CREATE_SUM,
+    CREATE_RECORD,
+    LAST_BYTE,
+];
+
+/// The last byte of the second entry's checksum is another.
+const DAMAGED: &[&str] = &[HEADER, OPEN, "000000009d970700", CREATE_RECORD, LAST_BYTE];
+
+const UNKNOWN: &[&str] = &[HEADER, OPEN, CREATE_SUM, CREATE_RECORD, LAST_BYTE, NO_KIND];
+
+/// A header without its last byte.
+const CUT_HEADER: &[&str] = &["5a4b4c470000000200000000000000"];
+
+/// Whether an order reads a log: what it reads is then spelled in digits, and else what it writes may be.
+fn reads_log(order: Order) -> bool {
+    !matches!(order, Asm | Run)
+}
+
+/// Appends these parts, of text or in digits. Answers whether it could.
+fn push_parts(alloc: Global, bytes: &mut Vec<u8>, parts: &[&str], are_digits: bool) -> bool {
     for part in parts {
-        text.push_str(part)?;
+        let is_pushed = if are_digits {
+            push_spelled(alloc, bytes, part)
+        } else {
+            bytes.extend_from_slice(part.as_bytes()).is_ok()
+        };
+        if !is_pushed {
+            return false;
+        }
     }
-    Ok(text)
+    true
 }
 
-/// The script of the orders that have none.
-fn no_script() -> DripIn<'static> {
-    DripIn::new(b"", 1, None)
-}
-
-/// Acts on a file and a script, and answers the status, what is written and what is told.
-pub(crate) fn acted(
-    rt: &(impl Abort + AllocGlobal),
+/// Whether an order comes to this, where the write of this number fails.
+fn acts<'x>(
+    alloc: Global,
     order: Order,
-    file: DripIn,
-    script: DripIn,
-    output: DripOut,
-) -> Result<(u8, DripOut, DripOut), Fail> {
-    let mut file = Source::new(file);
-    let mut script = Source::new(script);
-    let mut output = Sink::new(output);
-    let mut report = Sink::new(DripOut::new(rt.alloc(), 64, None));
-    let mut faults = Sink::new(DripOut::new(rt.alloc(), 64, None));
-    let status = act(
-        rt.alloc(),
-        &order,
-        &mut file,
-        &mut script,
-        &mut output,
-        &mut report,
-        &mut faults,
-    )?;
-    Ok((status, output.into_inner(), faults.into_inner()))
+    file: Input<'x>,
+    script: &'x [u8],
+    (written, good_writes): (&'x [u8], Option<u64>),
+    told: &'x str,
+) -> bool {
+    let trial = Trial {
+        order,
+        file,
+        script: (script, 5, None),
+        output: (4, good_writes),
+        written,
+        told,
+        ..NOTHING
+    };
+    is_so(alloc, &trial)
 }
 
-/// Acts, and compares the status, what is written and what is told.
-pub(crate) fn check(
-    rt: &(impl Abort + AllocGlobal),
+/// Whether an order writes nothing but its fault.
+fn refuses<'x>(
+    alloc: Global,
     order: Order,
-    file: DripIn,
-    script: DripIn,
-    output: DripOut,
-    expected: (&[u8], &str),
-) -> Result<(), Fail> {
-    let (status, output, faults) = acted(rt, order, file, script, output)?;
-    let (written, told) = expected;
-    let expected_status = if told.is_empty() { 0 } else { 1 };
-    assert_eq!(rt; status, expected_status);
-    assert_eq!(rt; output.bytes(), written);
-    assert_eq!(rt; faults.bytes(), told.as_bytes());
-    Ok(())
+    file: Input<'x>,
+    script: &'x [u8],
+    told: &'x str,
+) -> bool {
+    acts(alloc, order, file, script, (b"", None), told)
 }
 
-/// Acts, where the read and the write of these numbers fail.
-fn check_failing(
-    rt: &(impl Abort + AllocGlobal),
-    row: &Row,
-    good_reads: Option<u64>,
-    good_writes: Option<u64>,
-) -> Result<(), Fail> {
-    let (order, input, output, told) = *row;
-    let input = joined(rt, input)?;
-    let written = joined(rt, output)?;
-    let sink = DripOut::new(rt.alloc(), 4, good_writes);
-    if order == Order::Asm {
-        let log = hex::decode(rt.alloc(), written.as_str())?;
-        let source = DripIn::new(input.as_bytes(), 7, good_reads);
-        check(rt, order, source, no_script(), sink, (&log, told))
-    } else {
-        let log = hex::decode(rt.alloc(), input.as_str())?;
-        let source = DripIn::new(&log, 7, good_reads);
-        check(
-            rt,
+/// Whether an order does what a row says, where the read and the write of these numbers fail.
+fn does(alloc: Global, row: &Row, good_reads: Option<u64>, good_writes: Option<u64>) -> bool {
+    let (order, reads, writes, told) = *row;
+    let mut file = Vec::new(alloc);
+    let mut written = Vec::new(alloc);
+    push_parts(alloc, &mut file, reads, reads_log(order))
+        && push_parts(alloc, &mut written, writes, !reads_log(order))
+        && acts(
+            alloc,
             order,
-            source,
-            no_script(),
-            sink,
-            (written.as_bytes(), told),
+            (file.as_slice(), 7, good_reads),
+            b"",
+            (written.as_slice(), good_writes),
+            told,
         )
+}
+
+/// The first of these rows that is not so where nothing fails.
+fn first_wrong(alloc: Global, rows: &[Row]) -> Option<usize> {
+    for (at, row) in rows.iter().enumerate() {
+        if !does(alloc, row, None, None) {
+            return Some(at);
+        }
     }
+    None
 }
 
-/// Acts for each row, where nothing fails.
-fn check_all(rt: &(impl Abort + AllocGlobal), rows: &[Row]) -> Result<(), Fail> {
-    for row in rows {
-        check_failing(rt, row, None, None)?;
-    }
-    Ok(())
-}
+static TREES: [Row; 5] = [
+    (LAST, LOG, &[LAST_TREE, ZOOKEEPER, QUOTA, WHOLE], ""),
+    (LAST, HEAD, &[SECOND_TREE, ZOOKEEPER, QUOTA, WHOLE], ""),
+    (SECOND, LOG, &[SECOND_TREE, ZOOKEEPER, QUOTA, WHOLE], ""),
+    (
+        FIRST,
+        LOG,
+        &[FIRST_TREE, NEW_ROOT, ZOOKEEPER, QUOTA, WHOLE],
+        "",
+    ),
+    (LEAST, LOG, &[NO_TXN, NEW_ROOT, ZOOKEEPER, QUOTA, WHOLE], ""),
+];
 
-#[test]
-fn first_log_shows_its_tree(rt: HostRuntime) -> Result<(), Fail> {
-    let log = [HEADER, OPEN, CREATE_SUM, CREATE_RECORD, LAST_BYTE, CLOSE];
-    assert_eq!(rt; joined(&rt, log.as_slice())?.len(), 2 * 199);
-    let head = [HEADER, OPEN, CREATE_SUM, CREATE_RECORD, LAST_BYTE];
-    let second = [SECOND_TREE, ZOOKEEPER, QUOTA, WHOLE];
-    let rows = [
-        (
-            Order::Show { upto: None },
-            log.as_slice(),
-            [LAST_TREE, ZOOKEEPER, QUOTA, WHOLE].as_slice(),
-            "",
-        ),
-        (
-            Order::Show { upto: None },
-            head.as_slice(),
-            second.as_slice(),
-            "",
-        ),
-        (
-            Order::Show {
-                upto: Some(0x1_0000_0002),
-            },
-            log.as_slice(),
-            second.as_slice(),
-            "",
-        ),
-        (
-            Order::Show {
-                upto: Some(0x1_0000_0001),
-            },
-            log.as_slice(),
-            [FIRST_TREE, NEW_ROOT, ZOOKEEPER, QUOTA, WHOLE].as_slice(),
-            "",
-        ),
-        (
-            Order::Show {
-                upto: Some(i64::MIN),
-            },
-            log.as_slice(),
-            [NO_TXN, NEW_ROOT, ZOOKEEPER, QUOTA, WHOLE].as_slice(),
-            "",
-        ),
-    ];
-    check_all(&rt, rows.as_slice())
+/// Whether parts are so many bytes.
+fn are_bytes(alloc: Global, parts: &[&str], count: usize) -> bool {
+    let mut bytes = Vec::new(alloc);
+    push_parts(alloc, &mut bytes, parts, true) && bytes.len() == count
 }
 
 #[test]
-fn torn_padded_and_damaged_logs(rt: HostRuntime) -> Result<(), Fail> {
-    let last = Order::Show { upto: None };
-    let rows = [
-        (
-            last,
-            [HEADER, OPEN, CREATE_SUM, CREATE_RECORD].as_slice(),
-            [FIRST_TREE, NEW_ROOT, ZOOKEEPER, QUOTA, "end torn 65\n"].as_slice(),
-            "",
-        ),
-        (
-            last,
-            [
-                HEADER,
-                OPEN,
-                CREATE_SUM,
-                CREATE_RECORD,
-                LAST_BYTE,
-                "000000000000000000000000",
-            ]
-            .as_slice(),
-            [SECOND_TREE, ZOOKEEPER, QUOTA, "end padding\n"].as_slice(),
-            "",
-        ),
-        // the last byte of the second entry's checksum
-        (
-            last,
-            [HEADER, OPEN, "000000009d970700", CREATE_RECORD, LAST_BYTE].as_slice(),
-            [""].as_slice(),
-            "zk: G2 65\n",
-        ),
-        // a header without its last byte
-        (
-            last,
-            ["5a4b4c470000000200000000000000"].as_slice(),
-            [""].as_slice(),
-            "zk: G1\n",
-        ),
-        (
-            last,
-            [
-                HEADER,
-                OPEN,
-                CREATE_SUM,
-                CREATE_RECORD,
-                LAST_BYTE,
-                CREATE_SUM,
-                CREATE_RECORD,
-                LAST_BYTE,
-            ]
-            .as_slice(),
-            [""].as_slice(),
-            "zk: G4 154\n",
-        ),
-        (
-            last,
-            [HEADER, OPEN, CREATE_SUM, CREATE_RECORD, LAST_BYTE, NO_KIND].as_slice(),
-            [""].as_slice(),
-            "zk: G3 154\n",
-        ),
-    ];
-    check_all(&rt, rows.as_slice())
+fn first_log_shows_its_tree(rt: HostRuntime) {
+    assert!(rt; are_bytes(rt.alloc(), LOG, 199));
+    assert_eq!(rt; first_wrong(rt.alloc(), &TREES), None);
 }
 
-#[test]
-fn sessions_stand_in_order_and_texts_are_escaped(rt: HostRuntime) -> Result<(), Fail> {
-    let rows = [
-        (
-            Order::Show { upto: None },
-            [HEADER, HIGH_SESSION, LOW_SESSION].as_slice(),
-            [
-                "zxid 0000000000000002\nsession 0000000000000001 6000\nsession 8000000000000001 5000\n",
-                NEW_ROOT,
-                ZOOKEEPER,
-                QUOTA,
-                WHOLE,
-            ]
-            .as_slice(),
-            "",
-        ),
-        (
-            Order::Show { upto: None },
-            [HEADER, QUOTES].as_slice(),
-            [
-                "zxid 0000000000000001\n",
-                "\"/\" x 1 31 \"world\" \"anyone\" 0000000000000000 0000000000000000 0 0 0 0 0 0000000000000000 0 2 0000000000000001\n",
-                "\"/\\\"\\\\\" - 2 31 \"world\" \"anyone\" -1 \"a\\\"b\" \"\\u{1}\\u{7f}\u{e9}\" 0000000000000001 0000000000000001 -5 -5 0 0 0 0000000000000000 0 0 0000000000000001\n",
-                ZOOKEEPER,
-                QUOTA,
-                WHOLE,
-            ]
-            .as_slice(),
-            "",
-        ),
-    ];
-    check_all(&rt, rows.as_slice())
-}
+static ENDS: [Row; 6] = [
+    (
+        LAST,
+        &[HEADER, OPEN, CREATE_SUM, CREATE_RECORD],
+        &[FIRST_TREE, NEW_ROOT, ZOOKEEPER, QUOTA, "end torn 65\n"],
+        "",
+    ),
+    (
+        LAST,
+        &[
+            HEADER,
+            OPEN,
+            CREATE_SUM,
+            CREATE_RECORD,
+            LAST_BYTE,
+            "000000000000000000000000",
+        ],
+        &[SECOND_TREE, ZOOKEEPER, QUOTA, "end padding\n"],
+        "",
+    ),
+    (LAST, DAMAGED, &[], "zk: G2 65\n"),
+    (LAST, CUT_HEADER, &[], "zk: G1\n"),
+    (LAST, TWICE, &[], "zk: G4 154\n"),
+    (LAST, UNKNOWN, &[], "zk: G3 154\n"),
+];
 
 #[test]
-fn logs_list_and_assemble(rt: HostRuntime) -> Result<(), Fail> {
-    let log = [HEADER, OPEN, CREATE_SUM, CREATE_RECORD, LAST_BYTE, CLOSE];
-    let listing = [OPEN_LINE, CREATE_LINE, CLOSE_LINE];
-    let rows = [
-        (Order::List, log.as_slice(), listing.as_slice(), ""),
-        (Order::Asm, listing.as_slice(), log.as_slice(), ""),
-        (Order::List, [HEADER].as_slice(), [""].as_slice(), ""),
-        (Order::Asm, [""].as_slice(), [HEADER].as_slice(), ""),
-    ];
-    check_all(&rt, rows.as_slice())
+fn torn_padded_and_damaged_logs(rt: HostRuntime) {
+    assert_eq!(rt; first_wrong(rt.alloc(), &ENDS), None);
 }
 
+static ORDERED: [Row; 2] = [
+    (
+        LAST,
+        &[HEADER, HIGH_SESSION, LOW_SESSION],
+        &[
+            "zxid 0000000000000002\nsession 0000000000000001 6000\nsession 8000000000000001 5000\n",
+            NEW_ROOT,
+            ZOOKEEPER,
+            QUOTA,
+            WHOLE,
+        ],
+        "",
+    ),
+    (
+        LAST,
+        &[HEADER, QUOTES],
+        &[
+            "zxid 0000000000000001\n",
+            "\"/\" x 1 31 \"world\" \"anyone\" 0000000000000000 0000000000000000 0 0 0 0 0 0000000000000000 0 2 0000000000000001\n",
+            "\"/\\\"\\\\\" - 2 31 \"world\" \"anyone\" -1 \"a\\\"b\" \"\\u{1}\\u{7f}\u{e9}\" 0000000000000001 0000000000000001 -5 -5 0 0 0 0000000000000000 0 0 0000000000000001\n",
+            ZOOKEEPER,
+            QUOTA,
+            WHOLE,
+        ],
+        "",
+    ),
+];
+
 #[test]
-fn refused_listings_leave_the_output_empty(rt: HostRuntime) -> Result<(), Fail> {
-    let rows = [
-        (
-            Order::Asm,
-            [OPEN_LINE, "+1\n"].as_slice(),
-            [""].as_slice(),
-            "zk: L2 2\n",
-        ),
-        (
-            Order::Asm,
-            [CREATE_LINE, OPEN_LINE].as_slice(),
-            [""].as_slice(),
-            "zk: order 2\n",
-        ),
-        (
-            Order::Asm,
-            [OPEN_LINE, OPEN_LINE, "+1\n"].as_slice(),
-            [""].as_slice(),
-            "zk: L2 3\n",
-        ),
-        (
-            Order::Asm,
-            [OPEN_LINE, OPEN_LINE].as_slice(),
-            [""].as_slice(),
-            "zk: order 2\n",
-        ),
-        (
-            Order::Asm,
-            [ZERO_LINE].as_slice(),
-            [""].as_slice(),
-            "zk: order 1\n",
-        ),
-    ];
-    check_all(&rt, rows.as_slice())?;
-    let output = DripOut::new(rt.alloc(), 4, None);
-    let input = DripIn::new(b"0\xff", 7, None);
-    check(
-        &rt,
-        Order::Asm,
-        input,
-        no_script(),
-        output,
-        (b"", "zk: utf8\n"),
-    )
+fn sessions_stand_in_order_and_texts_are_escaped(rt: HostRuntime) {
+    assert_eq!(rt; first_wrong(rt.alloc(), &ORDERED), None);
+}
+
+/// The listing of the first log.
+const LISTING: &[&str] = &[OPEN_LINE, CREATE_LINE, CLOSE_LINE];
+
+static LISTINGS: [Row; 4] = [
+    (List, LOG, LISTING, ""),
+    (Asm, LISTING, LOG, ""),
+    (List, &[HEADER], &[], ""),
+    (Asm, &[], &[HEADER], ""),
+];
+
+#[test]
+fn logs_list_and_assemble(rt: HostRuntime) {
+    assert_eq!(rt; first_wrong(rt.alloc(), &LISTINGS), None);
+}
+
+static REFUSED: [Row; 5] = [
+    (Asm, &[OPEN_LINE, "+1\n"], &[], "zk: L2 2\n"),
+    (Asm, &[CREATE_LINE, OPEN_LINE], &[], "zk: order 2\n"),
+    (Asm, &[OPEN_LINE, OPEN_LINE, "+1\n"], &[], "zk: L2 3\n"),
+    (Asm, &[OPEN_LINE, OPEN_LINE], &[], "zk: order 2\n"),
+    (Asm, &[ZERO_LINE], &[], "zk: order 1\n"),
+];
+
+#[test]
+fn refused_listings_leave_the_output_empty(rt: HostRuntime) {
+    let alloc = rt.alloc();
+    assert_eq!(rt; first_wrong(alloc, &REFUSED), None);
+    assert!(rt; refuses(alloc, Asm, (b"0\xff", 7, None), b"", "zk: utf8\n"));
 }
 
 /// An order, the log in hexadecimal digits, the text that is read beside it or in place of it, and the line of the fault.
@@ -389,37 +331,10 @@ type FaultRow = (Order, &'static [&'static str], &'static [u8], &'static str);
 
 /// A fault of each kind that needs no failing device.
 static FAULTS: [FaultRow; 22] = [
-    // a header without its last byte
-    (LAST, &["5a4b4c470000000200000000000000"], b"", "zk: G1\n"),
-    // the last byte of the second entry's checksum
-    (
-        LAST,
-        &[HEADER, OPEN, "000000009d970700", CREATE_RECORD, LAST_BYTE],
-        b"",
-        "zk: G2 65\n",
-    ),
-    (
-        LAST,
-        &[HEADER, OPEN, CREATE_SUM, CREATE_RECORD, LAST_BYTE, NO_KIND],
-        b"",
-        "zk: G3 154\n",
-    ),
-    // the second entry twice
-    (
-        Order::List,
-        &[
-            HEADER,
-            OPEN,
-            CREATE_SUM,
-            CREATE_RECORD,
-            LAST_BYTE,
-            CREATE_SUM,
-            CREATE_RECORD,
-            LAST_BYTE,
-        ],
-        b"",
-        "zk: G4 154\n",
-    ),
+    (LAST, CUT_HEADER, b"", "zk: G1\n"),
+    (LAST, DAMAGED, b"", "zk: G2 65\n"),
+    (LAST, UNKNOWN, b"", "zk: G3 154\n"),
+    (List, TWICE, b"", "zk: G4 154\n"),
     // a length of 16,777,217 bytes
     (
         Order::Debug,
@@ -434,225 +349,219 @@ static FAULTS: [FaultRow; 22] = [
         b"step\n",
         "zk: G5 154\n",
     ),
-    (Order::Asm, &[], b"\n", "zk: L1 1\n"),
-    (Order::Asm, &[], b"+1\n", "zk: L2 1\n"),
+    (Asm, &[], b"\n", "zk: L1 1\n"),
+    (Asm, &[], b"+1\n", "zk: L2 1\n"),
     (
-        Order::Asm,
+        Asm,
         &[],
         b"0000000100000001 0100000000000001 0 1000 delete /a\n",
         "zk: L3 1\n",
     ),
     (
-        Order::Asm,
+        Asm,
         &[],
         b"0000000100000001 0100000000000001 0 1000 setData \"/a\" x6 0\n",
         "zk: L4 1\n",
     ),
     (
-        Order::Asm,
+        Asm,
         &[],
         b"0000000100000001 0100000000000001 0 1000 open 30000\n",
         "zk: L5 1\n",
     ),
     (
-        Order::Asm,
+        Asm,
         &[],
         b"0000000100000001 0100000000000001 0 1000 delete \"a\"\n",
         "zk: L6 1\n",
     ),
-    (Order::Asm, &[], b"x", "zk: L7 1\n"),
+    (Asm, &[], b"x", "zk: L7 1\n"),
     // two equal zxids
     (
-        Order::Asm,
+        Asm,
         &[],
         b"0000000000000001 0000000000000000 0 0 closeSession\n\
           0000000000000001 0000000000000000 0 0 closeSession\n",
         "zk: order 2\n",
     ),
-    (Order::Asm, &[], b"0\xff", "zk: utf8\n"),
+    (Asm, &[], b"0\xff", "zk: utf8\n"),
     (Order::Debug, &[HEADER], b"step\xff", "zk: utf8\n"),
-    (Order::Run, &[], b"servers 2\xff", "zk: utf8\n"),
+    (Run, &[], b"servers 2\xff", "zk: utf8\n"),
     (Order::Debug, &[HEADER], b"stop\n", "zk: script 1\n"),
     (Order::Debug, &[HEADER], b"\n", "zk: script 1\n"),
-    (Order::Run, &[], b"lead 1\n", "zk: script 1\n"),
-    (Order::Run, &[], b"servers 1\n", "zk: script 1\n"),
-    (Order::Run, &[], b"\n", "zk: script 1\n"),
-    (Order::Run, &[], b"", "zk: script 1\n"),
+    (Run, &[], b"lead 1\n", "zk: script 1\n"),
+    (Run, &[], b"servers 1\n", "zk: script 1\n"),
+    (Run, &[], b"\n", "zk: script 1\n"),
+    (Run, &[], b"", "zk: script 1\n"),
 ];
 
-const LAST: Order = Order::Show { upto: None };
-
-/// Whether an order reads a text in place of a log.
-fn reads_text(order: Order) -> bool {
-    matches!(order, Order::Asm | Order::Run)
-}
-
-/// Acts, and nothing is written but the fault.
-fn check_fault(rt: &(impl Abort + AllocGlobal), row: &FaultRow) -> Result<(), Fail> {
-    let (order, log, text, told) = *row;
-    let log = joined(rt, log)?;
-    let log = hex::decode(rt.alloc(), log.as_str())?;
-    let file = if reads_text(order) { text } else { &log };
-    let source = DripIn::new(file, 7, None);
-    let output = DripOut::new(rt.alloc(), 4, None);
-    check(
-        rt,
-        order,
-        source,
-        DripIn::new(text, 5, None),
-        output,
-        (b"", told),
-    )
+/// Whether an order writes nothing but the fault of a row.
+fn has_fault(alloc: Global, row: &FaultRow) -> bool {
+    let (order, parts, text, told) = *row;
+    let mut log = Vec::new(alloc);
+    let is_spelled = push_parts(alloc, &mut log, parts, true);
+    let file = if reads_log(order) {
+        log.as_slice()
+    } else {
+        text
+    };
+    is_spelled && refuses(alloc, order, (file, 7, None), text, told)
 }
 
 #[test]
-fn each_fault_has_its_line_and_status(rt: HostRuntime) -> Result<(), Fail> {
+fn each_fault_has_its_line_and_status(rt: HostRuntime) {
     for row in &FAULTS {
-        check_fault(&rt, row)?;
+        assert!(rt; has_fault(rt.alloc(), row), "{}", row.3);
     }
-    Ok(())
 }
 
-/// The header and the head of an entry of 16,777,216 bytes, and so many bytes more.
-fn long_entry(alloc: Global, length: usize) -> Result<Vec<u8>, Fail> {
-    let mut log = hex::decode(
-        alloc,
-        "5a4b4c47000000020000000000000000000000000000000001000000",
-    )?;
-    log.extend_from_slice(vec![in alloc; 0; length]?.as_slice())?;
-    Ok(log)
+/// The header and the head of an entry of 16,777,216 bytes.
+const LONG_ENTRY: &str = "5a4b4c47000000020000000000000000000000000000000001000000";
+
+/// Whether a log with so many bytes of a long entry is read to no end, one byte at a time.
+fn is_endless(alloc: Global, length: usize) -> bool {
+    let mut log = Vec::new(alloc);
+    let zeros = vec![in alloc; 0; length];
+    push_spelled(alloc, &mut log, LONG_ENTRY)
+        && matches!(&zeros, Ok(zeros) if log.extend_from_slice(zeros.as_slice()).is_ok())
+        && refuses(alloc, LAST, (log.as_slice(), 1, None), b"", "zk: G7\n")
 }
 
-/// Acts on a file that is read one byte at a time, and nothing is written but the fault.
-fn check_long(
-    rt: &(impl Abort + AllocGlobal),
-    order: Order,
-    file: &[u8],
-    told: &str,
-) -> Result<(), Fail> {
-    let source = DripIn::new(file, 1, None);
-    let output = DripOut::new(rt.alloc(), 4, None);
-    check(rt, order, source, no_script(), output, (b"", told))
-}
-
-#[test]
-fn reads_are_counted_up_to_1048576(rt: HostRuntime) -> Result<(), Fail> {
-    let log = long_entry(rt.alloc(), 1_048_576)?;
-    check_long(&rt, LAST, &log, "zk: G7\n")?;
+/// Whether a text of newlines is read up to its last byte alone, one byte at a time.
+fn is_read_but_for_one(alloc: Global, text: &[u8]) -> bool {
+    let [_, rest @ ..] = text else {
+        return false;
+    };
     // the last of the reads meets the end, and with one byte more it does not
-    let text = vec![in rt.alloc(); b'\n'; 1_048_576]?;
-    check_long(&rt, Order::Asm, &text[1..], "zk: L1 1\n")?;
-    check_long(&rt, Order::Asm, &text, "zk: read\n")?;
-    check_long(&rt, Order::Run, &text, "zk: read\n")
+    refuses(alloc, Asm, (rest, 1, None), b"", "zk: L1 1\n")
+        && refuses(alloc, Asm, (text, 1, None), b"", "zk: read\n")
+        && refuses(alloc, Run, (text, 1, None), b"", "zk: read\n")
+}
+
+/// The same of so many newlines.
+fn are_read_but_for_one(alloc: Global, count: usize) -> bool {
+    let text = vec![in alloc; b'\n'; count];
+    matches!(&text, Ok(text) if is_read_but_for_one(alloc, text.as_slice()))
 }
 
 #[test]
-fn failing_devices_are_told(rt: HostRuntime) -> Result<(), Fail> {
-    let log = [HEADER, OPEN, CREATE_SUM, CREATE_RECORD, LAST_BYTE];
-    let last = Order::Show { upto: None };
-    for (order, input, output, told, good_reads, good_writes) in [
-        // three writes of four bytes
-        (
-            last,
-            log.as_slice(),
-            ["zxid 0000000"].as_slice(),
-            "zk: write\n",
-            None,
-            Some(3),
-        ),
-        (
-            last,
-            log.as_slice(),
-            [""].as_slice(),
-            "zk: G6\n",
-            Some(4),
-            None,
-        ),
-        (
-            Order::Asm,
-            [OPEN_LINE].as_slice(),
-            [""].as_slice(),
-            "zk: read\n",
-            Some(4),
-            None,
-        ),
-        // two writes of four bytes
-        (
-            Order::Asm,
-            [OPEN_LINE].as_slice(),
-            ["5a4b4c4700000002"].as_slice(),
-            "zk: write\n",
-            None,
-            Some(2),
-        ),
-    ] {
-        check_failing(&rt, &(order, input, output, told), good_reads, good_writes)?;
-    }
-    Ok(())
+fn reads_are_counted_up_to_1048576(rt: HostRuntime) {
+    assert!(rt; is_endless(rt.alloc(), 1_048_576));
+    assert!(rt; are_read_but_for_one(rt.alloc(), 1_048_576));
 }
 
-/// A fault's line is its text behind the program's name.
-fn check_line(
-    rt: &(impl Abort + AllocGlobal),
-    fault: &impl Display,
-    line: Result<String, NoMemory>,
-) -> Result<(), Fail> {
-    let text = format!(in rt.alloc(); "zk: {fault}\n")?;
-    assert_eq!(rt; line?.as_str(), text.as_str());
-    Ok(())
+/// Rows, and after how many reads and after how many writes one fails.
+static FAILING: [(Row, Option<u64>, Option<u64>); 4] = [
+    // three writes of four bytes
+    (
+        (LAST, HEAD, &["zxid 0000000"], "zk: write\n"),
+        None,
+        Some(3),
+    ),
+    ((LAST, HEAD, &[], "zk: G6\n"), Some(4), None),
+    ((Asm, &[OPEN_LINE], &[], "zk: read\n"), Some(4), None),
+    // two writes of four bytes
+    (
+        (Asm, &[OPEN_LINE], &["5a4b4c4700000002"], "zk: write\n"),
+        None,
+        Some(2),
+    ),
+];
+
+#[test]
+fn failing_devices_are_told(rt: HostRuntime) {
+    for (row, good_reads, good_writes) in &FAILING {
+        assert!(rt;
+            does(rt.alloc(), row, *good_reads, *good_writes),
+            "{}",
+            row.3
+        );
+    }
+}
+
+static LOG_FAULTS: [LogFault; 8] = [
+    LogFault::Header,
+    LogFault::Checksum(65),
+    LogFault::Record(65, JuteFault::Kind),
+    LogFault::Order(65),
+    LogFault::TooLong(65),
+    LogFault::Read,
+    LogFault::Endless,
+    LogFault::NoMemory,
+];
+
+/// Why the second line of a text is refused.
+static CAUSES: [ListCause; 8] = [
+    ListCause::Fields,
+    ListCause::Number,
+    ListCause::Quote,
+    ListCause::Hex,
+    ListCause::Word,
+    ListCause::Path,
+    ListCause::NoNewline,
+    ListCause::NoMemory,
+];
+
+static ASM_FAULTS: [AsmFault; 5] = [
+    AsmFault::Read,
+    AsmFault::Utf8,
+    AsmFault::Order(2),
+    AsmFault::Length(2),
+    AsmFault::NoMemory,
+];
+
+/// Whether a line is a fault's text behind the program's name.
+fn is_line(alloc: Global, fault: &impl Display, line: &str) -> bool {
+    matches!(format!(in alloc; "zk: {fault}\n"), Ok(text) if text.as_str() == line)
+}
+
+fn log_fault_has_line(alloc: Global, fault: LogFault) -> bool {
+    matches!(&log_line(alloc, fault), Ok(line) if is_line(alloc, &fault, line.as_str()))
+}
+
+fn asm_fault_has_line(alloc: Global, fault: AsmFault) -> bool {
+    matches!(&asm_line(alloc, fault), Ok(line) if is_line(alloc, &fault, line.as_str()))
 }
 
 #[test]
-fn lines_of_faults_are_their_texts(rt: HostRuntime) -> Result<(), Fail> {
-    for fault in [
-        LogFault::Header,
-        LogFault::Checksum(65),
-        LogFault::Record(65, JuteFault::Kind),
-        LogFault::Order(65),
-        LogFault::TooLong(65),
-        LogFault::Read,
-        LogFault::Endless,
-        LogFault::NoMemory,
-    ] {
-        check_line(&rt, &fault, log_line(rt.alloc(), fault))?;
+fn lines_of_faults_are_their_texts(rt: HostRuntime) {
+    for fault in &LOG_FAULTS {
+        assert!(rt; log_fault_has_line(rt.alloc(), *fault));
     }
-    for fault in [
-        AsmFault::Read,
-        AsmFault::Utf8,
-        AsmFault::Order(2),
-        AsmFault::Length(2),
-        AsmFault::NoMemory,
-        refused(ListCause::Fields),
-        refused(ListCause::Number),
-        refused(ListCause::Quote),
-        refused(ListCause::Hex),
-        refused(ListCause::Word),
-        refused(ListCause::Path),
-        refused(ListCause::NoNewline),
-        refused(ListCause::NoMemory),
-    ] {
-        check_line(&rt, &fault, asm_line(rt.alloc(), fault))?;
+    for fault in &ASM_FAULTS {
+        assert!(rt; asm_fault_has_line(rt.alloc(), *fault));
     }
-    Ok(())
+    for cause in &CAUSES {
+        let fault = ListFault {
+            line: 2,
+            cause: *cause,
+        };
+        assert!(rt; asm_fault_has_line(rt.alloc(), AsmFault::Listing(fault)));
+    }
 }
 
-/// The fault of a text whose second line is refused.
-fn refused(cause: ListCause) -> AsmFault {
-    AsmFault::Listing(ListFault { line: 2, cause })
+/// How many turns there are to read ten bytes, five in a read, after how many reads one fails, what comes of it and after how
+/// many reads.
+static TURNS: [(u32, Option<u64>, Option<TextFault>, u64); 4] = [
+    (3, None, None, 3),
+    (2, None, Some(TextFault::Read), 2),
+    (9, Some(3), None, 3),
+    (9, Some(2), Some(TextFault::Read), 3),
+];
+
+/// What comes of reading ten bytes, and how many reads were made.
+fn read_of_ten(alloc: Global, turns: u32, good_reads: Option<u64>) -> (Option<TextFault>, u64) {
+    let mut source = Source::new(DripIn::new(b"0123456789", 5, good_reads));
+    let fault = read_text(alloc, &mut source, turns).err();
+    (fault, source.reads())
 }
 
 #[test]
-fn texts_are_read_to_their_end_and_no_further(rt: HostRuntime) -> Result<(), Fail> {
-    // ten bytes, five in a read: how many turns there are, which read fails, what comes of it and after how many reads
-    for (turns, good_calls, expected) in [
-        (3, None, (None, 3)),
-        (2, None, (Some(TextFault::Read), 2)),
-        (9, Some(3), (None, 3)),
-        (9, Some(2), (Some(TextFault::Read), 3)),
-    ] {
-        let mut source = Source::new(DripIn::new(b"0123456789", 5, good_calls));
-        let read = read_text(rt.alloc(), &mut source, turns);
-        assert_eq!(rt; (read.err(), source.reads()), expected);
+fn texts_are_read_to_their_end_and_no_further(rt: HostRuntime) {
+    for (turns, good_reads, fault, reads) in &TURNS {
+        assert_eq!(rt;
+            read_of_ten(rt.alloc(), *turns, *good_reads),
+            (*fault, *reads)
+        );
     }
-    Ok(())
 }

@@ -1,3 +1,4 @@
+pub mod Keeping
 pub mod Lent
 pub mod Quiet
 pub mod Replicas

@@ -45,7 +45,7 @@ use Rattle.zk_ensemble.proofs.Quiet.{refused_is_quiet, resting_is_quiet}
 
 -- ---- how it stands
 
-stands : (below : Below) (shown : List Shown) → IsOfRun below shown → Stands (profile_in below) below.servers (ensemble below.world shown)
+pub stands : (below : Below) (shown : List Shown) → IsOfRun below shown → Stands (profile_in below) below.servers (ensemble below.world shown)
 stands below shown r =
     subst (Stands (profile_in below) below.servers) (sym r.reached)
     (stands_in_run (profile_in below) entry_zxid (heavy_share below.quorums) below.servers r.events)
@@ -137,7 +137,7 @@ pub record IsStepped (profile : Profile Call) (w : World Call) (event : WorldEve
   pub answers : zab_counting.IsAnswered profile w event answer
   pub kept : answer ≢ Err world_faults.NoMemory
 
-happened : (profile : Profile Call) (w : World Call) (event : WorldEvent Call) (answer : Result Moved WorldFault) (next : World Call) (s : IsStepped profile w event answer next) → next ≡ (zab.happens profile w (counts_as profile w event answer s.answers s.kept).it).0
+pub happened : (profile : Profile Call) (w : World Call) (event : WorldEvent Call) (answer : Result Moved WorldFault) (next : World Call) (s : IsStepped profile w event answer next) → next ≡ (zab.happens profile w (counts_as profile w event answer s.answers s.kept).it).0
 happened profile w event answer next s = s.counts ∙ ap (zab_runs.after profile w) (counts_as profile w event answer s.answers s.kept).one
 
 pub no_shorter : (below : Below) (shown : List Shown) (event : WorldEvent Call) (answer : Result Moved WorldFault) (next : World Call) (number : ℕ) → IsOfRun below shown → IsStepped (profile_in below) below.world event answer next → is_running next number ≡ true → length (delivered_of below.world number) ≤ length (delivered_of next number)
@@ -286,14 +286,11 @@ next_in_run v more y r fits is =
     (fit_more r.some more r.fit fits)
 
 -- and so it is that of a run again
-pub of_run : (below next : Below) (shown news : List Shown) (more : List Event) → IsOfRun below shown → FitEvents more → next.quorums ≡ below.quorums → next.servers ≡ below.servers → ensemble next.world news ≡ after (profile_in below) (ensemble below.world shown) more → IsOfRun next news
-of_run below next shown news more r fits quorums servers is = record {
-  events = r.events ++ more;
-  fit = fit_more r.events more r.fit fits;
-  reached = goes_on (profile_in below) (new_ensemble below.servers) (ensemble below.world shown) (ensemble next.world news) r.events more r.reached is
-      ∙ ap (λ (q : List ℕ). (run (profile_in (record { quorums = q; servers = below.servers; world = next.world })) below.servers (r.events ++ more)).0) (sym quorums)
-      ∙ ap (λ n. (run (profile_in next) n (r.events ++ more)).0) (sym servers);
-}
+pub reached_more : (below next : Below) (shown news : List Shown) (more : List Event) (r : IsOfRun below shown) → next.quorums ≡ below.quorums → next.servers ≡ below.servers → ensemble next.world news ≡ after (profile_in below) (ensemble below.world shown) more → ensemble next.world news ≡ (run (profile_in next) next.servers (r.events ++ more)).0
+reached_more below next shown news more r quorums servers is =
+    goes_on (profile_in below) (new_ensemble below.servers) (ensemble below.world shown) (ensemble next.world news) r.events more r.reached is
+    ∙ ap (λ (q : List ℕ). (run (profile_in (record { quorums = q; servers = below.servers; world = next.world })) below.servers (r.events ++ more)).0) (sym quorums)
+    ∙ ap (λ n. (run (profile_in next) n (r.events ++ more)).0) (sym servers)
 
 -- a new one
 pub new_of_run : (below : Below) (shown : List Shown) → ensemble below.world shown ≡ new_ensemble below.servers → IsOfRun below shown
@@ -326,12 +323,6 @@ peeked w shown given question told said all was runs is =
     is
     ∙ ap (λ l. (looks (ensemble w l) question (shown_at l question.server)).1) all
     ∙ ap (λ (p : Ensemble × Told). p.1) (sym (reads_running (ensemble w shown) question (running w.servers question.server) (sym was ∙ runs)))
-
--- after a read it is still that of a run
-pub read_of_run : (below : Below) (shown given news : List Shown) (question : Question) (told : Told) → IsOfRun below shown → given ≡ shown → OnErr told (news ≡ given) → (told ≢ Err faults.NoMemory → (ensemble below.world news, told) ≡ reads (ensemble below.world shown) question (running below.world.servers question.server)) → IsOfRun below news
-read_of_run below shown given news question (Err fault) r all same acts = subst (IsOfRun below) (sym (same ∙ all)) r
-read_of_run below shown given news question (Ok answer) r all same acts =
-    of_run below below shown news (events.Read question ∷ []) r (tt, tt) refl refl (ap (λ (p : Ensemble × Told). p.0) (acts (λ e. absurd cc)))
 
 -- no server dies of a read
 not_died : (fault : EnsembleFault) (number : ℕ) → fault ≢ faults.Died number → (let told : Told = Err fault in told ≡ Err (faults.Died number)) → ⊥

@@ -45,7 +45,7 @@ append_none (x ∷ xs) = ap (λ l. x ∷ l) (append_none xs)
 abbrev pub shown : State → List Answered → List Watch → List Fired → Shown
 shown tree answers watches events = record { tree = tree; answers = answers; watches = watches; events = events }
 
-same_shown : (t u : State) (a b : List Answered) (v w : List Watch) (e f : List Fired) → t ≡ u → a ≡ b → v ≡ w → e ≡ f → shown t a v e ≡ shown u b w f
+pub same_shown : (t u : State) (a b : List Answered) (v w : List Watch) (e f : List Fired) → t ≡ u → a ≡ b → v ≡ w → e ≡ f → shown t a v e ≡ shown u b w f
 same_shown t u a b v w e f p q r s =
     ap (λ x. shown x a v e) p ∙ ap (λ x. shown u x v e) q ∙ ap (λ x. shown u b x e) r ∙ ap (λ x. shown u b w x) s
 

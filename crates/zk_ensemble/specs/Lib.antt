@@ -1,3 +1,4 @@
 -- What the contracts of this crate cite.
+pub mod Keeping
 pub mod Outcomes
 pub mod Views

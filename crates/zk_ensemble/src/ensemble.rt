@@ -3,6 +3,7 @@ ghost use Rattle.zab_runs.specs.declared.fault.WorldFault.TheVariants as world_f
 ghost use Rattle.zk_headline_laws.specs.Consequences.{FitsInWorld};
 ghost use Rattle.zk_runs.specs.Ensembles.{of_world};
 
+use crate::kept::Kept;
 use crate::moving::{catch_up, find, look, peek};
 use crate::replica::Replica;
 use std::alloc::Global;
@@ -27,6 +28,8 @@ pub struct Ensemble {
     alloc: Global,
     world: World<Preparer, Weighted>,
     replicas: Vec<Replica>,
+    /// What each server had delivered before it crashed, while it has delivered nothing since.
+    kept: Vec<Option<Kept>>,
 }
 
 impl Model for Ensemble {
@@ -37,7 +40,8 @@ impl Model for Ensemble {
     ghost use Rattle.zk_runs.specs.contracts.answer.Answered as answered;
     ghost use Rattle.zk_watch.specs.contracts.watch.Watch as watch;
     ghost use Rattle.zk_watch.specs.contracts.watch.Fired as fired;
-    ghost use Rattle.zk_ensemble.specs.Views.{EnsembleView, world_code, below_code, shown_code, ensemble_code, below_by, IsOfRun};
+    ghost use Rattle.zk_ensemble.specs.Views.{EnsembleView, world_code, below_code, shown_code, ensemble_code, below_by};
+    ghost use Rattle.zk_ensemble.specs.Keeping.{IsStanding};
 
     ghost Value = { EnsembleView };
 
@@ -47,7 +51,7 @@ impl Model for Ensemble {
 
     ghost view = { λ it. record { below = below_by it.world; shown = it.replicas.items } };
 
-    ghost invariant = { λ it. IsOfRun (below_by it.world) it.replicas.items };
+    ghost invariant = { λ it. IsStanding (below_by it.world) it.replicas.items it.kept.items };
 }
 
 impl Ensemble {
@@ -94,13 +98,16 @@ impl Ensemble {
         let servers = weights.servers();
         let world = World::with(alloc, servers, weights)?;
         let mut replicas = Vec::new(alloc);
+        let mut kept = Vec::new(alloc);
         for _ in 0..servers {
             replicas.push(Replica::new(alloc))?;
+            kept.push(None)?;
         }
         Ok(Ensemble {
             alloc,
             world,
             replicas,
+            kept,
         })
     }
 
@@ -145,7 +152,8 @@ impl Ensemble {
         if is_no_memory(&answer) {
             return Err(EnsembleFault::NoMemory);
         }
-        if catch_up(self.alloc, &self.world, &mut self.replicas, number, before).is_err() {
+        let (replicas, kept) = (&mut self.replicas, &mut self.kept);
+        if catch_up(self.alloc, &self.world, replicas, kept, number, before).is_err() {
             self.world.fail();
             return Err(EnsembleFault::Died(number));
         }

@@ -6,6 +6,7 @@
 #![tactic(auto)]
 
 mod ensemble;
+mod kept;
 mod moving;
 mod outcome;
 mod replica;

@@ -1,17 +1,19 @@
 //! What an event does to the servers' trees.
 
-ghost use Rattle.std.specs.Prelude.{◌≡◌, ◌≢◌, ◌≤◌, ◌<◌, length, true, if◌then◌else◌, int_lt, Some, None, Err, OnOk, OnErr};
+ghost use Rattle.std.specs.Prelude.{◌≡◌, ◌≢◌, ◌≤◌, ◌<◌, ◌⊎◌, length, true, if◌then◌else◌, int_lt, Some, None, Err, IfSome, OnOk, OnErr};
 ghost use Rattle.std.specs.Option.{option_copied};
 ghost use Rattle.zab_runs.specs.Running.{is_running};
 ghost use Rattle.zab_runs.specs.Runs.{delivered_of};
 ghost use Rattle.zab_runs.specs.Worlds.{World as WorldState};
 ghost use Rattle.zk_prepare.specs.declared.call.Call.{Call as SomeCall};
 ghost use Rattle.zk_runs.specs.declared.fault.EnsembleFault.TheVariants as faults;
-ghost use Rattle.zk_runs.specs.Ensembles.{fresh, ensemble, shown_at, at_server, shown_then, looks};
+ghost use Rattle.zk_runs.specs.Ensembles.{fresh, ensemble, shown_at, at_server, shown_then, take_all, looks};
+ghost use Rattle.zk_ensemble.specs.Keeping.{MayServe, IsShownBy, EachKept, WasKept, WasShown};
 
+use crate::kept::Kept;
 use crate::replica::Replica;
 use std::alloc::Global;
-use zab_epoch::Weighted;
+use zab_epoch::{Entries, Weighted};
 use zab_world::World;
 use zk_path::NoMemory;
 use zk_primary::Preparer;
@@ -27,27 +29,33 @@ pub(crate) fn find(replicas: &[Replica], number: usize) -> Option<&Replica>
     replicas.get(number - 1)
 }
 
-/// The server with this number delivers what it had not delivered before; one that is down shows what a new one does. Where
-/// memory was refused, it shows that, too.
+/// The server with this number delivers what it had not delivered before; one that is down shows what a new one does, and what
+/// it had delivered is kept for it. Where memory was refused, it shows what a new one does, too.
 pub(crate) fn catch_up(
     alloc: Global,
     world: &World<Preparer, Weighted>,
     replicas: &mut [Replica],
+    kept: &mut [Option<Kept>],
     number: usize,
     before: usize,
 ) -> Result<(), NoMemory>
     requires grown { is_running world.now.world number ≡ true → before ≤ length (delivered_of world.now.world number) }
+    requires places { length kept.old ≡ length replicas.old }
+    requires aside { EachKept (MayServe (delivered_of world.now.world number)) kept.old }
     ensures shown { OnOk result (replicas.new
         ≡ at_server (shown_then (is_running world.now.world number) before (delivered_of world.now.world number)) replicas.old number) }
     ensures forgets { OnErr result (replicas.new ≡ at_server (λ _. fresh) replicas.old number) }
     ensures runs { OnErr result (is_running world.now.world number ≡ true) }
     ensures news { OnErr result (before < length (delivered_of world.now.world number)) }
     ensures count { length replicas.new ≡ length replicas.old }
+    ensures places { length kept.new ≡ length kept.old }
+    ensures aside { EachKept (λ it. WasKept kept.old it ⊎ WasShown replicas.old number it) kept.new }
 {
     if number == 0 || number > replicas.len() {
         return Ok(());
     }
-    bring_up(alloc, world, &mut replicas[number - 1], number, before)
+    let (replica, aside) = (&mut replicas[number - 1], &mut kept[number - 1]);
+    bring_up(alloc, world, replica, aside, number, before)
 }
 
 /// One server does.
@@ -55,26 +63,50 @@ fn bring_up(
     alloc: Global,
     world: &World<Preparer, Weighted>,
     replica: &mut Replica,
+    kept: &mut Option<Kept>,
     number: usize,
     before: usize,
 ) -> Result<(), NoMemory>
     requires grown { is_running world.now.world number ≡ true → before ≤ length (delivered_of world.now.world number) }
+    requires aside { IfSome kept.old (MayServe (delivered_of world.now.world number)) }
     ensures shown { OnOk result (replica.new
         ≡ shown_then (is_running world.now.world number) before (delivered_of world.now.world number) replica.old) }
     ensures forgets { OnErr result (replica.new ≡ fresh) }
     ensures runs { OnErr result (is_running world.now.world number ≡ true) }
     ensures news { OnErr result (before < length (delivered_of world.now.world number)) }
+    ensures aside { IfSome kept.new (λ it. (kept.old ≡ Some it) ⊎ IsShownBy replica.old it) }
 {
     if world.running(number).is_err() {
-        *replica = Replica::new(alloc);
+        replica.leave(alloc, kept);
         return Ok(());
     }
     let news = world.delivered(number).behind(before);
-    if replica.take_all(alloc, &news).is_err() {
+    if deliver(alloc, replica, kept, &news, before).is_err() {
         *replica = Replica::new(alloc);
         return Err(NoMemory);
     }
     Ok(())
+}
+
+/// A server delivers entries behind so many. Where these are its first ones, it goes on from what was kept.
+fn deliver(
+    alloc: Global,
+    replica: &mut Replica,
+    kept: &mut Option<Kept>,
+    entries: &Entries<'_>,
+    before: usize,
+) -> Result<(), NoMemory>
+    requires { before ≡ 0 → IfSome kept.old (MayServe entries.now) }
+    ensures taken { OnOk result (replica.new ≡ take_all replica.old entries.now) }
+    ensures some { OnErr result (0 < length entries.now) }
+    ensures aside { IfSome kept.new (λ it. kept.old ≡ Some it) }
+{
+    let many = entries.len();
+    if before > 0 || many == 0 {
+        return replica.take_all(alloc, entries);
+    }
+    let done = replica.go_on(kept, many);
+    replica.take_all(alloc, &entries.behind(done))
 }
 
 /// How a client is refused that has seen more than this server's last transaction.

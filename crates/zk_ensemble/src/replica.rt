@@ -1,11 +1,14 @@
-ghost use Rattle.std.specs.Prelude.{◌≡◌, ◌<◌, ◌-◌, ◌^◌, [], length, false, None, IfOk, OnOk, OnErr};
+ghost use Rattle.std.specs.Prelude.{◌≡◌, ◌<◌, ◌-◌, ◌^◌, ◌⊎◌, [], length, true, false, Some, None, IfOk, IfSome, OnOk, OnErr};
 ghost use Rattle.zk_machine.specs.Changes.{changes_of};
 ghost use Rattle.zk_runs.specs.Ensembles.{fresh, waiting, take_in, take_all, kind_set, watching, reply_of};
 ghost use Rattle.zk_table.specs.Steps.{step};
+ghost use Rattle.zk_ensemble.specs.Keeping.{IsShownBy, GoesOn};
 ghost use Rattle.zk_ensemble.specs.Views.{tree_by, HasNotFailed};
 
+use crate::kept::Kept;
 use std::alloc::Global;
 use std::marker::Model;
+use std::mem::replace;
 use zab_epoch::Entries;
 use zk_machine::{Applied, Machine};
 use zk_path::NoMemory;
@@ -108,6 +111,53 @@ impl Replica {
             self.take_in(alloc, tags[index], &txns[index])?;
         }
         Ok(())
+    }
+
+    /// Shows nothing any more. What it had delivered, if anything, is kept in place of what was.
+    pub(crate) fn leave(&mut self, alloc: Global, kept: &mut Option<Kept>)
+        ensures gone { self.new ≡ fresh }
+        ensures aside { IfSome kept.new (λ it. (kept.old ≡ Some it) ⊎ IsShownBy self.old it) }
+    {
+        let Replica {
+            machine,
+            answers,
+            ..
+        } = replace(self, Replica::new(alloc));
+        if let Some(machine) = machine {
+            *kept = Some(Kept { machine, answers });
+        }
+    }
+
+    /// Goes on from what was kept, where nothing was delivered yet and at most so many entries were delivered then; and how many
+    /// these are.
+    pub(crate) fn go_on(&mut self, kept: &mut Option<Kept>, most: usize) -> usize
+        requires { IfSome kept.old (λ it. it.machine.failed ≡ false) }
+        ensures goes_on { ((self.new ≡ self.old) × (result ≡ 0)) ⊎ GoesOn self.old kept.old most self.new result }
+        ensures aside { IfSome kept.new (λ it. kept.old ≡ Some it) }
+    {
+        if !self.is_unbegun() {
+            return 0;
+        }
+        let Some(Kept { machine, answers }) = kept.take() else {
+            return 0;
+        };
+        let count = answers.len();
+        if count > most {
+            return 0;
+        }
+        self.machine = Some(machine);
+        self.answers = answers;
+        count
+    }
+
+    /// Whether it has delivered nothing, and nobody watches.
+    fn is_unbegun(&self) -> bool
+        ensures { result ≡ true → self.now ≡ fresh }
+    {
+        self.machine.is_none()
+            && self.answers.is_empty()
+            && self.watches.as_slice().is_empty()
+            && self.events.is_empty()
     }
 
     /// The last transaction that was delivered, and 0 before the first.

@@ -32,16 +32,7 @@ fn looking(alloc: Global, path: Path) -> Ask {
     }
 }
 
-fn syncing() -> Ask {
-    Ask::Sync { session: 9 }
-}
-
-/// Whether an ask is of this session, and is answered by this.
-fn is_of(ask: &Ask, session: i64, sought: Sought) -> bool {
-    session_of(ask) == session && sought_by(ask) == sought
-}
-
-/// Whether an event is the submit of a close, with this tag and at this time.
+/// Whether an event is the submit of the close, with this tag and at this time.
 fn is_close(event: &Event, tag: u64, now: i64) -> bool {
     match event {
         Event::World(zab_runs::Event::Submit { server, call }) => {
@@ -78,36 +69,61 @@ fn is_sync(event: &Event, sought: u64) -> bool {
     }
 }
 
+/// Whether an event is what an ask that is answered so makes happen, with this tag and at 1000.
+fn is_event(event: &Event, sought: Sought, tag: u64) -> bool {
+    match sought {
+        Sought::Written => is_close(event, tag, 1000),
+        Sought::Looked => is_look(event),
+        Sought::Caught => is_sync(event, tag),
+    }
+}
+
+/// Whether an ask is of this session, is answered so, and makes its event happen.
+fn happens(ask: Ask, session: i64, sought: Sought, tag: u64) -> bool {
+    let is_known = session_of(&ask) == session && sought_by(&ask) == sought;
+    let event = event_of(ask, tag, 1000);
+    let has_happened = is_event(&event, sought, tag);
+    drop(event);
+    is_known && has_happened
+}
+
 #[test]
 fn asks_happen_at_server_1(rt: HostRuntime) -> Result<(), Fail> {
-    let path = path_of(rt.alloc(), "/a")?;
-    let looking = looking(rt.alloc(), path);
-    assert!(rt; is_of(&closing(rt.alloc()), 7, Sought::Written));
-    assert!(rt; is_of(&looking, 8, Sought::Looked));
-    assert!(rt; is_of(&syncing(), 9, Sought::Caught));
-    assert!(rt; is_close(&event_of(closing(rt.alloc()), 3, 1000), 3, 1000));
-    assert!(rt; is_look(&event_of(looking, 4, 1000)));
-    assert!(rt; is_sync(&event_of(syncing(), 5, 1000), 5));
+    let looking = looking(rt.alloc(), path_of(rt.alloc(), "/a")?);
+    assert!(rt; happens(looking, 8, Sought::Looked, 4));
+    assert!(rt; happens(closing(rt.alloc()), 7, Sought::Written, 3));
+    assert!(rt; happens(Ask::Sync { session: 9 }, 9, Sought::Caught, 5));
     assert_eq!(rt; next_tag(5), 6);
     assert_eq!(rt; next_tag(u64::MAX), 0);
     Ok(())
 }
 
 fn is_caught(caught: Option<u64>) -> bool {
-    matches!(caught_by(caught), Ok(Reply::Caught))
+    let told = caught_by(caught);
+    let is_it = matches!(&told, Ok(Reply::Caught));
+    drop(told);
+    is_it
 }
 
-fn is_looked(code: i32, seen: i64) -> bool {
-    match looked_by(Answer::Looked(ReadReply::Refused(code)), seen) {
+/// Whether a reply is the refusal of a read with this code, at a server that has seen this transaction.
+fn is_refusal(told: &Result<Reply, ServiceFault>, code: i32, seen: i64) -> bool {
+    match told {
         Ok(Reply::Looked { reply, zxid }) => {
-            zxid == seen && matches!(reply, ReadReply::Refused(told) if told == code)
+            *zxid == seen && matches!(reply, ReadReply::Refused(told) if *told == code)
         }
         _ => false,
     }
 }
 
+fn is_looked(code: i32, seen: i64) -> bool {
+    let told = looked_by(Answer::Looked(ReadReply::Refused(code)), seen);
+    let is_it = is_refusal(&told, code, seen);
+    drop(told);
+    is_it
+}
+
 /// Refusals, and how a client is told of each.
-const FAULTS: [(EnsembleFault, ServiceFault); 10] = [
+static FAULTS: [(EnsembleFault, ServiceFault); 10] = [
     (
         EnsembleFault::Behind { seen: 2, at: 1 },
         ServiceFault::Behind,
@@ -128,7 +144,7 @@ fn asks_are_told_what_came_of_them(rt: HostRuntime) {
     assert!(rt; is_caught(Some(3)));
     assert!(rt; !is_caught(None));
     assert!(rt; is_looked(-101, 5));
-    for (fault, told) in FAULTS {
-        assert_eq!(rt; service_fault_of(fault), told);
+    for (fault, told) in &FAULTS {
+        assert_eq!(rt; service_fault_of(*fault), *told);
     }
 }

@@ -7,7 +7,7 @@ use zk_log::{DripIn, DripOut, Sink, Source};
 use zk_table::{PartResults, ReadReply, TxnResult};
 
 /// What the service replies.
-#[derive(Clone, Copy, Debug)]
+#[derive(Clone, Copy)]
 enum Kind {
     /// A transaction that was applied, which tells neither path nor stat.
     Plain(i64),
@@ -26,14 +26,15 @@ struct Odd {
     kinds: &'static [Kind],
 }
 
-pub fn plain(alloc: Global, zxid: i64) -> Reply {
-    Reply::Wrote(TxnResult {
+/// A transaction that was applied, and tells no more.
+pub fn applied(alloc: Global, zxid: i64) -> TxnResult {
+    TxnResult {
         zxid,
         err: 0,
         path: None,
         stat: None,
         parts: PartResults::new(Vec::new(alloc)),
-    })
+    }
 }
 
 fn refused(code: i32, zxid: i64) -> Reply {
@@ -53,11 +54,22 @@ fn seen_by(ask: &Ask) -> i64 {
 
 fn reply_of(alloc: Global, kind: Kind, ask: &Ask) -> Result<Reply, ServiceFault> {
     match kind {
-        Kind::Plain(zxid) => Ok(plain(alloc, zxid)),
+        Kind::Plain(zxid) => Ok(Reply::Wrote(applied(alloc, zxid))),
         Kind::Looked(zxid) => Ok(refused(-101, zxid)),
         Kind::Seen => Ok(refused(i32::try_from(seen_by(ask)).unwrap_or(0), 0)),
         Kind::Caught => Ok(Reply::Caught),
         Kind::Fault(fault) => Err(fault),
+    }
+}
+
+impl Odd {
+    /// The next reply.
+    fn reply(&mut self, ask: &Ask) -> Result<Reply, ServiceFault> {
+        let [kind, rest @ ..] = self.kinds else {
+            return Err(ServiceFault::Server);
+        };
+        self.kinds = rest;
+        reply_of(self.alloc, *kind, ask)
     }
 }
 
@@ -67,11 +79,9 @@ impl Service for Odd {
     ghost does = { λ _ _ _ _. ⊤ };
 
     fn ask(&mut self, ask: Ask) -> Result<Told, ServiceFault> {
-        let [kind, rest @ ..] = self.kinds else {
-            return Err(ServiceFault::Server);
-        };
-        self.kinds = rest;
-        let reply = reply_of(self.alloc, *kind, &ask)?;
+        let reply = self.reply(&ask);
+        drop(ask);
+        let reply = reply?;
         Ok(Told {
             events: Events::new(Vec::new(self.alloc)),
             reply,
@@ -80,7 +90,7 @@ impl Service for Odd {
 }
 
 /// A line for each reply. The zxids that do not fit are above those that do.
-const KINDS: [Kind; 15] = [
+static KINDS: [Kind; 15] = [
     Kind::Plain(5),
     Kind::Seen,
     Kind::Looked(99),
@@ -148,19 +158,27 @@ fn served(
     (ended, writer.into_inner())
 }
 
+/// Whether the lines end with the input, and are answered as they should be.
+fn are_answered(alloc: Global) -> bool {
+    let (ended, out) = served(alloc, LINES, &KINDS);
+    ended == Ok(16) && out.bytes() == ANSWERS.as_bytes()
+}
+
 #[test]
 fn replies_of_another_kind_change_nothing(rt: HostRuntime) {
-    let (ended, out) = served(rt.alloc(), LINES, &KINDS);
-    assert_eq!(rt; ended, Ok(16));
-    assert_eq!(rt; out.bytes(), ANSWERS.as_bytes());
+    assert!(rt; are_answered(rt.alloc()));
 }
 
 /// The service is refused memory.
-const NO_MEMORY: [Kind; 2] = [Kind::Plain(5), Kind::Fault(ServiceFault::Memory)];
+static NO_MEMORY: [Kind; 2] = [Kind::Plain(5), Kind::Fault(ServiceFault::Memory)];
+
+/// Whether serving ends with that, and nothing is written behind the line before.
+fn are_ended(alloc: Global) -> bool {
+    let (ended, out) = served(alloc, "open 4000\nget \"/\"\nruok\n", &NO_MEMORY);
+    ended == Err(FrontFault::NoMemory) && b"ok 0000000000000005 4000\n".starts_with(out.bytes())
+}
 
 #[test]
 fn refused_memory_ends_serving(rt: HostRuntime) {
-    let (ended, out) = served(rt.alloc(), "open 4000\nget \"/\"\nruok\n", &NO_MEMORY);
-    assert_eq!(rt; ended, Err(FrontFault::NoMemory));
-    assert!(rt; b"ok 0000000000000005 4000\n".starts_with(out.bytes()));
+    assert!(rt; are_ended(rt.alloc()));
 }

@@ -1,5 +1,6 @@
 //! What bytes come to as lines, what a line says and waits for, and how that is told.
 
+use crate::kind_rows::applied;
 use crate::session_rows::path_of;
 use std::alloc::Global;
 use std::test::Fail;
@@ -10,7 +11,7 @@ use zk_front_lines::{
 use zk_machine::ChangeKind;
 use zk_path::{NoMemory, Path};
 use zk_prepare::Request;
-use zk_table::{PartResults, ReadCall, ReadReply, TxnResult};
+use zk_table::{ReadCall, ReadReply};
 
 fn is_split(bytes: &[u8], front: &[u8], back: &[u8]) -> bool {
     match split_line(bytes) {
@@ -30,31 +31,24 @@ fn bytes_are_split_at_newlines(rt: HostRuntime) {
 }
 
 /// Whether a line that comes in two pieces is this, and the next begins behind it.
-fn comes_to(
-    alloc: Global,
-    front: &[u8],
-    back: &[u8],
-    expected: Option<&[u8]>,
-) -> Result<bool, NoMemory> {
+fn comes_to(alloc: Global, front: &[u8], back: &[u8], expected: Option<&[u8]>) -> bool {
     let mut pending = Pending::new(alloc);
     let fresh = pending.is_empty();
-    pending.add(front)?;
-    pending.add(back)?;
-    let holds = !pending.is_empty() && pending.line(true) == expected;
+    let added = pending.add(front).is_ok() && pending.add(back).is_ok();
+    let holds = added && !pending.is_empty() && pending.line(true) == expected;
     pending.clear();
-    Ok(fresh && holds && pending.is_empty())
+    fresh && holds && pending.is_empty()
 }
 
 #[test]
-fn pieces_are_lines(rt: HostRuntime) -> Result<(), Fail> {
+fn pieces_are_lines(rt: HostRuntime) {
     let long = [b'x'; 40_000];
-    assert!(rt; comes_to(rt.alloc(), b"ru", b"ok", Some(b"ruok"))?);
-    assert!(rt; comes_to(rt.alloc(), &long, &long, None)?);
-    Ok(())
+    assert!(rt; comes_to(rt.alloc(), b"ru", b"ok", Some(b"ruok")));
+    assert!(rt; comes_to(rt.alloc(), &long, &long, None));
 }
 
 /// What a line says.
-#[derive(Clone, Copy, Debug, PartialEq, Eq)]
+#[derive(Clone, Copy, PartialEq, Eq)]
 enum Kind {
     Opens(i32),
     Proves,
@@ -117,11 +111,17 @@ static SAID: [(Option<&str>, Kind, Kind); 13] = [
 ];
 
 fn kind_outside(alloc: Global, line: Option<&str>) -> Result<Kind, NoMemory> {
-    Ok(kind_of(&meaning_of(alloc, line)?))
+    let said = meaning_of(alloc, line)?;
+    let kind = kind_of(&said);
+    drop(said);
+    Ok(kind)
 }
 
 fn kind_inside(alloc: Global, line: Option<&str>) -> Result<Kind, NoMemory> {
-    Ok(kind_in_multi(&meaning_in_multi(alloc, line)?))
+    let said = meaning_in_multi(alloc, line)?;
+    let kind = kind_in_multi(&said);
+    drop(said);
+    Ok(kind)
 }
 
 /// The first line that says something else.
@@ -140,17 +140,6 @@ fn lines_say_what_they_are(rt: HostRuntime) -> Result<(), Fail> {
     Ok(())
 }
 
-/// A transaction that was applied, and tells no more.
-fn plain(alloc: Global) -> TxnResult {
-    TxnResult {
-        zxid: 5,
-        err: 0,
-        path: None,
-        stat: None,
-        parts: PartResults::new(Vec::new(alloc)),
-    }
-}
-
 /// Whether this was appended, where the answer fits.
 fn is_told(told: Result<bool, NoMemory>, page: &String, expected: Option<&str>) -> bool {
     match expected {
@@ -161,13 +150,17 @@ fn is_told(told: Result<bool, NoMemory>, page: &String, expected: Option<&str>) 
 
 fn is_wrote(alloc: Global, wish: &Wish, expected: Option<&str>) -> bool {
     let mut page = String::new(alloc);
-    let told = push_wrote(&mut page, wish, &plain(alloc));
+    let result = applied(alloc, 5);
+    let told = push_wrote(&mut page, wish, &result);
+    drop(result);
     is_told(told, &page, expected)
 }
 
 fn is_looked(alloc: Global, wish: &Wish, expected: Option<&str>) -> bool {
     let mut page = String::new(alloc);
-    let told = push_looked(&mut page, wish, &ReadReply::Refused(-101));
+    let reply = ReadReply::Refused(-101);
+    let told = push_looked(&mut page, wish, &reply);
+    drop(reply);
     is_told(told, &page, expected)
 }
 
@@ -183,27 +176,44 @@ fn is_event(alloc: Global, path: &Path, expected: &str) -> bool {
     told.is_ok() && page.as_str() == expected
 }
 
-/// What a line that closes, one that reads a path and one that syncs it wait for, and are told.
-fn are_told(alloc: Global, path: Path, same: Path) -> bool {
-    let closed = Wish::of_request(&Request::CloseSession);
-    let content = Wish::of_call(&ReadCall::GetData { path });
-    let event = is_event(alloc, &same, "event 4 \"/a\"");
-    let caught = Wish::Caught { path: same };
-    event
-        && matches!(&closed, Wish::Closed)
-        && matches!(&content, Wish::Content)
+/// What a line waits for that closes, and what it is told.
+fn is_told_of_a_close(alloc: Global) -> bool {
+    let request = Request::CloseSession;
+    let closed = Wish::of_request(&request);
+    drop(request);
+    let holds = matches!(&closed, Wish::Closed)
         && is_wrote(alloc, &closed, Some("ok"))
+        && is_looked(alloc, &closed, None);
+    drop(closed);
+    holds
+}
+
+/// What a line waits for that reads a path, and what it is told.
+fn is_told_of_a_read(alloc: Global, path: Path) -> bool {
+    let call = ReadCall::GetData { path };
+    let content = Wish::of_call(&call);
+    drop(call);
+    let holds = matches!(&content, Wish::Content)
         && is_wrote(alloc, &content, None)
         && is_looked(alloc, &content, Some("err -101"))
-        && is_looked(alloc, &closed, None)
-        && is_caught(alloc, &caught, Some("ok \"/a\""))
-        && is_caught(alloc, &content, None)
+        && is_caught(alloc, &content, None);
+    drop(content);
+    holds
+}
+
+/// What a line is told that syncs a path, and the event of a path.
+fn is_told_of_a_sync(alloc: Global, path: Path) -> bool {
+    let event = is_event(alloc, &path, "event 4 \"/a\"");
+    let caught = Wish::Caught { path };
+    let holds = is_caught(alloc, &caught, Some("ok \"/a\""));
+    drop(caught);
+    event && holds
 }
 
 #[test]
 fn answers_fit_what_is_waited_for(rt: HostRuntime) -> Result<(), Fail> {
-    let path = path_of(rt.alloc(), "/a")?;
-    let same = path_of(rt.alloc(), "/a")?;
-    assert!(rt; are_told(rt.alloc(), path, same));
+    assert!(rt; is_told_of_a_close(rt.alloc()));
+    assert!(rt; is_told_of_a_read(rt.alloc(), path_of(rt.alloc(), "/a")?));
+    assert!(rt; is_told_of_a_sync(rt.alloc(), path_of(rt.alloc(), "/a")?));
     Ok(())
 }

@@ -1,7 +1,6 @@
 //! The front over memory and over an ensemble of three servers, by a clock that stands at 1000.
 
 use std::alloc::Global;
-use std::test::Fail;
 use zk_front_local::{Clock, FrontFault, Local, serve_lines};
 use zk_log::{DripIn, DripOut, Sink, Source};
 use zk_path::NoMemory;
@@ -153,82 +152,89 @@ err -101
 imok
 ";
 
-/// What serving answers, and the writer. An ensemble that does not start answers nothing.
-fn served(
-    alloc: Global,
-    input: &[u8],
-    devices: Devices,
-) -> Result<(Result<u64, FrontFault>, DripOut), NoMemory> {
-    let Ok(mut local) = Local::start(alloc, 3, Still) else {
-        return Err(NoMemory);
-    };
-    Ok(served_by(alloc, &mut local, input, devices))
-}
+/// What serving answers.
+type Ended = Result<u64, FrontFault>;
 
-fn served_by(
+/// Whether serving these bytes ends so, with this written.
+fn serves(
     alloc: Global,
     local: &mut Local<Still>,
     input: &[u8],
     devices: Devices,
-) -> (Result<u64, FrontFault>, DripOut) {
+    expected: Ended,
+    written: &[u8],
+) -> bool {
     let mut reader = Source::new(DripIn::new(input, devices.piece.max(1), devices.bad_read));
     let mut writer = Sink::new(DripOut::new(alloc, 1, devices.bad_write));
     let ended = serve_lines(alloc, &mut reader, &mut writer, local, devices.turns);
-    (ended, writer.into_inner())
+    let out = writer.into_inner();
+    ended == expected && out.bytes() == written
 }
 
-/// What is written for these lines, where all goes well.
-fn answers(alloc: Global, input: &[u8], piece: usize) -> Result<(u64, DripOut), NoMemory> {
-    let devices = Devices { piece, ..GOOD };
-    match served(alloc, input, devices)? {
-        (Ok(lines), out) => Ok((lines, out)),
-        (Err(_), _) => Err(NoMemory),
+/// The same of a new ensemble, which starts.
+fn is_served(
+    alloc: Global,
+    input: &[u8],
+    devices: Devices,
+    expected: Ended,
+    written: &[u8],
+) -> bool {
+    match Local::start(alloc, 3, Still) {
+        Ok(mut local) => {
+            let is_it = serves(alloc, &mut local, input, devices, expected, written);
+            drop(local);
+            is_it
+        }
+        Err(_) => false,
     }
 }
 
 /// Whether so many lines are answered so, in pieces of any size.
-fn are_answered(alloc: Global, input: &str, lines: u64, expected: &str) -> Result<bool, NoMemory> {
+fn are_answered(alloc: Global, input: &str, lines: u64, answers: &str) -> bool {
+    let (input, answers) = (input.as_bytes(), answers.as_bytes());
     for piece in [1, 7, 65_536] {
-        let (count, out) = answers(alloc, input.as_bytes(), piece)?;
-        if count != lines || out.bytes() != expected.as_bytes() {
-            return Ok(false);
+        let devices = Devices { piece, ..GOOD };
+        if !is_served(alloc, input, devices, Ok(lines), answers) {
+            return false;
         }
     }
-    Ok(true)
+    true
 }
 
 #[test]
-fn front_lines_over_memory(rt: HostRuntime) -> Result<(), Fail> {
-    assert!(rt; are_answered(rt.alloc(), LINES, 16, ANSWERS)?);
-    assert!(rt; are_answered(rt.alloc(), MULTIS, 26, MULTI_ANSWERS)?);
-    assert!(rt; are_answered(rt.alloc(), SESSIONS, 17, SESSION_ANSWERS)?);
-    Ok(())
+fn front_lines_over_memory(rt: HostRuntime) {
+    assert!(rt; are_answered(rt.alloc(), LINES, 16, ANSWERS));
+    assert!(rt; are_answered(rt.alloc(), MULTIS, 26, MULTI_ANSWERS));
+    assert!(rt; are_answered(rt.alloc(), SESSIONS, 17, SESSION_ANSWERS));
 }
 
-/// A line of so many bytes with its newline, and a line that is always answered.
-fn long_line(alloc: Global, front: &str, back: &str, bytes: usize) -> Result<Vec<u8>, NoMemory> {
-    let mut line = Vec::new(alloc);
-    line.extend_from_slice(front.as_bytes())?;
-    for _ in line.len()..bytes.saturating_sub(back.len()) {
-        line.push(b'y')?;
+/// Appends a line of so many bytes with its newline, and a line that is always answered.
+fn push_long_line(
+    input: &mut Vec<u8>,
+    front: &str,
+    back: &str,
+    bytes: usize,
+) -> Result<(), NoMemory> {
+    input.extend_from_slice(front.as_bytes())?;
+    for _ in input.len()..bytes.saturating_sub(back.len()) {
+        input.push(b'y')?;
     }
-    line.extend_from_slice(back.as_bytes())?;
-    line.extend_from_slice(b"ruok\n")?;
-    Ok(line)
+    input.extend_from_slice(back.as_bytes())?;
+    Ok(input.extend_from_slice(b"ruok\n")?)
 }
 
 /// Whether a line of so many bytes is answered so, and the next one is answered.
-fn long_line_is_answered(alloc: Global, bytes: usize, expected: &str) -> Result<bool, NoMemory> {
+fn long_line_is_answered(alloc: Global, bytes: usize, answers: &str) -> bool {
     let front = "open 30000\ncreate \"/l\" \"";
     let back = "\" 1 31 \"world\" \"anyone\"\n";
-    let input = long_line(
-        alloc,
-        front,
-        back,
-        bytes.saturating_add("open 30000\n".len()),
-    )?;
-    let (lines, out) = answers(alloc, input.as_slice(), 65_536)?;
-    Ok(lines == 3 && out.bytes() == expected.as_bytes())
+    let bytes = bytes.saturating_add("open 30000\n".len());
+    let devices = Devices {
+        piece: 65_536,
+        ..GOOD
+    };
+    let mut input = Vec::new(alloc);
+    push_long_line(&mut input, front, back, bytes).is_ok()
+        && is_served(alloc, input.as_slice(), devices, Ok(3), answers.as_bytes())
 }
 
 const READ: &str = "ok 0000000100000001 30000\nok \"/l\"\nimok\n";
@@ -236,22 +242,26 @@ const READ: &str = "ok 0000000100000001 30000\nok \"/l\"\nimok\n";
 const SKIPPED: &str = "ok 0000000100000001 30000\nerr -8\nimok\n";
 
 #[test]
-fn lines_of_65536_bytes_are_read(rt: HostRuntime) -> Result<(), Fail> {
-    assert!(rt; long_line_is_answered(rt.alloc(), 65_535, READ)?);
-    assert!(rt; long_line_is_answered(rt.alloc(), 65_536, READ)?);
-    assert!(rt; long_line_is_answered(rt.alloc(), 65_537, SKIPPED)?);
-    assert!(rt; long_line_is_answered(rt.alloc(), 70_000, SKIPPED)?);
-    assert!(rt; long_line_is_answered(rt.alloc(), 140_000, SKIPPED)?);
-    Ok(())
+fn lines_of_65536_bytes_are_read(rt: HostRuntime) {
+    assert!(rt; long_line_is_answered(rt.alloc(), 65_535, READ));
+    assert!(rt; long_line_is_answered(rt.alloc(), 65_536, READ));
+    assert!(rt; long_line_is_answered(rt.alloc(), 65_537, SKIPPED));
+    assert!(rt; long_line_is_answered(rt.alloc(), 70_000, SKIPPED));
+    assert!(rt; long_line_is_answered(rt.alloc(), 140_000, SKIPPED));
 }
 
 #[test]
-fn no_reads_are_endless(rt: HostRuntime) -> Result<(), Fail> {
+fn no_reads_are_endless(rt: HostRuntime) {
     let devices = Devices { turns: 0, ..GOOD };
-    let (ended, out) = served(rt.alloc(), b"ruok\n", devices)?;
-    assert_eq!(rt; ended, Err(FrontFault::Endless));
-    assert_eq!(rt; out.bytes().len(), 0);
-    Ok(())
+    assert!(rt;
+        is_served(
+            rt.alloc(),
+            b"ruok\n",
+            devices,
+            Err(FrontFault::Endless),
+            b""
+        )
+    );
 }
 
 /// How many bytes of the answers stand for the first so many bytes of the input: each line here has one answer.
@@ -279,50 +289,50 @@ const PLAIN: &str = "open 30000\nruok\nget \"/\"\nx\n";
 const PLAIN_ANSWERS: &str =
     "ok 0000000100000001 30000\nimok\nok x 0000000000000000 0000000000000000 0 0 0 -1 0 0000000000000000 0 1 0000000000000000\nerr -8\n";
 
+/// Whether serving those lines is refused so, behind so many bytes of their answers.
+fn is_refused(alloc: Global, devices: Devices, fault: FrontFault, bytes: usize) -> bool {
+    match PLAIN_ANSWERS.as_bytes().get(..bytes) {
+        Some(written) => is_served(alloc, PLAIN.as_bytes(), devices, Err(fault), written),
+        None => false,
+    }
+}
+
 /// The first read that fails, byte by byte, where serving answers something else than it should.
-fn other_read(alloc: Global) -> Result<Option<usize>, NoMemory> {
+fn other_read(alloc: Global) -> Option<usize> {
     for read in 0..PLAIN.len() + 1 {
         let devices = Devices {
             piece: 1,
             bad_read: Some(read as u64),
             ..GOOD
         };
-        let (ended, out) = served(alloc, PLAIN.as_bytes(), devices)?;
-        let expected = answered_by(PLAIN.as_bytes(), PLAIN_ANSWERS.as_bytes(), read);
-        if ended != Err(FrontFault::Read)
-            || Some(out.bytes()) != PLAIN_ANSWERS.as_bytes().get(..expected)
-        {
-            return Ok(Some(read));
+        let bytes = answered_by(PLAIN.as_bytes(), PLAIN_ANSWERS.as_bytes(), read);
+        if !is_refused(alloc, devices, FrontFault::Read, bytes) {
+            return Some(read);
         }
     }
-    Ok(None)
+    None
 }
 
 #[test]
-fn each_read_may_fail(rt: HostRuntime) -> Result<(), Fail> {
-    assert_eq!(rt; other_read(rt.alloc())?, None);
-    Ok(())
+fn each_read_may_fail(rt: HostRuntime) {
+    assert_eq!(rt; other_read(rt.alloc()), None);
 }
 
 /// The first write that fails where serving answers something else than it should: a write takes a byte.
-fn other_write(alloc: Global) -> Result<Option<usize>, NoMemory> {
+fn other_write(alloc: Global) -> Option<usize> {
     for written in 0..PLAIN_ANSWERS.len() {
         let devices = Devices {
             bad_write: Some(written as u64),
             ..GOOD
         };
-        let (ended, out) = served(alloc, PLAIN.as_bytes(), devices)?;
-        if ended != Err(FrontFault::Write)
-            || Some(out.bytes()) != PLAIN_ANSWERS.as_bytes().get(..written)
-        {
-            return Ok(Some(written));
+        if !is_refused(alloc, devices, FrontFault::Write, written) {
+            return Some(written);
         }
     }
-    Ok(None)
+    None
 }
 
 #[test]
-fn each_write_may_fail(rt: HostRuntime) -> Result<(), Fail> {
-    assert_eq!(rt; other_write(rt.alloc())?, None);
-    Ok(())
+fn each_write_may_fail(rt: HostRuntime) {
+    assert_eq!(rt; other_write(rt.alloc()), None);
 }

@@ -15,7 +15,7 @@ const ALICE: i64 = 0x1_0000_0001;
 const BOB: i64 = 0x1_0000_0002;
 
 /// What is asked.
-#[derive(Clone, Copy, Debug)]
+#[derive(Clone, Copy)]
 enum Step {
     Opens,
     /// The session lists the children of a node, and waits for a change.
@@ -27,7 +27,7 @@ enum Step {
 }
 
 /// Each step, and the paths of the events that are told with its answer.
-const STEPS: [(Step, &[&str]); 10] = [
+static STEPS: [(Step, &[&str]); 10] = [
     (Step::Opens, &[]),
     (Step::Opens, &[]),
     (Step::Watches(BOB, "/"), &[]),
@@ -135,23 +135,39 @@ fn are_events(told: &Told, expected: &[&str]) -> bool {
     true
 }
 
-/// The first step that is told something else.
-fn other_step(alloc: Global) -> Result<Option<usize>, NoMemory> {
-    let Ok(mut local) = Local::start(alloc, 3, Still) else {
-        return Err(NoMemory);
-    };
-    walk(alloc, &mut local)
+/// Whether a step is told these events.
+fn tells(
+    alloc: Global,
+    local: &mut Local<Still>,
+    step: Step,
+    expected: &[&str],
+) -> Result<bool, NoMemory> {
+    let told = local.ask(ask_of(alloc, step)?);
+    let is_it = is_told(&told, expected);
+    drop(told);
+    Ok(is_it)
 }
 
+/// The first step that is told something else.
 fn walk(alloc: Global, local: &mut Local<Still>) -> Result<Option<usize>, NoMemory> {
     for (place, (step, expected)) in STEPS.iter().enumerate() {
-        let ask = ask_of(alloc, *step)?;
-        let told = local.ask(ask);
-        if !is_told(&told, expected) {
+        if !tells(alloc, local, *step, expected)? {
             return Ok(Some(place));
         }
     }
     Ok(None)
+}
+
+/// The same of a new ensemble.
+fn other_step(alloc: Global) -> Result<Option<usize>, NoMemory> {
+    match Local::start(alloc, 3, Still) {
+        Ok(mut local) => {
+            let place = walk(alloc, &mut local);
+            drop(local);
+            place
+        }
+        Err(_) => Err(NoMemory),
+    }
 }
 
 #[test]
@@ -163,7 +179,10 @@ fn each_session_is_told_its_events(rt: HostRuntime) -> Result<(), Fail> {
 /// How starting so many servers ends.
 fn started(alloc: Global, servers: usize) -> Option<ServiceFault> {
     match Local::start(alloc, servers, Still) {
-        Ok(_) => None,
+        Ok(local) => {
+            drop(local);
+            None
+        }
         Err(fault) => Some(fault),
     }
 }

@@ -1,8 +1,5 @@
 //! Listings of transactions that are drawn by a fixed rule.
 
-use std::alloc::Global;
-use zk_path::NoMemory;
-
 static PATHS: [&str; 8] = [
     "/a",
     "/a",
@@ -74,54 +71,47 @@ impl Draws {
     }
 }
 
+// What appends a text tells whether there was memory for it.
+
 /// Appends an operation on a path, of the first so many kinds.
-fn push_part(text: &mut String, draws: &mut Draws, kinds: usize) -> Result<(), NoMemory> {
+fn push_part(text: &mut String, draws: &mut Draws, kinds: usize) -> bool {
     let path = draws.text(&PATHS);
-    if let Some((word, rest)) = PARTS.get(draws.next() % kinds.max(1)) {
-        write!(text, "{word} \"{path}\"{rest}")?;
+    match PARTS.get(draws.next() % kinds.max(1)) {
+        Some((word, rest)) => write!(text, "{word} \"{path}\"{rest}").is_ok(),
+        None => false,
     }
-    Ok(())
 }
 
-fn push_multi(text: &mut String, draws: &mut Draws) -> Result<(), NoMemory> {
-    text.push_str("multi ; ")?;
-    push_part(text, draws, 9)?;
-    text.push_str(" ; ")?;
-    push_part(text, draws, 9)?;
-    text.push_str(draws.text(&LAST_PARTS))?;
-    Ok(())
+fn push_multi(text: &mut String, draws: &mut Draws) -> bool {
+    text.push_str("multi ; ").is_ok()
+        && push_part(text, draws, 9)
+        && text.push_str(" ; ").is_ok()
+        && push_part(text, draws, 9)
+        && text.push_str(draws.text(&LAST_PARTS)).is_ok()
 }
 
-fn push_operation(text: &mut String, draws: &mut Draws) -> Result<(), NoMemory> {
+fn push_operation(text: &mut String, draws: &mut Draws) -> bool {
     match draws.next() % 8 {
         0 => push_multi(text, draws),
-        1 => Ok(text.push_str(draws.text(&OTHERS))?),
+        1 => text.push_str(draws.text(&OTHERS)).is_ok(),
         _ => push_part(text, draws, 11),
     }
 }
 
 /// Appends a transaction's line.
-fn push_drawn(text: &mut String, draws: &mut Draws, zxid: i64) -> Result<(), NoMemory> {
-    write!(text, "{zxid:016x} {} 0 {zxid} ", draws.text(&SESSIONS))?;
-    push_operation(text, draws)?;
-    Ok(text.push('\n')?)
+fn push_drawn(text: &mut String, draws: &mut Draws, zxid: i64) -> bool {
+    let session = draws.text(&SESSIONS);
+    write!(text, "{zxid:016x} {session} 0 {zxid} ").is_ok()
+        && push_operation(text, draws)
+        && text.push('\n').is_ok()
 }
 
 /// Appends the lines of so many transactions.
-fn push_drawn_lines(text: &mut String, draws: &mut Draws, count: i64) -> Result<(), NoMemory> {
+pub(crate) fn push_drawn_lines(text: &mut String, draws: &mut Draws, count: i64) -> bool {
     for zxid in 0..count {
-        push_drawn(text, draws, zxid)?;
+        if !push_drawn(text, draws, zxid) {
+            return false;
+        }
     }
-    Ok(())
-}
-
-/// A listing of so many transactions.
-pub(crate) fn drawn_listing(
-    alloc: Global,
-    draws: &mut Draws,
-    count: i64,
-) -> Result<String, NoMemory> {
-    let mut text = String::new(alloc);
-    push_drawn_lines(&mut text, draws, count)?;
-    Ok(text)
+    true
 }

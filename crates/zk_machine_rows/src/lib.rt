@@ -1,4 +1,5 @@
-//! The worked rows of the machine over a tree: its tests, and no code of its own.
+//! The worked rows of the machine over a tree, of reads, and of the table that only goes forward: their tests, and no code of
+//! its own.
 //!
 //! They stand apart from the crates that they test, as those of `zk_rows` do, and for the same reason.
 #![tactic(auto)]
@@ -8,4 +9,10 @@ mod drawing;
 #[cfg(test)]
 mod fault_rows;
 #[cfg(test)]
+mod forward_rows;
+#[cfg(test)]
 mod machine_rows;
+#[cfg(test)]
+mod read_rows;
+#[cfg(test)]
+mod standing;

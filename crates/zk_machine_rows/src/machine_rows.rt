@@ -1,96 +1,67 @@
 //! Rows of `zk_machine`.
 
-ghost use Rattle.std.specs.Prelude.{◌≡◌, ◌≢◌, ◌+◌, false, Some, IfOk, IfSome, OnOk};
+ghost use Rattle.std.specs.Prelude.{◌≡◌, ◌≢◌, ◌+◌, false, Some, IfOk, IfSome, IsTrue, OnOk};
 ghost use Rattle.zk_machine.specs.Undoing.{IsState, restored};
 
-use crate::drawing::{Draws, drawn_listing};
+use crate::drawing::{Draws, push_drawn_lines};
+use crate::forward_rows::goes_as;
+use crate::read_rows::all_are_told;
+use crate::standing::{push_node, push_plain, push_rest};
 use std::alloc::Global;
-use zk_acl::Stat;
 use zk_listing::assemble;
 use zk_machine::{Applied, Change, Machine, MachineFault, Undo, UndoFault};
-use zk_path::{NoMemory, Path};
-use zk_table::{Node, Plain, Txn, TxnResult};
+use zk_path::Path;
+use zk_table::{Plain, Txn, TxnResult};
 use zk_tree::Tree;
 
-// What is applied is written as a listing. What stands there, and what is answered, is compared as it is shown for
-// debugging, field by field.
+// What is applied is written as a listing. What a machine answers and how it stands is written into one text, and what it is
+// held against into another; the two are compared in the end.
 
-/// A machine in the start state.
-fn new_machine(alloc: Global) -> Result<Machine, MachineFault> {
-    Ok(Machine::new(alloc)?)
-}
-
-/// The transactions of a listing.
-fn txns_of(alloc: Global, listing: &str) -> Result<Vec<Txn>, NoMemory> {
-    assemble(alloc, listing).map_err(|_| NoMemory)
-}
-
-/// Appends a node, with what a client is told of it.
-fn push_node(text: &mut String, path: &Path, node: &Node, stat: Stat) -> Result<(), NoMemory> {
-    write!(text, "{path:?} {node:?} {stat:?}\n")?;
-    Ok(())
+/// Appends the node at a path of a tree.
+fn push_at(text: &mut String, tree: &Tree, path: &Path) -> bool {
+    let Some(node) = tree.get(path) else {
+        return false;
+    };
+    let Some(stat) = tree.stat(path) else {
+        return false;
+    };
+    push_node(text, path, node, stat)
 }
 
 /// Appends the nodes at these paths of a tree.
-fn push_nodes(text: &mut String, tree: &Tree, paths: &[Path]) -> Result<(), NoMemory> {
+fn push_nodes(text: &mut String, tree: &Tree, paths: &[Path]) -> bool {
     for path in paths {
-        if let (Some(node), Some(stat)) = (tree.get(path), tree.stat(path)) {
-            push_node(text, path, node, stat)?;
+        if !push_at(text, tree, path) {
+            return false;
         }
     }
-    Ok(())
+    true
 }
 
 /// Appends the nodes of a tree, in order.
-fn push_tree(text: &mut String, tree: &Tree) -> Result<(), NoMemory> {
-    let paths = tree.paths()?;
-    push_nodes(text, tree, &paths)
-}
-
-/// The nodes of a tree, in order.
-fn shown_nodes(alloc: Global, tree: &Tree) -> Result<String, NoMemory> {
-    let mut text = String::new(alloc);
-    push_tree(&mut text, tree)?;
-    Ok(text)
-}
-
-/// Appends the nodes of the plain table.
-fn push_plain(text: &mut String, plain: &Plain) -> Result<(), NoMemory> {
-    for (path, node) in plain.nodes() {
-        push_node(text, path, node, plain.stat(path, node))?;
+fn push_tree(text: &mut String, tree: &Tree) -> bool {
+    match tree.paths() {
+        Ok(paths) => push_nodes(text, tree, &paths),
+        Err(_) => false,
     }
-    Ok(())
 }
 
-/// The nodes of the plain table.
-fn shown_plain_nodes(alloc: Global, plain: &Plain) -> Result<String, NoMemory> {
-    let mut text = String::new(alloc);
-    push_plain(&mut text, plain)?;
-    Ok(text)
+/// Appends the nodes, the sessions and the last transaction of a machine.
+fn push_machine(text: &mut String, machine: &Machine) -> bool {
+    match (machine.tree(), machine.sessions(), machine.last()) {
+        (Ok(tree), Ok(sessions), Ok(last)) => {
+            push_tree(text, tree) && push_rest(text, sessions, last)
+        }
+        _ => false,
+    }
 }
 
-/// The nodes, the sessions and the last transaction of a machine.
-fn standing(alloc: Global, machine: &Machine) -> Result<String, MachineFault> {
-    let tree = machine.tree()?;
-    let sessions = machine.sessions()?;
-    let last = machine.last()?;
-    let nodes = shown_nodes(alloc, tree)?;
-    shown(alloc, nodes.as_str(), sessions, last)
-}
-
-/// The same of the plain table.
-fn plain_standing(alloc: Global, plain: &Plain) -> Result<String, MachineFault> {
-    let nodes = shown_plain_nodes(alloc, plain)?;
-    shown(alloc, nodes.as_str(), plain.sessions(), plain.last())
-}
-
-fn shown(
-    alloc: Global,
-    nodes: &str,
-    sessions: &[(u64, i32)],
-    last: i64,
-) -> Result<String, MachineFault> {
-    format!(in alloc; "{nodes}{sessions:?} {last}").map_err(|_| MachineFault::NoMemory)
+/// Appends an answer.
+fn push_answer<E>(text: &mut String, answer: &Result<TxnResult, E>) -> bool {
+    match answer {
+        Ok(answer) => write!(text, "{answer:?}\n").is_ok(),
+        Err(_) => false,
+    }
 }
 
 /// Applies a transaction, of which there are few.
@@ -118,123 +89,31 @@ fn record_of(machine: &mut Machine, txn: &Txn) -> Result<Undo, MachineFault>
     Ok(applied(machine, txn)?.undo)
 }
 
-/// Takes a transaction back.
-fn take_back(machine: &mut Machine, undo: Undo) -> Result<(), MachineFault>
+/// Takes a transaction back, and tells whether it is.
+fn is_taken_back(machine: &mut Machine, undo: Undo) -> bool
     requires { IsState (restored undo machine.old.state).nodes }
-    ensures { OnOk result (machine.new.state ≡ restored undo machine.old.state) }
+    ensures { IsTrue result → machine.new.state ≡ restored undo machine.old.state }
 {
-    machine.undo(undo).map_err(|refused| refused.fault)
+    machine.undo(undo).is_ok()
 }
 
 /// Applies a transaction and takes it back.
-fn there_and_back(machine: &mut Machine, txn: &Txn) -> Result<(), MachineFault> {
-    let undo = record_of(machine, txn)?;
-    take_back(machine, undo)
-}
-
-/// Whether a machine stands so.
-fn stands_as(alloc: Global, machine: &Machine, stood: &str) -> Result<bool, MachineFault> {
-    let stands = standing(alloc, machine)?;
-    Ok(stands.as_str() == stood)
-}
-
-/// Whether a machine then stands so, after as many steps.
-fn comes_back_to(
-    alloc: Global,
-    machine: &mut Machine,
-    txn: &Txn,
-    stood: &str,
-) -> Result<bool, MachineFault> {
-    let steps = machine.steps()?;
-    there_and_back(machine, txn)?;
-    Ok(stands_as(alloc, machine, stood)? && machine.steps()? == steps)
-}
-
-/// Whether a machine then stands as before, after as many steps.
-fn comes_back(alloc: Global, machine: &mut Machine, txn: &Txn) -> Result<bool, MachineFault> {
-    let before = standing(alloc, machine)?;
-    comes_back_to(alloc, machine, txn, before.as_str())
-}
-
-/// An answer as it is shown.
-fn shown_answer(alloc: Global, answer: &TxnResult) -> Result<String, MachineFault> {
-    format!(in alloc; "{answer:?}").map_err(|_| MachineFault::NoMemory)
-}
-
-/// Whether an answer is shown so.
-fn is_shown_as(alloc: Global, answer: &TxnResult, shown: &str) -> Result<bool, MachineFault> {
-    let answer = shown_answer(alloc, answer)?;
-    Ok(answer.as_str() == shown)
-}
-
-/// Whether two answers are shown alike.
-fn are_alike(alloc: Global, one: &TxnResult, other: &TxnResult) -> Result<bool, MachineFault> {
-    let one = shown_answer(alloc, one)?;
-    is_shown_as(alloc, other, one.as_str())
-}
-
-/// Whether the plain table answers so.
-fn plain_answers(
-    alloc: Global,
-    plain: &mut Plain,
-    txn: &Txn,
-    answer: &TxnResult,
-) -> Result<bool, MachineFault> {
-    let other = plain.apply(txn)?;
-    are_alike(alloc, answer, &other)
-}
-
-/// Whether the machine, which applies it, takes it back and applies it again, and the plain table answer alike.
-fn answer_alike(
-    alloc: Global,
-    machine: &mut Machine,
-    plain: &mut Plain,
-    txn: &Txn,
-) -> Result<bool, MachineFault> {
-    there_and_back(machine, txn)?;
-    let applied = applied(machine, txn)?;
-    plain_answers(alloc, plain, txn, &applied.result)
-}
-
-/// Whether they then stand alike.
-fn stand_alike(alloc: Global, machine: &Machine, plain: &Plain) -> Result<bool, MachineFault> {
-    let stands = plain_standing(alloc, plain)?;
-    stands_as(alloc, machine, stands.as_str())
-}
-
-/// Whether they answer each of these alike, and stand alike after the last.
-fn agree_on(
-    alloc: Global,
-    machine: &mut Machine,
-    plain: &mut Plain,
-    txns: &[Txn],
-) -> Result<bool, MachineFault> {
-    let mut all = true;
-    for txn in txns {
-        all = answer_alike(alloc, machine, plain, txn)? && all;
+fn goes_and_comes(machine: &mut Machine, txn: &Txn) -> bool {
+    match record_of(machine, txn) {
+        Ok(undo) => is_taken_back(machine, undo),
+        Err(_) => false,
     }
-    Ok(all && stand_alike(alloc, machine, plain)?)
 }
 
-/// Whether this is so of this machine and a new table.
-fn agrees_on(alloc: Global, machine: &mut Machine, txns: &[Txn]) -> Result<bool, MachineFault> {
-    let mut plain = Plain::new(alloc)?;
-    agree_on(alloc, machine, &mut plain, txns)
+/// What the machine answers, which applies a transaction.
+fn answered(machine: &mut Machine, txn: &Txn) -> Result<TxnResult, MachineFault> {
+    match applied(machine, txn) {
+        Ok(applied) => Ok(applied.result),
+        Err(fault) => Err(fault),
+    }
 }
 
-/// Whether this is so of a new machine and a new table.
-fn new_ones_agree(alloc: Global, txns: &[Txn]) -> Result<bool, MachineFault> {
-    let mut machine = new_machine(alloc)?;
-    agrees_on(alloc, &mut machine, txns)
-}
-
-/// Whether a new machine and a new table agree on a listing.
-fn agree(alloc: Global, listing: &str) -> Result<bool, MachineFault> {
-    let txns = txns_of(alloc, listing)?;
-    new_ones_agree(alloc, &txns)
-}
-
-/// Applies a transaction, of which there are few, for good.
+/// What it answers where it applies a transaction, of which there are few, for good.
 fn advanced(machine: &mut Machine, txn: &Txn) -> Result<TxnResult, MachineFault> {
     if machine.steps()? == u64::MAX {
         return Err(MachineFault::Failed);
@@ -242,67 +121,143 @@ fn advanced(machine: &mut Machine, txn: &Txn) -> Result<TxnResult, MachineFault>
     machine.advance(txn)
 }
 
-/// Whether the machine, which never goes back, and the plain table answer alike.
-fn advances_alike(
+/// What a machine has answered and how it has stood, and what it is held against.
+#[derive(Drop)]
+struct Texts {
+    machine: String,
+    other: String,
+}
+
+/// What is asked of a new machine and the transactions of a listing.
+#[derive(Clone, Copy)]
+pub(crate) enum Asked {
+    /// Whether it answers and stands as the plain table, where it takes each back and applies it again.
+    Undoing,
+    /// Whether it answers and stands as the plain table, where it never goes back, and has gone so many steps then.
+    Advancing(u64),
+    /// Whether both tell what the rows of reads say, once they have answered and stand alike.
+    Reading,
+    /// Whether the first is a step without changes, which opens session 7 with this timeout.
+    Opening(i32),
+    /// Whether the second of two is taken back before the first.
+    LastFirst,
+    /// Whether each is taken back, and stays once it is applied again.
+    EachBack,
+    /// Whether copies go their own way, and have session 7 with this timeout once the first has opened it.
+    Copies(i32),
+    /// Whether these are the changes.
+    Changes(&'static str),
+    /// Whether they are so many, and a table that only goes forward stands as the plain one before and after each.
+    Forward(usize),
+}
+
+/// Whether this is so of a listing.
+pub(crate) fn holds(alloc: Global, listing: &str, asked: Asked) -> bool {
+    match assemble(alloc, listing) {
+        Ok(txns) => holds_of(alloc, &txns, asked),
+        Err(_) => false,
+    }
+}
+
+/// Whether it is so of a new machine.
+fn holds_of(alloc: Global, txns: &[Txn], asked: Asked) -> bool {
+    match Machine::new(alloc) {
+        Ok(mut machine) => holds_by(alloc, &mut machine, txns, asked),
+        Err(_) => false,
+    }
+}
+
+/// Whether it is so of a new plain table beside it.
+fn holds_by(alloc: Global, machine: &mut Machine, txns: &[Txn], asked: Asked) -> bool {
+    match Plain::new(alloc) {
+        Ok(mut plain) => holds_in(alloc, machine, &mut plain, txns, asked),
+        Err(_) => false,
+    }
+}
+
+/// Whether it is so, and what is written of the two is the same then.
+fn holds_in(
     alloc: Global,
+    machine: &mut Machine,
+    plain: &mut Plain,
+    txns: &[Txn],
+    asked: Asked,
+) -> bool {
+    let mut texts = Texts {
+        machine: String::new(alloc),
+        other: String::new(alloc),
+    };
+    is_so(alloc, &mut texts, machine, plain, txns, asked) && texts.machine == texts.other
+}
+
+fn is_so(
+    alloc: Global,
+    texts: &mut Texts,
+    machine: &mut Machine,
+    plain: &mut Plain,
+    txns: &[Txn],
+    asked: Asked,
+) -> bool {
+    match asked {
+        Asked::Undoing => agree(texts, machine, plain, txns, true),
+        Asked::Advancing(steps) => {
+            agree(texts, machine, plain, txns, false) && machine.steps() == Ok(steps)
+        }
+        Asked::Reading => {
+            agree(texts, machine, plain, txns, true) && all_are_told(alloc, plain, machine)
+        }
+        Asked::Opening(timeout) => opens(texts, machine, txns, timeout),
+        Asked::LastFirst => last_comes_back_first(texts, machine, txns),
+        Asked::EachBack => each_comes_back(texts, machine, txns),
+        Asked::Copies(timeout) => copies_go(texts, machine, txns, timeout),
+        Asked::Changes(changes) => {
+            push_all_changes(&mut texts.machine, machine, txns)
+                && texts.other.push_str(changes).is_ok()
+        }
+        Asked::Forward(count) => txns.len() == count && goes_as(alloc, plain, txns),
+    }
+}
+
+/// Writes what both answer to each of these, and how they stand then.
+fn agree(
+    texts: &mut Texts,
+    machine: &mut Machine,
+    plain: &mut Plain,
+    txns: &[Txn],
+    undoing: bool,
+) -> bool {
+    for txn in txns {
+        if !answer(texts, machine, plain, txn, undoing) {
+            return false;
+        }
+    }
+    push_machine(&mut texts.machine, machine) && push_plain(&mut texts.other, plain)
+}
+
+/// Writes what both answer.
+fn answer(
+    texts: &mut Texts,
     machine: &mut Machine,
     plain: &mut Plain,
     txn: &Txn,
-) -> Result<bool, MachineFault> {
-    let answer = advanced(machine, txn)?;
-    plain_answers(alloc, plain, txn, &answer)
+    undoing: bool,
+) -> bool {
+    answers(&mut texts.machine, machine, txn, undoing)
+        && push_answer(&mut texts.other, &plain.apply(txn))
 }
 
-/// Whether they answer each of these alike.
-fn advance_alike(
-    alloc: Global,
-    machine: &mut Machine,
-    plain: &mut Plain,
-    txns: &[Txn],
-) -> Result<bool, MachineFault> {
-    let mut all = true;
-    for txn in txns {
-        all = advances_alike(alloc, machine, plain, txn)? && all;
+/// Writes what a machine answers, where it takes the transaction back before, or never goes back.
+fn answers(text: &mut String, machine: &mut Machine, txn: &Txn, undoing: bool) -> bool {
+    if undoing {
+        goes_and_comes(machine, txn) && push_answer(text, &answered(machine, txn))
+    } else {
+        push_answer(text, &advanced(machine, txn))
     }
-    Ok(all)
-}
-
-/// Whether this is so of eighteen transactions, and machine and table stand alike after them.
-fn advance_eighteen(
-    alloc: Global,
-    machine: &mut Machine,
-    plain: &mut Plain,
-    txns: &[Txn],
-) -> Result<bool, MachineFault> {
-    let alike = advance_alike(alloc, machine, plain, txns)?;
-    Ok(alike && machine.steps()? == 18 && stand_alike(alloc, machine, plain)?)
-}
-
-/// The same of this machine and a new table.
-fn advances_eighteen(
-    alloc: Global,
-    machine: &mut Machine,
-    txns: &[Txn],
-) -> Result<bool, MachineFault> {
-    let mut plain = Plain::new(alloc)?;
-    advance_eighteen(alloc, machine, &mut plain, txns)
-}
-
-/// The same of a new machine and a new table.
-fn new_ones_advance(alloc: Global, txns: &[Txn]) -> Result<bool, MachineFault> {
-    let mut machine = new_machine(alloc)?;
-    advances_eighteen(alloc, &mut machine, txns)
-}
-
-/// The same of a new machine and a new table on a listing.
-fn advances(alloc: Global, listing: &str) -> Result<bool, MachineFault> {
-    let txns = txns_of(alloc, listing)?;
-    new_ones_advance(alloc, &txns)
 }
 
 #[test]
 fn a_machine_that_never_goes_back_is_the_table(rt: HostRuntime) {
-    assert_eq!(rt; advances(rt.alloc(), HISTORY), Ok(true));
+    assert!(rt; holds(rt.alloc(), HISTORY, Asked::Advancing(18)));
 }
 
 /// Transactions of each kind: of nodes that come and go, of sessions that are opened twice and closed, of a session
@@ -326,57 +281,21 @@ const HISTORY: &str = "0000000000000001 0000000000000007 0 1000 createSession 40
     0000000000000011 0000000000000007 0 1000 closeSession\n\
     0000000000000012 0000000000000008 0 1000 create0 \"/o\" x6869 1 31 \"world\" \"anyone\" p\n";
 
-/// What a new machine is after it has changed this much.
-fn shown_step(
-    alloc: Global,
-    machine: &Machine,
-    changes: &[Change],
-) -> Result<String, MachineFault> {
-    let steps = machine.steps()?;
-    let session = machine.session(7)?;
-    let last = machine.last()?;
-    let failed = machine.has_failed();
-    format!(in alloc; "{changes:?} {steps} {session:?} {last} {failed}").map_err(
-        |_| MachineFault::NoMemory,
-    )
-}
-
-/// What a machine changes, and what it is then.
-fn step_of(alloc: Global, machine: &mut Machine, txn: &Txn) -> Result<String, MachineFault> {
-    let applied = applied(machine, txn)?;
-    shown_step(alloc, machine, applied.changes.as_slice())
-}
-
-/// What a new machine changes, and what it is then.
-fn first_step(alloc: Global, txn: &Txn) -> Result<String, MachineFault> {
-    let mut machine = new_machine(alloc)?;
-    step_of(alloc, &mut machine, txn)
-}
-
-/// The first transaction of a listing.
-fn first_txn(alloc: Global, listing: &str) -> Result<Txn, MachineFault> {
-    match txns_of(alloc, listing)?.as_slice() {
-        [first, ..] => Ok(first.copy()?),
-        [] => Err(MachineFault::NotLast),
-    }
-}
-
-/// What a new machine changes by the first transaction of a listing, and what it is then.
-fn first_of(alloc: Global, listing: &str) -> Result<String, MachineFault> {
-    let first = first_txn(alloc, listing)?;
-    first_step(alloc, &first)
-}
-
-/// Whether this is what it is told.
-fn first_is(alloc: Global, listing: &str, told: &str) -> Result<bool, MachineFault> {
-    let first = first_of(alloc, listing)?;
-    Ok(first.as_str() == told)
+/// Whether the first transaction changes nothing but the session, the last transaction and the count of steps.
+fn opens(texts: &mut Texts, machine: &mut Machine, txns: &[Txn], timeout: i32) -> bool {
+    let [first, ..] = txns else {
+        return false;
+    };
+    push_step(&mut texts.machine, machine, first)
+        && machine.steps() == Ok(1)
+        && machine.session(7) == Ok(Some(timeout))
+        && machine.last() == Ok(1)
+        && !machine.has_failed()
 }
 
 #[test]
 fn opening_a_session_is_a_step_without_changes(rt: HostRuntime) {
-    let told = "[] 1 Some(4000) 1 false";
-    assert_eq!(rt; first_is(rt.alloc(), HISTORY, told), Ok(true));
+    assert!(rt; holds(rt.alloc(), HISTORY, Asked::Opening(4000)));
 }
 
 /// The record that comes back when it is another step's.
@@ -398,57 +317,28 @@ fn refused(machine: &mut Machine, undo: Undo) -> Option<Undo>
 }
 
 /// Whether the record of the first of two transactions is refused until the second is taken back.
-fn come_back_in_order(
-    machine: &mut Machine,
-    first: &Txn,
-    second: &Txn,
-) -> Result<bool, MachineFault> {
-    let earlier = record_of(machine, first)?;
-    let later = record_of(machine, second)?;
+fn come_back_in_order(machine: &mut Machine, first: &Txn, second: &Txn) -> bool {
+    let Ok(earlier) = record_of(machine, first) else {
+        return false;
+    };
+    let Ok(later) = record_of(machine, second) else {
+        return false;
+    };
     let Some(earlier) = refused(machine, earlier) else {
-        return Ok(false);
+        return false;
     };
-    take_back(machine, later)?;
-    take_back(machine, earlier)?;
-    Ok(machine.steps()? == 0)
+    is_taken_back(machine, later) && is_taken_back(machine, earlier)
 }
 
-/// Whether the machine then stands so.
-fn come_back_to(
-    alloc: Global,
-    machine: &mut Machine,
-    first: &Txn,
-    second: &Txn,
-    stood: &str,
-) -> Result<bool, MachineFault> {
-    let back = come_back_in_order(machine, first, second)?;
-    Ok(back && stands_as(alloc, machine, stood)?)
-}
-
-/// Whether the machine then stands as before.
-fn both_come_back(
-    alloc: Global,
-    machine: &mut Machine,
-    first: &Txn,
-    second: &Txn,
-) -> Result<bool, MachineFault> {
-    let before = standing(alloc, machine)?;
-    come_back_to(alloc, machine, first, second, before.as_str())
-}
-
-/// Whether this is so of a new machine and these two transactions.
-fn two_come_back(alloc: Global, txns: &[Txn]) -> Result<bool, MachineFault> {
+/// Writes how the machine stands before and behind that.
+fn last_comes_back_first(texts: &mut Texts, machine: &mut Machine, txns: &[Txn]) -> bool {
     let [first, second] = txns else {
-        return Ok(false);
+        return false;
     };
-    let mut machine = new_machine(alloc)?;
-    both_come_back(alloc, &mut machine, first, second)
-}
-
-/// Whether this is so of the two transactions of a listing.
-fn listed_come_back(alloc: Global, listing: &str) -> Result<bool, MachineFault> {
-    let txns = txns_of(alloc, listing)?;
-    two_come_back(alloc, &txns)
+    push_machine(&mut texts.machine, machine)
+        && come_back_in_order(machine, first, second)
+        && machine.steps() == Ok(0)
+        && push_machine(&mut texts.other, machine)
 }
 
 #[test]
@@ -456,49 +346,39 @@ fn the_last_step_is_taken_back_first(rt: HostRuntime) {
     let two_creates =
         "0000000000000001 0000000000000007 0 1000 create \"/a\" x6869 1 31 \"world\" \"anyone\" p -1\n\
         0000000000000002 0000000000000007 0 1000 create \"/b\" x6869 1 31 \"world\" \"anyone\" p -1\n";
-    assert_eq!(rt; listed_come_back(rt.alloc(), two_creates), Ok(true));
+    assert!(rt; holds(rt.alloc(), two_creates, Asked::LastFirst));
 }
 
-/// The transaction that the answer to one names, once it is applied.
-fn answered_zxid(machine: &mut Machine, txn: &Txn) -> Result<i64, MachineFault> {
-    let applied = applied(machine, txn)?;
-    Ok(applied.result.zxid)
-}
-
-/// Whether a transaction, applied, comes back; then it is applied for good.
-fn comes_back_and_stays(
-    alloc: Global,
-    machine: &mut Machine,
-    txn: &Txn,
-) -> Result<bool, MachineFault> {
-    let back = comes_back(alloc, machine, txn)?;
-    Ok(answered_zxid(machine, txn)? == txn.zxid && back)
-}
-
-/// Whether this is so of each of these.
-fn all_come_back(alloc: Global, machine: &mut Machine, txns: &[Txn]) -> Result<bool, MachineFault> {
-    let mut all = true;
-    for txn in txns {
-        all = comes_back_and_stays(alloc, machine, txn)? && all;
+/// Applies a transaction, and tells whether the answer names it.
+fn stays(machine: &mut Machine, txn: &Txn) -> bool {
+    match answered(machine, txn) {
+        Ok(answer) => answer.zxid == txn.zxid,
+        Err(_) => false,
     }
-    Ok(all)
 }
 
-/// Whether this is so of each of these on a new machine.
-fn new_ones_come_back(alloc: Global, txns: &[Txn]) -> Result<bool, MachineFault> {
-    let mut machine = new_machine(alloc)?;
-    all_come_back(alloc, &mut machine, txns)
+/// Writes how the machine stands before a transaction, and once it is taken back, after as many steps.
+fn comes_back(texts: &mut Texts, machine: &mut Machine, txn: &Txn) -> bool {
+    let steps = machine.steps();
+    push_machine(&mut texts.machine, machine)
+        && goes_and_comes(machine, txn)
+        && push_machine(&mut texts.other, machine)
+        && machine.steps() == steps
 }
 
-/// Whether this is so of each transaction of a listing.
-fn each_comes_back(alloc: Global, listing: &str) -> Result<bool, MachineFault> {
-    let txns = txns_of(alloc, listing)?;
-    new_ones_come_back(alloc, &txns)
+/// The same of each of these, which then stays.
+fn each_comes_back(texts: &mut Texts, machine: &mut Machine, txns: &[Txn]) -> bool {
+    for txn in txns {
+        if !(comes_back(texts, machine, txn) && stays(machine, txn)) {
+            return false;
+        }
+    }
+    true
 }
 
 #[test]
 fn each_step_is_taken_back(rt: HostRuntime) {
-    assert_eq!(rt; each_comes_back(rt.alloc(), HISTORY), Ok(true));
+    assert!(rt; holds(rt.alloc(), HISTORY, Asked::EachBack));
 }
 
 /// A copy of a machine that has not failed.
@@ -507,147 +387,80 @@ fn copy_of(machine: &Machine) -> Result<Machine, MachineFault> {
     Ok(machine.copy()?)
 }
 
-/// Session 7's timeout, and how many steps are counted.
-fn session_and_steps(machine: &Machine) -> Result<(Option<i32>, u64), MachineFault> {
-    Ok((machine.session(7)?, machine.steps()?))
-}
-
-/// The same of its copy.
-fn copied(machine: &Machine) -> Result<(Option<i32>, u64), MachineFault> {
-    let copy = copy_of(machine)?;
-    session_and_steps(&copy)
-}
-
-/// The same of the copy of a machine that has applied this.
-fn copied_after(machine: &mut Machine, txn: &Txn) -> Result<(Option<i32>, u64), MachineFault> {
-    answered_zxid(machine, txn)?;
-    copied(machine)
-}
-
-/// The same of the copy of a new machine that has.
-fn copied_after_first(alloc: Global, txn: &Txn) -> Result<(Option<i32>, u64), MachineFault> {
-    let mut machine = new_machine(alloc)?;
-    copied_after(&mut machine, txn)
-}
-
-/// The same of the copy of a new machine that has applied the first transaction of a listing.
-fn copied_after_listed(alloc: Global, listing: &str) -> Result<(Option<i32>, u64), MachineFault> {
-    let first = first_txn(alloc, listing)?;
-    copied_after_first(alloc, &first)
-}
-
-/// Whether two machines stand alike.
-fn machines_are_alike(alloc: Global, one: &Machine, other: &Machine) -> Result<bool, MachineFault> {
-    let shown = standing(alloc, one)?;
-    stands_as(alloc, other, shown.as_str())
-}
-
-/// Whether a copy stands as the machine does, and then goes its own way with this.
+/// Whether a copy has session 7 with this timeout and no steps, and goes its own way by this. Writes how the machine stands, and
+/// against it the copy, and once the copy has gone the machine.
 fn goes_from(
-    alloc: Global,
+    texts: &mut Texts,
     machine: &Machine,
     copy: &mut Machine,
-    txn: &Txn,
-) -> Result<bool, MachineFault> {
-    let same = machines_are_alike(alloc, machine, copy)?;
-    answered_zxid(copy, txn)?;
-    Ok(same && !machines_are_alike(alloc, machine, copy)?)
+    next: &Txn,
+    timeout: Option<i32>,
+) -> bool {
+    copy.session(7) == Ok(timeout)
+        && copy.steps() == Ok(0)
+        && push_machine(&mut texts.machine, machine)
+        && push_machine(&mut texts.machine, machine)
+        && push_machine(&mut texts.other, copy)
+        && stays(copy, next)
+        && copy.last() != machine.last()
+        && push_machine(&mut texts.other, machine)
 }
 
-/// Whether a copy of the machine does.
-fn its_copy_goes(alloc: Global, machine: &Machine, txn: &Txn) -> Result<bool, MachineFault> {
-    let mut copy = copy_of(machine)?;
-    goes_from(alloc, machine, &mut copy, txn)
+/// The same of a new copy.
+fn a_copy_goes(texts: &mut Texts, machine: &Machine, next: &Txn, timeout: Option<i32>) -> bool {
+    match copy_of(machine) {
+        Ok(mut copy) => goes_from(texts, machine, &mut copy, next, timeout),
+        Err(_) => false,
+    }
 }
 
-/// Whether a machine stands as a new one.
-fn stands_as_new(alloc: Global, machine: &Machine) -> Result<bool, MachineFault> {
-    let new = new_machine(alloc)?;
-    machines_are_alike(alloc, machine, &new)
-}
-
-/// Whether the copy of this new machine does, and leaves the machine as a new one.
-fn is_left_as_new(alloc: Global, machine: &Machine, txn: &Txn) -> Result<bool, MachineFault> {
-    let goes = its_copy_goes(alloc, machine, txn)?;
-    Ok(goes && stands_as_new(alloc, machine)?)
-}
-
-/// Whether the copy of a new machine does.
-fn goes_its_own_way(alloc: Global, txn: &Txn) -> Result<bool, MachineFault> {
-    let machine = new_machine(alloc)?;
-    is_left_as_new(alloc, &machine, txn)
-}
-
-/// Whether it does with the first transaction of a listing.
-fn goes_with_listed(alloc: Global, listing: &str) -> Result<bool, MachineFault> {
-    let first = first_txn(alloc, listing)?;
-    goes_its_own_way(alloc, &first)
+/// The same before and after the first of these, which opens session 7.
+fn copies_go(texts: &mut Texts, machine: &mut Machine, txns: &[Txn], timeout: i32) -> bool {
+    let [first, second, ..] = txns else {
+        return false;
+    };
+    a_copy_goes(texts, machine, first, None)
+        && stays(machine, first)
+        && a_copy_goes(texts, machine, second, Some(timeout))
 }
 
 #[test]
 fn a_copy_has_the_open_sessions(rt: HostRuntime) {
-    assert_eq!(rt;
-        copied_after_listed(rt.alloc(), HISTORY),
-        Ok((Some(4000), 0))
-    );
-    assert_eq!(rt; goes_with_listed(rt.alloc(), HISTORY), Ok(true));
+    assert!(rt; holds(rt.alloc(), HISTORY, Asked::Copies(4000)));
 }
 
 /// Appends a line for a change: the transaction, what happened, and the path.
-fn push_change(text: &mut String, zxid: i64, change: &Change) -> Result<(), NoMemory> {
-    write!(text, "{zxid} {:?} {}\n", change.kind, change.path.text())?;
-    Ok(())
+fn push_change(text: &mut String, zxid: i64, change: &Change) -> bool {
+    let path = change.path.text();
+    write!(text, "{zxid} {:?} {path}\n", change.kind).is_ok()
 }
 
 /// The same for each of these changes.
-fn push_changes(text: &mut String, zxid: i64, changes: &[Change]) -> Result<(), MachineFault> {
+fn push_changes(text: &mut String, zxid: i64, changes: &[Change]) -> bool {
     for change in changes {
-        push_change(text, zxid, change)?;
+        if !push_change(text, zxid, change) {
+            return false;
+        }
     }
-    Ok(())
+    true
 }
 
 /// Applies a transaction, and appends what it changes.
-fn push_step(text: &mut String, machine: &mut Machine, txn: &Txn) -> Result<(), MachineFault> {
-    let applied = applied(machine, txn)?;
-    push_changes(text, txn.zxid, applied.changes.as_slice())
+fn push_step(text: &mut String, machine: &mut Machine, txn: &Txn) -> bool {
+    match applied(machine, txn) {
+        Ok(applied) => push_changes(text, txn.zxid, &applied.changes),
+        Err(_) => false,
+    }
 }
 
 /// Applies these, and appends what each changes.
-fn push_all_changes(
-    text: &mut String,
-    machine: &mut Machine,
-    txns: &[Txn],
-) -> Result<(), MachineFault> {
+fn push_all_changes(text: &mut String, machine: &mut Machine, txns: &[Txn]) -> bool {
     for txn in txns {
-        push_step(text, machine, txn)?;
+        if !push_step(text, machine, txn) {
+            return false;
+        }
     }
-    Ok(())
-}
-
-/// The same on a new machine.
-fn push_new_changes(alloc: Global, text: &mut String, txns: &[Txn]) -> Result<(), MachineFault> {
-    let mut machine = new_machine(alloc)?;
-    push_all_changes(text, &mut machine, txns)
-}
-
-/// Appends what each transaction of a listing changes.
-fn push_listed(alloc: Global, text: &mut String, listing: &str) -> Result<(), MachineFault> {
-    let txns = txns_of(alloc, listing)?;
-    push_new_changes(alloc, text, &txns)
-}
-
-/// What each transaction of a listing changes.
-fn changes_of(alloc: Global, listing: &str) -> Result<String, MachineFault> {
-    let mut text = String::new(alloc);
-    push_listed(alloc, &mut text, listing)?;
-    Ok(text)
-}
-
-/// Whether these are its changes.
-fn changes_are(alloc: Global, listing: &str, changes: &str) -> Result<bool, MachineFault> {
-    let told = changes_of(alloc, listing)?;
-    Ok(told.as_str() == changes)
+    true
 }
 
 /// What the history changes: a multi part by part, and the end of a session at its node and that node's parent.
@@ -670,33 +483,23 @@ const CHANGES: &str = "2 ChildrenChanged /\n\
 
 #[test]
 fn changes_come_by_path(rt: HostRuntime) {
-    assert_eq!(rt; changes_are(rt.alloc(), HISTORY, CHANGES), Ok(true));
+    assert!(rt; holds(rt.alloc(), HISTORY, Asked::Changes(CHANGES)));
 }
 
 /// Whether the machine and the plain table agree on a listing of so many transactions that are drawn.
-fn agree_on_drawn(alloc: Global, draws: &mut Draws, count: i64) -> Result<bool, MachineFault> {
-    let listing = drawn_listing(alloc, draws, count)?;
-    agree(alloc, listing.as_str())
-}
-
-/// The first of 240 such listings on which they do not agree.
-fn first_disagreement(alloc: Global, draws: &mut Draws) -> Result<Option<i64>, MachineFault> {
-    for list in 0..240 {
-        if !agree_on_drawn(alloc, draws, 12 + list % 36)? {
-            return Ok(Some(list));
-        }
-    }
-    Ok(None)
-}
-
-/// The same of those that are drawn from 1 on.
-fn disagreement_from_1(alloc: Global) -> Result<Option<i64>, MachineFault> {
-    let mut draws = Draws::new(1);
-    first_disagreement(alloc, &mut draws)
+fn agree_on_drawn(alloc: Global, draws: &mut Draws, count: i64) -> bool {
+    let mut listing = String::new(alloc);
+    push_drawn_lines(&mut listing, draws, count) && holds(alloc, listing.as_str(), Asked::Undoing)
 }
 
 #[test]
 fn machine_and_plain_table_agree(rt: HostRuntime) {
-    assert_eq!(rt; agree(rt.alloc(), HISTORY), Ok(true));
-    assert_eq!(rt; disagreement_from_1(rt.alloc()), Ok(None));
+    assert!(rt; holds(rt.alloc(), HISTORY, Asked::Undoing));
+    let mut draws = Draws::new(1);
+    for list in 0..240 {
+        assert!(rt;
+            agree_on_drawn(rt.alloc(), &mut draws, 12 + list % 36),
+            "{list}"
+        );
+    }
 }

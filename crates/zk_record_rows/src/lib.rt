@@ -1,4 +1,4 @@
-//! The worked rows of records: the tests of `zk_jute`, and no code of its own.
+//! The worked rows of records and of the tree: the tests of `zk_jute` and `zk_tree`, and no code of its own.
 //!
 //! They stand apart from the crates that they test, as those of `zk_rows` do, and for the same reason.
 #![tactic(auto)]
@@ -7,3 +7,5 @@
 mod fault_rows;
 #[cfg(test)]
 mod jute_rows;
+#[cfg(test)]
+mod tree_rows;

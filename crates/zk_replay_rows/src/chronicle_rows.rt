@@ -45,16 +45,37 @@ static HAPPENINGS: [(Happening, &str); 20] = [
     (Happening::Lead(2), "20 E4 0000000000000000"),
 ];
 
+/// Whether an event's receipt is this.
+fn is_added(
+    alloc: Global,
+    chronicle: &mut Chronicle,
+    happening: Happening,
+    expected: &str,
+) -> Result<bool, Fail> {
+    let receipt = chronicle.add(event_of(alloc, happening)?)?;
+    let line = receipt_line(alloc, &receipt);
+    drop(receipt);
+    Ok(line?.as_str() == expected)
+}
+
 /// The place of an event whose receipt differs, from 0 on; none where all are as they are to be.
 fn add_all(alloc: Global, chronicle: &mut Chronicle) -> Result<Option<usize>, Fail> {
     for (place, (happening, expected)) in HAPPENINGS.iter().enumerate() {
-        let event = event_of(alloc, *happening)?;
-        let receipt = chronicle.add(event)?;
-        if receipt_line(alloc, &receipt)?.as_str() != *expected {
+        if !is_added(alloc, chronicle, *happening, expected)? {
             return Ok(Some(place));
         }
     }
     Ok(None)
+}
+
+/// Whether a record is this.
+fn is_recorded(
+    alloc: Global,
+    number: usize,
+    record: &Record,
+    expected: &str,
+) -> Result<bool, NoMemory> {
+    Ok(record_line(alloc, number, record)?.as_str() == expected)
 }
 
 /// The place of a record that differs, or is missing.
@@ -63,24 +84,37 @@ fn records_differ(alloc: Global, chronicle: &Chronicle) -> Result<Option<usize>,
         let Some(it) = chronicle.records().get(place) else {
             return Ok(Some(place));
         };
-        if record_line(alloc, place + 1, it)?.as_str() != *expected {
+        if !is_recorded(alloc, place + 1, it, expected)? {
             return Ok(Some(place));
         }
     }
     Ok(None)
 }
 
+/// Whether each event has its receipt and its record, and the servers have delivered what they should.
+fn are_recorded(alloc: Global, chronicle: &mut Chronicle) -> Result<bool, Fail> {
+    Ok(
+        add_all(alloc, chronicle)?.is_none()
+            && records_differ(alloc, chronicle)?.is_none()
+            && chronicle.records().len() == 20
+            // the second server lost what it had delivered, the third never had any
+            && chronicle.delivered(1).len() == 1
+            && chronicle.delivered(2).len() == 0
+            && chronicle.delivered(3).len() == 0,
+    )
+}
+
+/// The same of a new chronicle of three servers.
+fn are_recorded_from_the_start(alloc: Global) -> Result<bool, Fail> {
+    let mut chronicle = Chronicle::new(alloc, 3)?;
+    let are_recorded = are_recorded(alloc, &mut chronicle);
+    drop(chronicle);
+    are_recorded
+}
+
 #[test]
 fn each_event_is_recorded_with_its_answer(rt: HostRuntime) -> Result<(), Fail> {
-    let alloc = rt.alloc();
-    let mut chronicle = Chronicle::new(alloc, 3)?;
-    assert_eq!(rt; add_all(alloc, &mut chronicle)?, None);
-    assert_eq!(rt; records_differ(alloc, &chronicle)?, None);
-    assert_eq!(rt; chronicle.records().len(), 20);
-    // the second server lost what it had delivered, the third never had any
-    assert_eq!(rt; chronicle.delivered(1).len(), 1);
-    assert_eq!(rt; chronicle.delivered(2).len(), 0);
-    assert_eq!(rt; chronicle.delivered(3).len(), 0);
+    assert!(rt; are_recorded_from_the_start(rt.alloc())?);
     Ok(())
 }
 

@@ -210,7 +210,10 @@ fn is_node(rt: &HostRuntime, debugger: &Debugger, path: &Path, line: &str) -> Re
 
 /// The same at the path of a text.
 fn is_node_at(rt: &HostRuntime, debugger: &Debugger, text: &str, line: &str) -> Result<bool, Fail> {
-    is_node(rt, debugger, &path_of(rt, text)?, line)
+    let path = path_of(rt, text)?;
+    let is_it = is_node(rt, debugger, &path, line);
+    drop(path);
+    is_it
 }
 
 /// Whether these lines are shown.
@@ -257,12 +260,11 @@ fn are_moved(
     Ok(true)
 }
 
-/// Where a breakpoint is met first above the start and last below the end, and whether it is told there.
+/// Where a breakpoint is met first above the place and last below the end, and whether it is told there.
 fn meetings(
     debugger: &mut Debugger,
     breakpoint: Breakpoint,
 ) -> Result<(usize, usize, bool), DebugFault> {
-    debugger.reset()?;
     let number = debugger.set(breakpoint)?;
     let first = debugger.run()?;
     debugger.goto(i64::MAX)?;
@@ -279,8 +281,8 @@ fn are_met(
     rows: &[(Sought, usize, usize)],
 ) -> Result<bool, Fail> {
     for (sought, first, last) in rows {
-        let breakpoint = breakpoint(rt, *sought)?;
-        if meetings(debugger, breakpoint)? != (*first, *last, true) {
+        debugger.reset()?;
+        if meetings(debugger, breakpoint(rt, *sought)?)? != (*first, *last, true) {
             return Ok(false);
         }
     }
@@ -334,11 +336,12 @@ fn answer(rt: &HostRuntime, debugger: &mut Debugger, question: Question) -> Resu
     }
 }
 
-/// What a debugger over the log of a listing answers. No other function keeps a debugger, since each exit of one that does
-/// is proved to let it go.
+/// What a debugger over the log of a listing answers. No other function keeps a debugger.
 fn answer_over(rt: &HostRuntime, listing: &str, question: Question) -> Result<bool, Fail> {
     let mut debugger = debugger_over(rt, listing)?;
-    answer(rt, &mut debugger, question)
+    let answer = answer(rt, &mut debugger, question);
+    drop(debugger);
+    answer
 }
 
 #[test]

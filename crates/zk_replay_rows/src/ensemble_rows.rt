@@ -27,11 +27,10 @@ static ABOUT: [(Happening, usize, i64); 13] = [
 
 /// Whether the event is about this server, which then stands there.
 fn is_about(ensemble: &mut Ensemble, event: Event, server: usize, last: i64) -> bool {
-    if ensemble.server_of(&event) != server {
-        return false;
-    }
-    let _answer = ensemble.step(event);
-    ensemble.last(server) == last
+    let about = ensemble.server_of(&event);
+    let answer = ensemble.step(event);
+    drop(answer);
+    about == server && ensemble.last(server) == last
 }
 
 /// The place of an event that is about another server; none where all are as they are to be.
@@ -45,24 +44,45 @@ fn walk(alloc: Global, ensemble: &mut Ensemble) -> Result<Option<usize>, Fail> {
     Ok(None)
 }
 
-/// What a read would be answered.
-fn peeked(alloc: Global, ensemble: &Ensemble, server: usize, seen: i64) -> Result<String, Fail> {
-    let answer = ensemble.peek(&question(alloc, server, seen)?);
-    Ok(answer_line(alloc, &answer)?)
+/// Whether the first session, which has seen its own opening, would be told this by a server.
+fn is_peeked(
+    alloc: Global,
+    ensemble: &Ensemble,
+    server: usize,
+    expected: &str,
+) -> Result<bool, Fail> {
+    let question = question(alloc, server, FIRST)?;
+    let answer = ensemble.peek(&question);
+    drop(question);
+    let line = answer_line(alloc, &answer);
+    drop(answer);
+    Ok(line?.as_str() == expected)
 }
 
 /// What the first session would be told by each server, and by one that there is not.
 fn all_peeked(alloc: Global, ensemble: &Ensemble) -> Result<bool, Fail> {
-    let told = peeked(alloc, ensemble, 2, FIRST)?;
-    let behind = peeked(alloc, ensemble, 3, FIRST)?;
-    let nobody = peeked(alloc, ensemble, 4, FIRST)?;
-    Ok(told.as_str() == "told" && behind.as_str() == "E1" && nobody.as_str() == "E2")
+    Ok(
+        is_peeked(alloc, ensemble, 2, "told")?
+            && is_peeked(alloc, ensemble, 3, "E1")?
+            && is_peeked(alloc, ensemble, 4, "E2")?,
+    )
+}
+
+/// Whether all is as it is to be, first the events and then the reads.
+fn all_hold(alloc: Global, ensemble: &mut Ensemble) -> Result<bool, Fail> {
+    Ok(walk(alloc, ensemble)?.is_none() && all_peeked(alloc, ensemble)?)
+}
+
+/// The same of a new ensemble of three servers.
+fn all_hold_from_the_start(alloc: Global) -> Result<bool, Fail> {
+    let mut ensemble = Ensemble::new(alloc, 3)?;
+    let all_hold = all_hold(alloc, &mut ensemble);
+    drop(ensemble);
+    all_hold
 }
 
 #[test]
 fn events_are_about_servers(rt: HostRuntime) -> Result<(), Fail> {
-    let mut ensemble = Ensemble::new(rt.alloc(), 3)?;
-    assert_eq!(rt; walk(rt.alloc(), &mut ensemble)?, None);
-    assert!(rt; all_peeked(rt.alloc(), &ensemble)?);
+    assert!(rt; all_hold_from_the_start(rt.alloc())?);
     Ok(())
 }

@@ -38,33 +38,36 @@ fn open_call(alloc: Global) -> Call {
 
 /// The first session asks a server for the root.
 pub fn question(alloc: Global, server: usize, seen: i64) -> Result<Question, Fail> {
+    let path = Path::read(alloc, "/")?;
     Ok(Question {
         server,
         session: FIRST,
         seen,
         auths: Ids::new(Vec::new(alloc)),
-        call: ReadCall::Exists {
-            path: Path::read(alloc, "/")?,
-        },
+        call: ReadCall::Exists { path },
         watch: true,
     })
 }
 
+/// A session is opened at a server.
+fn open_event(alloc: Global, server: usize) -> Event {
+    Event::World(zab_runs::Event::Submit {
+        server,
+        call: open_call(alloc),
+    })
+}
+
 pub fn event_of(alloc: Global, happening: Happening) -> Result<Event, Fail> {
-    let event = match happening {
-        Happening::Lead(server) => zab_runs::Event::Lead { server },
-        Happening::Follow(server, leader) => zab_runs::Event::Follow { server, leader },
-        Happening::Arrive(message) => zab_runs::Event::Arrive { message },
-        Happening::Crash(server) => zab_runs::Event::Crash { server },
-        Happening::Open(server) => zab_runs::Event::Submit {
-            server,
-            call: open_call(alloc),
-        },
-        Happening::Stat(server, seen) => {
-            return Ok(Event::Read(question(alloc, server, seen)?));
+    match happening {
+        Happening::Lead(server) => Ok(Event::World(zab_runs::Event::Lead { server })),
+        Happening::Follow(server, leader) => {
+            Ok(Event::World(zab_runs::Event::Follow { server, leader }))
         }
-    };
-    Ok(Event::World(event))
+        Happening::Arrive(message) => Ok(Event::World(zab_runs::Event::Arrive { message })),
+        Happening::Crash(server) => Ok(Event::World(zab_runs::Event::Crash { server })),
+        Happening::Open(server) => Ok(open_event(alloc, server)),
+        Happening::Stat(server, seen) => Ok(Event::Read(question(alloc, server, seen)?)),
+    }
 }
 
 /// An answer: how many messages were sent and the first one's number, that a read was told something, or a refusal's number.

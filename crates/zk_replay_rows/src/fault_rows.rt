@@ -1,6 +1,7 @@
 //! How the faults of a debugger and of a chronicle are shown.
 
 use std::alloc::Global;
+use std::fmt::Display;
 use zk_debug::DebugFault;
 use zk_path::NoMemory;
 use zk_servers::CallFault;
@@ -18,34 +19,21 @@ static DEBUG_FAULTS: [(DebugFault, &str); 6] = [
 /// Each fault of a chronicle, and its number.
 static CALL_FAULTS: [(CallFault, &str); 2] = [(CallFault::NoMemory, "S1"), (CallFault::Full, "S2")];
 
-/// Whether a debugger's fault is shown so.
-fn is_debug_fault(alloc: Global, fault: DebugFault, shown: &str) -> Result<bool, NoMemory> {
-    Ok(format!(in alloc; "{fault}")?.as_str() == shown)
-}
-
-/// Whether a chronicle's fault is shown so.
-fn is_call_fault(alloc: Global, fault: CallFault, shown: &str) -> Result<bool, NoMemory> {
+/// Whether a fault is shown so.
+fn is_shown<F: Display>(alloc: Global, fault: &F, shown: &str) -> Result<bool, NoMemory> {
     Ok(format!(in alloc; "{fault}")?.as_str() == shown)
 }
 
 #[test]
 fn debug_faults_are_shown_by_their_numbers(rt: HostRuntime) {
     for (fault, shown) in &DEBUG_FAULTS {
-        assert_eq!(rt;
-            is_debug_fault(rt.alloc(), *fault, shown),
-            Ok(true),
-            "{shown}"
-        );
+        assert_eq!(rt; is_shown(rt.alloc(), fault, shown), Ok(true), "{shown}");
     }
 }
 
 #[test]
 fn call_faults_are_shown_by_their_numbers(rt: HostRuntime) {
     for (fault, shown) in &CALL_FAULTS {
-        assert_eq!(rt;
-            is_call_fault(rt.alloc(), *fault, shown),
-            Ok(true),
-            "{shown}"
-        );
+        assert_eq!(rt; is_shown(rt.alloc(), fault, shown), Ok(true), "{shown}");
     }
 }

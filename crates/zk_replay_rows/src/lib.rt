@@ -3,7 +3,8 @@
 //! own.
 //!
 //! They stand apart from the crates that they test, as those of `zk_rows` do, and for the same reason. Expected values come from
-//! the definitions of the protocol and of a chronicle.
+//! the definitions of the protocol and of a chronicle. What is large is let go by `drop`, and functions that may end early are
+//! lent it: the end of each scope that such a value lives in would be proved for each part of it.
 #![tactic(auto)]
 
 #[cfg(test)]

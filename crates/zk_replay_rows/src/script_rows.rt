@@ -109,7 +109,11 @@ fn first_wrong(alloc: Global, debugger: &mut Debugger) -> Option<&'static str> {
 /// The same at the start of a log without transactions.
 fn first_wrong_at_the_start(alloc: Global) -> Option<&'static str> {
     match at_the_start(alloc) {
-        Ok(mut debugger) => first_wrong(alloc, &mut debugger),
+        Ok(mut debugger) => {
+            let wrong = first_wrong(alloc, &mut debugger);
+            drop(debugger);
+            wrong
+        }
         Err(_) => Some("no memory"),
     }
 }
@@ -149,7 +153,11 @@ fn ends_at_the_third_line(alloc: Global, debugger: &mut Debugger) -> bool {
 /// The same at the start of a log without transactions.
 fn ends_at_the_start(alloc: Global) -> bool {
     match at_the_start(alloc) {
-        Ok(mut debugger) => ends_at_the_third_line(alloc, &mut debugger),
+        Ok(mut debugger) => {
+            let ends = ends_at_the_third_line(alloc, &mut debugger);
+            drop(debugger);
+            ends
+        }
         Err(_) => false,
     }
 }
@@ -187,7 +195,11 @@ fn has_page(alloc: Global, machine: &Machine, expected: &str) -> bool
 /// The same of a new machine.
 fn a_new_machine_has_page(alloc: Global, expected: &str) -> bool {
     match Machine::new(alloc) {
-        Ok(machine) => has_page(alloc, &machine, expected),
+        Ok(machine) => {
+            let has_it = has_page(alloc, &machine, expected);
+            drop(machine);
+            has_it
+        }
         Err(_) => false,
     }
 }

@@ -29,10 +29,18 @@ const FIELDS: &str =
     "0000000000000001 0000000000000002 3 4 5 6 7 0000000000000008 9 10 000000000000000b";
 
 /// Whether a reply is told by these words and its stat.
-fn tells(alloc: Global, made: Result<ReadReply, NoMemory>, front: &str) -> bool {
+fn is_told(alloc: Global, reply: &ReadReply, front: &str) -> bool {
     let mut line = String::new(alloc);
-    matches!(&made, Ok(reply) if push_reply(&mut line, reply).is_ok())
-        && line.as_str().strip_prefix(front) == Some(FIELDS)
+    push_reply(&mut line, reply).is_ok()
+        && matches!(line.as_str().strip_prefix(front), Some(fields) if fields == FIELDS)
+}
+
+/// The same of a reply that was made.
+fn tells(alloc: Global, made: Result<ReadReply, NoMemory>, front: &str) -> bool {
+    match made {
+        Ok(reply) => is_told(alloc, &reply, front),
+        Err(_) => false,
+    }
 }
 
 /// Null content, which takes no memory.

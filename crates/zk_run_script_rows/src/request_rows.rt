@@ -1,10 +1,9 @@
 //! Lines that ask something, and lines that ask nothing.
 use crate::asked::Asked::{Alone, Close, Multi, Open, Permit};
 use crate::asked::AskedPart::{Check, Create, Delete, Set};
-use crate::asked::{Asked, NewNode, asks_for, asks_part};
+use crate::asked::{Asked, AskedPart, NewNode, asks_for, asks_part};
 use std::alloc::Global;
 use zk_listing::ListCause;
-use zk_prepare::Request;
 use zk_request_lines::{
     Lookup, read_lookup, read_part, read_request, take_id, take_ids, take_int, take_long,
     take_lookup, take_number, take_request, take_space, take_word,
@@ -129,8 +128,8 @@ fn is_read(alloc: Global, line: &str, asked: Asked) -> bool {
 /// Whether a line asks for nothing.
 fn is_refused(alloc: Global, line: &str) -> bool {
     match read_request(alloc, line) {
-        Ok(_) => false,
-        Err(cause) => cause != ListCause::NoMemory,
+        Ok(_request) => false,
+        Err(cause) => !matches!(cause, ListCause::NoMemory),
     }
 }
 
@@ -148,13 +147,27 @@ fn other_lines_ask_for_nothing(rt: HostRuntime) {
     }
 }
 
+/// Whether a line asks for this part.
+fn is_part(alloc: Global, line: &str, asked: AskedPart) -> bool {
+    match read_part(alloc, line) {
+        Ok(part) => asks_part(&part, asked),
+        Err(_) => false,
+    }
+}
+
+/// Whether a line asks for no part.
+fn is_no_part(alloc: Global, line: &str) -> bool {
+    match read_part(alloc, line) {
+        Ok(_part) => false,
+        Err(_) => true,
+    }
+}
+
 #[test]
 fn parts_of_a_multi_have_lines(rt: HostRuntime) {
-    assert!(rt;
-        matches!(&read_part(rt.alloc(), "check \"/a\" 3"), Ok(part) if asks_part(part, Check("/a", 3)))
-    );
-    assert!(rt; read_part(rt.alloc(), "setacl \"/a\" 0 0").is_err());
-    assert!(rt; read_part(rt.alloc(), "check \"/a\" 3 ;").is_err());
+    assert!(rt; is_part(rt.alloc(), "check \"/a\" 3", Check("/a", 3)));
+    assert!(rt; is_no_part(rt.alloc(), "setacl \"/a\" 0 0"));
+    assert!(rt; is_no_part(rt.alloc(), "check \"/a\" 3 ;"));
 }
 
 /// The word of a read.
@@ -223,13 +236,13 @@ fn each_read_has_a_line(rt: HostRuntime) {
 fn takes_numbers(rest: &mut &str) -> bool {
     take_word(rest) == "one"
         && take_space(rest).is_ok()
-        && take_id(rest) == Ok(10)
+        && matches!(take_id(rest), Ok(10))
         && take_space(rest).is_ok()
-        && take_int(rest) == Ok(-5)
+        && matches!(take_int(rest), Ok(-5))
         && take_space(rest).is_ok()
-        && take_number(rest) == Ok(u64::MAX)
+        && matches!(take_number(rest), Ok(u64::MAX))
         && take_space(rest).is_ok()
-        && take_long(rest) == Ok(i64::MIN)
+        && matches!(take_long(rest), Ok(i64::MIN))
         && take_space(rest).is_ok()
 }
 
@@ -244,10 +257,18 @@ fn takes_ids(alloc: Global, rest: &mut &str) -> bool {
     }
 }
 
-/// Takes a read. Whether it is that of the root's content.
-fn takes_lookup(alloc: Global, rest: &mut &str) -> bool {
+/// Takes a read. Whether it is this one.
+fn takes_lookup(alloc: Global, rest: &mut &str, expected: Option<(&str, &str, bool)>) -> bool {
     match take_lookup(alloc, rest) {
-        Ok(lookup) => is_lookup(&lookup, Some(("get", "/", false))),
+        Ok(lookup) => is_lookup(&lookup, expected),
+        Err(_) => false,
+    }
+}
+
+/// Takes a request. Whether it closes a session.
+fn takes_close(alloc: Global, rest: &mut &str) -> bool {
+    match take_request(alloc, rest) {
+        Ok(request) => asks_for(&request, Close),
         Err(_) => false,
     }
 }
@@ -259,8 +280,8 @@ fn fields_are_taken_from_the_front(rt: HostRuntime) {
         "one 000000000000000a -5 18446744073709551615 -9223372036854775808 2 \"a:b\" \"\" get \"/\" close x";
     assert!(rt; takes_numbers(&mut rest));
     assert!(rt; takes_ids(alloc, &mut rest) && take_space(&mut rest).is_ok());
-    assert!(rt; takes_lookup(alloc, &mut rest) && take_space(&mut rest).is_ok());
-    assert!(rt; matches!(take_request(alloc, &mut rest), Ok(Request::CloseSession)));
+    assert!(rt; takes_lookup(alloc, &mut rest, Some(("get", "/", false))));
+    assert!(rt; take_space(&mut rest).is_ok() && takes_close(alloc, &mut rest));
     assert_eq!(rt; rest, " x");
     for mut refused in ["+1", "01", "18446744073709551616", ""] {
         assert!(rt; take_number(&mut refused).is_err());

@@ -1,10 +1,9 @@
 //! Lines of run scripts, and what scripts are answered. Longer scripts stand under `examples/runs`.
-use std::alloc::Global;
-use std::test::Fail;
-use zab_epoch::Quorums;
+use std::alloc::{AllocError, Global};
+use zab_epoch::{Quorums, Weighted};
 use zk_first_line::read_servers;
 use zk_listing::ListCause;
-use zk_run_script::{Command, Ensemble, ScriptFault, read_command, run_command, run_script};
+use zk_run_script::{ScriptFault, read_command, run_script};
 
 /// Lines that each say a command, and what they are answered in turn by two new servers.
 static COMMANDS: [(&str, &str); 30] = [
@@ -86,35 +85,44 @@ static OTHERS: [&str; 30] = [
     "syncs 3",
 ];
 
-/// Whether a command is answered this.
-fn answers(alloc: Global, ensemble: &mut Ensemble, command: Command, expected: &str) -> bool {
-    let mut answer = String::new(alloc);
-    run_command(ensemble, command, &mut answer).is_ok() && answer.as_str() == expected
-}
-
-/// Whether a line says a command among two servers that is answered this.
-fn is_answered(alloc: Global, ensemble: &mut Ensemble, line: &str, expected: &str) -> bool {
-    match read_command(alloc, 2, line) {
-        Ok(command) => answers(alloc, ensemble, command, expected),
-        Err(_) => false,
+/// Appends a script that says the commands to two new servers.
+fn push_commands(script: &mut String) -> Result<(), AllocError> {
+    script.push_str("servers 2\n")?;
+    for (line, _) in &COMMANDS {
+        script.push_str(line)?;
+        script.push_str("\n")?;
     }
+    Ok(())
 }
 
-/// The first line that is not answered what it should be.
-fn first_wrong(alloc: Global, ensemble: &mut Ensemble) -> Option<&'static str> {
+/// The first command that is not answered what it should be, by what that script is answered.
+fn first_wrong(answers: &str) -> Option<&'static str> {
+    let Some(mut rest) = answers.strip_prefix("ok\n") else {
+        return Some("servers 2");
+    };
     for (line, expected) in &COMMANDS {
-        if !is_answered(alloc, ensemble, line, expected) {
-            return Some(line);
+        match rest.strip_prefix(*expected) {
+            Some(behind) => rest = behind,
+            None => return Some(line),
         }
     }
-    None
+    if rest.is_empty() {
+        None
+    } else {
+        Some("no more")
+    }
 }
 
-/// The same of two new servers.
+/// The same, once the script is run.
 fn first_wrong_of_two(alloc: Global) -> Option<&'static str> {
-    match Ensemble::new(alloc, 2) {
-        Ok(mut ensemble) => first_wrong(alloc, &mut ensemble),
-        Err(_) => Some("no memory"),
+    let mut script = String::new(alloc);
+    let mut answers = String::new(alloc);
+    if push_commands(&mut script).is_ok()
+        && run_script(alloc, script.as_str(), &mut answers).is_ok()
+    {
+        first_wrong(answers.as_str())
+    } else {
+        Some("the script")
     }
 }
 
@@ -126,8 +134,8 @@ fn each_command_has_a_line(rt: HostRuntime) {
 /// Whether a line says nothing among two servers.
 fn is_refused(alloc: Global, line: &str) -> bool {
     match read_command(alloc, 2, line) {
-        Ok(_) => false,
-        Err(cause) => cause != ListCause::NoMemory,
+        Ok(_command) => false,
+        Err(cause) => !matches!(cause, ListCause::NoMemory),
     }
 }
 
@@ -168,27 +176,36 @@ static SERVERS: [(&str, usize, bool); 6] = [
     ("servers 2 weights 1 0", 2, true),
 ];
 
-/// Whether a first line tells so many servers, of which the first two are a quorum, or none.
-fn tells(alloc: Global, line: &str, servers: usize, is_quorum: bool) -> Result<bool, Fail> {
-    let Ok(weights) = read_servers(alloc, line) else {
-        return Ok(false);
-    };
-    let mut marks = Vec::new(alloc);
-    for number in 0..servers {
-        marks.push(number < 2)?;
+/// Servers 1 and 2 of fifteen.
+const FIRST_TWO: [bool; 15] = [
+    true, true, false, false, false, false, false, false, false, false, false, false, false, false,
+    false,
+];
+
+/// Whether weights are those of so many servers, of which the first two are a quorum, or none.
+fn are_weights(weights: &Weighted, servers: usize, is_quorum: bool) -> bool {
+    match FIRST_TWO.get(..servers) {
+        Some(marks) => weights.servers() == servers && weights.is_quorum(marks) == is_quorum,
+        None => false,
     }
-    Ok(weights.servers() == servers && weights.is_quorum(&marks) == is_quorum)
+}
+
+/// Whether a first line tells such weights.
+fn tells(alloc: Global, line: &str, servers: usize, is_quorum: bool) -> bool {
+    match read_servers(alloc, line) {
+        Ok(weights) => are_weights(&weights, servers, is_quorum),
+        Err(_) => false,
+    }
 }
 
 #[test]
-fn first_lines_tell_the_servers(rt: HostRuntime) -> Result<(), Fail> {
+fn first_lines_tell_the_servers(rt: HostRuntime) {
     for (line, servers, is_quorum) in &SERVERS {
-        assert!(rt; tells(rt.alloc(), line, *servers, *is_quorum)?, "{line}");
+        assert!(rt; tells(rt.alloc(), line, *servers, *is_quorum), "{line}");
     }
     for line in &NO_SERVERS {
         assert!(rt; read_servers(rt.alloc(), line).is_err(), "{line}");
     }
-    Ok(())
 }
 
 /// Scripts, how they end, and what they are answered.

@@ -1,8 +1,8 @@
 //! Two servers in threads that meet at a gate; and closing, with receipts left out, changed, doubled and in another order.
 
-ghost use Rattle.std.specs.Prelude.{◌≡◌, IfOk, length};
+ghost use Rattle.std.specs.Prelude.{◌≡◌};
 
-use crate::events::{Happening, jobs_of};
+use crate::events::jobs_of_two;
 use crate::gate::Both;
 use std::alloc::Global;
 use std::marker::Brand;
@@ -10,10 +10,8 @@ use std::sync::Wait;
 use std::sync::ledger::{Blank, Ledger};
 use std::thread::Threads;
 use zk_path::NoMemory;
-use zk_runs::{Answer, Event};
-use zk_servers::{
-    Chronicle, CloseFault, Receipt, Run, Seat, Shared, Started, Unclosed, inboxes, run_servers,
-};
+use zk_runs::Answer;
+use zk_servers::{CloseFault, Receipt, Run, Seat, Shared, Started, Unclosed, inboxes, run_servers};
 
 /// What came of two servers that each had one job.
 #[derive(Debug, Drop)]
@@ -35,18 +33,6 @@ pub struct Refusals {
     pub doubled: CloseFault,
 }
 
-fn jobs_of_two(alloc: Global) -> Result<Vec<Vec<Event>>, NoMemory>
-    ensures { IfOk result (λ jobs. length jobs.items ≡ 2) }
-{
-    let first = jobs_of(alloc, &[Happening::Lead(1)])?;
-    let second = jobs_of(alloc, &[Happening::Follow(2, 1)])?;
-    let mut jobs = Vec::new(alloc);
-    jobs.reserve(2)?;
-    jobs.push_reserved(first);
-    jobs.push_reserved(second);
-    Ok(jobs)
-}
-
 /// How many jobs were passed over in all.
 fn passed_in_all(passed: &[usize]) -> usize {
     let mut sum = 0usize;
@@ -66,60 +52,74 @@ fn run_two<L: Ledger + Send + Sync, R: Threads + Wait + Sync>(
     requires parts { blank.parts ≡ L.parts }
     requires enough { blank.parts ≡ 3 }
 {
+    let jobs = jobs_of_two(alloc)?;
+    let post = inboxes(alloc, 2)?;
     let Started {
         shared,
         seats,
         readers: _,
     } = Shared::<L>::start(rt, alloc, blank, 2, 2, 1)?;
     let gate = Both::new();
-    let jobs = jobs_of_two(alloc)?;
-    let post = inboxes(alloc, 2)?;
+    let ran = run_servers(rt, alloc, &shared, &gate, post, seats, jobs, 1);
+    close_met(rt, alloc, shared, gate.saw_both(), ran)
+}
+
+/// What came of servers that ran, of which each saw the other at the gate or not.
+fn close_met<L: Ledger, R: Wait>(
+    rt: &R,
+    alloc: Global,
+    shared: Shared<L>,
+    both: bool,
+    ran: Result<Run<L>, NoMemory>,
+) -> Result<Met, NoMemory> {
     let Run {
         seats,
         receipts,
         passed,
-    } = run_servers(rt, alloc, &shared, &gate, post, seats, jobs, 1)?;
-    let (refusals, events) = close_each_way(rt, alloc, shared, seats, receipts)?;
+    } = ran?;
+    let passed = passed_in_all(&passed);
+    let open = Open { shared, seats };
+    let (refusals, events) = close_each_way(rt, alloc, open, &receipts)?;
     Ok(Met {
-        both: gate.saw_both(),
-        passed: passed_in_all(&passed),
+        both,
+        passed,
         refusals,
         events,
     })
 }
 
+/// What can be closed.
+#[derive(Drop)]
+struct Open<L: Ledger> {
+    shared: Shared<L>,
+    seats: Vec<Seat<L>>,
+}
+
+/// A receipt that closing is given: the one at this place, with another transaction or its own.
+type Given = (usize, Option<i64>);
+
+const BOTH: [Given; 2] = [(0, None), (1, None)];
+
+const LEFT_OUT: [Given; 1] = [(0, None)];
+
+const CHANGED: [Given; 2] = [(0, Some(77)), (1, None)];
+
+const DOUBLED: [Given; 2] = [(0, None), (0, None)];
+
+const TURNED: [Given; 2] = [(1, None), (0, None)];
+
 /// Closing, tried with receipts that are not those of the chronicle, and at last with all of them, the last one first.
 fn close_each_way<L: Ledger, R: Wait>(
     rt: &R,
     alloc: Global,
-    shared: Shared<L>,
-    mut seats: Vec<Seat<L>>,
-    receipts: Vec<Receipt>,
+    open: Open<L>,
+    receipts: &[Receipt],
 ) -> Result<(Refusals, Option<usize>), NoMemory> {
-    let seat = seats.pop().ok_or(NoMemory)?;
-    let (half, shared, mut seats, mut receipts) = refused(shared.close(
-        rt, alloc, seats, receipts,
-    ))?;
-    seats.push(seat)?;
-    let last = receipts.pop().ok_or(NoMemory)?;
-    let (left_out, shared, seats, mut receipts) = refused(shared.close(
-        rt, alloc, seats, receipts,
-    ))?;
-    let first = receipts.pop().ok_or(NoMemory)?;
-    receipts.push(told(&first, 77)?)?;
-    receipts.push(told(&last, last.zxid)?)?;
-    let (changed, shared, seats, mut receipts) = refused(shared.close(rt, alloc, seats, receipts))?;
-    receipts.clear();
-    receipts.push(told(&first, first.zxid)?)?;
-    receipts.push(told(&first, first.zxid)?)?;
-    let (doubled, shared, seats, mut receipts) = refused(shared.close(rt, alloc, seats, receipts))?;
-    receipts.clear();
-    receipts.push(last)?;
-    receipts.push(first)?;
-    let events = shared
-        .close(rt, alloc, seats, receipts)
-        .ok()
-        .map(|it| it.records().len());
+    let (half, open) = refused_with_half(rt, alloc, open, receipts)?;
+    let (left_out, open) = refused(rt, alloc, open, receipts, &LEFT_OUT)?;
+    let (changed, open) = refused(rt, alloc, open, receipts, &CHANGED)?;
+    let (doubled, open) = refused(rt, alloc, open, receipts, &DOUBLED)?;
+    let events = closed(rt, alloc, open, receipts)?;
     let refusals = Refusals {
         half,
         left_out,
@@ -127,6 +127,70 @@ fn close_each_way<L: Ledger, R: Wait>(
         doubled,
     };
     Ok((refusals, events))
+}
+
+/// Closing is refused with one seat less. Why, and what can be closed still.
+fn refused_with_half<L: Ledger, R: Wait>(
+    rt: &R,
+    alloc: Global,
+    mut open: Open<L>,
+    receipts: &[Receipt],
+) -> Result<(CloseFault, Open<L>), NoMemory> {
+    let seat = open.seats.pop().ok_or(NoMemory)?;
+    let (fault, mut open) = refused(rt, alloc, open, receipts, &BOTH)?;
+    open.seats.push(seat)?;
+    Ok((fault, open))
+}
+
+/// Closing is refused. Why, and what can be closed still.
+fn refused<L: Ledger, R: Wait>(
+    rt: &R,
+    alloc: Global,
+    open: Open<L>,
+    receipts: &[Receipt],
+    given: &[Given],
+) -> Result<(CloseFault, Open<L>), NoMemory> {
+    let given = given_of(alloc, receipts, given)?;
+    let Open { shared, seats } = open;
+    match shared.close(rt, alloc, seats, given) {
+        Ok(_) => Err(NoMemory),
+        Err(it) => {
+            let Unclosed {
+                fault,
+                board,
+                seats,
+                receipts: _,
+            } = it;
+            let shared = Shared::over(board);
+            Ok((fault, Open { shared, seats }))
+        }
+    }
+}
+
+/// How many events were recorded, where closing with all receipts is not refused.
+fn closed<L: Ledger, R: Wait>(
+    rt: &R,
+    alloc: Global,
+    open: Open<L>,
+    receipts: &[Receipt],
+) -> Result<Option<usize>, NoMemory> {
+    let given = given_of(alloc, receipts, &TURNED)?;
+    let Open { shared, seats } = open;
+    let closed = shared.close(rt, alloc, seats, given);
+    Ok(closed.ok().map(|it| it.records().len()))
+}
+
+fn given_of(
+    alloc: Global,
+    receipts: &[Receipt],
+    given: &[Given],
+) -> Result<Vec<Receipt>, NoMemory> {
+    let mut list = Vec::new(alloc);
+    for (place, zxid) in given {
+        let receipt = receipts.get(*place).ok_or(NoMemory)?;
+        list.push(told(receipt, zxid.unwrap_or(receipt.zxid))?)?;
+    }
+    Ok(list)
 }
 
 /// A receipt once more, with this transaction.
@@ -138,24 +202,6 @@ fn told(receipt: &Receipt, zxid: i64) -> Result<Receipt, NoMemory> {
             zxid,
         }),
         _ => Err(NoMemory),
-    }
-}
-
-/// Why closing was refused, and what was handed back.
-fn refused<L: Ledger>(
-    closed: Result<Chronicle, Unclosed<L>>,
-) -> Result<(CloseFault, Shared<L>, Vec<Seat<L>>, Vec<Receipt>), NoMemory> {
-    match closed {
-        Ok(_) => Err(NoMemory),
-        Err(it) => {
-            let Unclosed {
-                fault,
-                board,
-                seats,
-                receipts,
-            } = it;
-            Ok((fault, Shared::over(board), seats, receipts))
-        }
     }
 }
 

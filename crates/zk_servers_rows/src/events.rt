@@ -1,5 +1,7 @@
 //! Events, of plain values.
 
+ghost use Rattle.std.specs.Prelude.{◌≡◌, IfOk, length};
+
 use std::alloc::Global;
 use zk_acl::{Acl, Acls, Id, Ids, Text};
 use zk_path::NoMemory;
@@ -22,7 +24,7 @@ pub enum Happening {
 }
 
 /// World, anyone, all permissions.
-fn open_to_all(alloc: Global) -> Result<Acls, NoMemory> {
+pub fn open_to_all(alloc: Global) -> Result<Acls, NoMemory> {
     let scheme = Text::read(alloc, "world")?;
     let id = Text::read(alloc, "anyone")?;
     let mut entries = Vec::new(alloc);
@@ -75,10 +77,23 @@ pub fn event_of(alloc: Global, happening: Happening) -> Result<Event, NoMemory> 
 }
 
 /// One server's jobs.
-pub fn jobs_of(alloc: Global, happenings: &[Happening]) -> Result<Vec<Event>, NoMemory> {
+fn jobs_of(alloc: Global, happenings: &[Happening]) -> Result<Vec<Event>, NoMemory> {
     let mut jobs = Vec::new(alloc);
     for happening in happenings {
         jobs.push(event_of(alloc, *happening)?)?;
     }
+    Ok(jobs)
+}
+
+/// The first of two servers comes to lead, and the second follows it.
+pub fn jobs_of_two(alloc: Global) -> Result<Vec<Vec<Event>>, NoMemory>
+    ensures { IfOk result (λ jobs. length jobs.items ≡ 2) }
+{
+    let first = jobs_of(alloc, &[Happening::Lead(1)])?;
+    let second = jobs_of(alloc, &[Happening::Follow(2, 1)])?;
+    let mut jobs = Vec::new(alloc);
+    jobs.reserve(2)?;
+    jobs.push_reserved(first);
+    jobs.push_reserved(second);
     Ok(jobs)
 }

@@ -2,7 +2,7 @@
 
 ghost use Rattle.std.specs.Prelude.{◌≡◌, IfOk, length, vec_len};
 
-use crate::events::{Happening, jobs_of};
+use crate::events::jobs_of_two;
 use crate::gate::Open;
 use std::alloc::Global;
 use std::marker::Brand;
@@ -23,37 +23,49 @@ struct Answered {
     events: Option<usize>,
 }
 
-/// Servers in threads, each for so many turns; and then closing.
-fn run_all<L: Ledger + Send + Sync, R: Threads + Wait + Sync>(
+/// What servers were answered that ran, and then closing.
+fn close_answered<L: Ledger, R: Wait>(
     rt: &R,
     alloc: Global,
     shared: Shared<L>,
-    post: Post,
-    seats: Vec<Seat<L>>,
-    jobs: Vec<Vec<Event>>,
-    turns: u32,
-) -> Result<Answered, NoMemory>
-    requires inboxes { length post.inboxes.items ≡ length seats.items }
-    requires jobs { length jobs.items ≡ length seats.items }
-{
+    ran: Result<Run<L>, NoMemory>,
+) -> Result<Answered, NoMemory> {
     let Run {
         seats,
         receipts,
         passed: _,
-    } = run_servers(rt, alloc, &shared, &Open, post, seats, jobs, turns)?;
+    } = ran?;
     let count = receipts.len();
-    let mut no_message = 0usize;
-    for it in &receipts {
-        if matches!(it.answer, Err(EnsembleFault::NoMessage)) {
-            no_message = no_message.wrapping_add(1);
-        }
-    }
+    let no_message = receipts
+        .iter()
+        .filter(|it| matches!(it.answer, Err(EnsembleFault::NoMessage)))
+        .count();
     let closed = shared.close(rt, alloc, seats, receipts);
     Ok(Answered {
         receipts: count,
         no_message,
         events: closed.ok().map(|it| it.records().len()),
     })
+}
+
+/// One server's inbox, which holds 99 and then 0.
+fn with_99_and_0<R: Wait>(rt: &R, alloc: Global) -> Result<Post, NoMemory>
+    ensures { IfOk result (λ post. length post.inboxes.items ≡ 1) }
+{
+    let post = inboxes(alloc, 1)?;
+    let end = post.senders.sender(1).ok_or(NoMemory)?;
+    let _ = end.send(rt, 99);
+    let _ = end.send(rt, 0);
+    Ok(post)
+}
+
+fn no_jobs_of_one(alloc: Global) -> Result<Vec<Vec<Event>>, NoMemory>
+    ensures { IfOk result (λ jobs. length jobs.items ≡ 1) }
+{
+    let mut jobs = Vec::new(alloc);
+    jobs.reserve(1)?;
+    jobs.push_reserved(Vec::new(alloc));
+    Ok(jobs)
 }
 
 /// One server without jobs, whose inbox holds 99 and then 0.
@@ -66,19 +78,15 @@ fn run_one<L: Ledger + Send + Sync, R: Threads + Wait + Sync>(
     requires parts { blank.parts ≡ L.parts }
     requires enough { blank.parts ≡ 2 }
 {
+    let jobs = no_jobs_of_one(alloc)?;
+    let post = with_99_and_0(rt, alloc)?;
     let Started {
         shared,
         seats,
         readers: _,
     } = Shared::<L>::start(rt, alloc, blank, 1, 1, 1)?;
-    let post = inboxes(alloc, 1)?;
-    let end = post.senders.sender(1).ok_or(NoMemory)?;
-    let _ = end.send(rt, 99);
-    let _ = end.send(rt, 0);
-    let mut jobs = Vec::new(alloc);
-    jobs.reserve(1)?;
-    jobs.push_reserved(Vec::new(alloc));
-    run_all(rt, alloc, shared, post, seats, jobs, 5)
+    let ran = run_servers(rt, alloc, &shared, &Open, post, seats, jobs, 5);
+    close_answered(rt, alloc, shared, ran)
 }
 
 /// The first server's inbox, and in place of the second's, which is dropped, another one into which nobody sends.
@@ -101,18 +109,6 @@ fn with_second_dropped(alloc: Global) -> Result<Post, NoMemory>
     Ok(Post { inboxes, senders })
 }
 
-fn jobs_of_two(alloc: Global) -> Result<Vec<Vec<Event>>, NoMemory>
-    ensures { IfOk result (λ jobs. length jobs.items ≡ 2) }
-{
-    let first = jobs_of(alloc, &[Happening::Lead(1)])?;
-    let second = jobs_of(alloc, &[Happening::Follow(2, 1)])?;
-    let mut jobs = Vec::new(alloc);
-    jobs.reserve(2)?;
-    jobs.push_reserved(first);
-    jobs.push_reserved(second);
-    Ok(jobs)
-}
-
 /// One server leads, and the other follows it and has lost its inbox.
 fn run_two<L: Ledger + Send + Sync, R: Threads + Wait + Sync>(
     rt: &R,
@@ -123,14 +119,15 @@ fn run_two<L: Ledger + Send + Sync, R: Threads + Wait + Sync>(
     requires parts { blank.parts ≡ L.parts }
     requires enough { blank.parts ≡ 3 }
 {
+    let jobs = jobs_of_two(alloc)?;
+    let post = with_second_dropped(alloc)?;
     let Started {
         shared,
         seats,
         readers: _,
     } = Shared::<L>::start(rt, alloc, blank, 2, 2, 1)?;
-    let post = with_second_dropped(alloc)?;
-    let jobs = jobs_of_two(alloc)?;
-    run_all(rt, alloc, shared, post, seats, jobs, 2)
+    let ran = run_servers(rt, alloc, &shared, &Open, post, seats, jobs, 2);
+    close_answered(rt, alloc, shared, ran)
 }
 
 /// The ledger is picked here.

@@ -10,7 +10,7 @@ use std::sync::Wait;
 use std::sync::ledger::{Blank, Ledger};
 use std::test::Fail;
 use zk_path::NoMemory;
-use zk_servers::{Mark, Outcome, Shared, Started};
+use zk_servers::{Mark, Receipt, Seat, Shared, Started};
 
 /// The tag of the call that makes the node.
 const NODE_TAG: u64 = 2;
@@ -18,12 +18,35 @@ const NODE_TAG: u64 = 2;
 /// The transaction by which the call was answered, if it was, and how far answers were looked at.
 type Seen = (Option<i64>, usize);
 
-fn seen(outcome: &Outcome) -> Seen {
+/// What has come at a server of the call that makes the node, behind a mark, and the mark behind that.
+fn seen<L: Ledger, R: Wait>(
+    rt: &R,
+    shared: &Shared<L>,
+    server: usize,
+    from: Mark,
+) -> Result<(Seen, Mark), Fail> {
+    let outcome = shared.outcome(rt, server, NODE_TAG, FIRST, from)?;
     let zxid = outcome.answered.as_ref().map(|it| it.result.zxid);
-    (zxid, outcome.mark.answers)
+    Ok(((zxid, outcome.mark.answers), outcome.mark))
 }
 
 /// At the first server before the call is made and behind that once it is, and at the third server, which follows nobody.
+fn look<L: Ledger, R: Wait>(
+    rt: &R,
+    alloc: Global,
+    shared: &Shared<L>,
+    seats: &mut [Seat<L>],
+    receipts: &mut Vec<Receipt>,
+) -> Result<[Seen; 3], Fail> {
+    let seat = seats.last_mut().ok_or(NoMemory)?;
+    call_all(rt, alloc, shared, seat, &FIRST_SESSION, receipts)?;
+    let (before, mark) = seen(rt, shared, 1, Mark::new())?;
+    call_all(rt, alloc, shared, seat, &NODE, receipts)?;
+    let (after, _) = seen(rt, shared, 1, mark)?;
+    let (third, _) = seen(rt, shared, 3, Mark::new())?;
+    Ok([before, after, third])
+}
+
 fn run<L: Ledger, R: Wait>(rt: &R, alloc: Global, blank: Blank) -> Result<[Seen; 3], Fail>
     requires name { blank.name ≡ L.name }
     requires parts { blank.parts ≡ L.parts }
@@ -34,14 +57,7 @@ fn run<L: Ledger, R: Wait>(rt: &R, alloc: Global, blank: Blank) -> Result<[Seen;
         mut seats,
         readers: _,
     } = Shared::<L>::start(rt, alloc, blank, 3, 1, 1)?;
-    let mut seat = seats.pop().ok_or(NoMemory)?;
-    let mut receipts = Vec::new(alloc);
-    call_all(rt, alloc, &shared, &mut seat, &FIRST_SESSION, &mut receipts)?;
-    let before = shared.outcome(rt, 1, NODE_TAG, FIRST, Mark::new())?;
-    call_all(rt, alloc, &shared, &mut seat, &NODE, &mut receipts)?;
-    let after = shared.outcome(rt, 1, NODE_TAG, FIRST, before.mark)?;
-    let third = shared.outcome(rt, 3, NODE_TAG, FIRST, Mark::new())?;
-    Ok([seen(&before), seen(&after), seen(&third)])
+    look(rt, alloc, &shared, &mut seats, &mut Vec::new(alloc))
 }
 
 /// The ledger is picked here.

@@ -45,23 +45,38 @@ pub static NODE: [Happening; 3] = [
 /// The last transaction of a view, and whether `/q` stands there.
 type Shown = Result<(i64, bool), ViewFault>;
 
-/// What the readers of an ensemble were told.
+/// What the readers of an ensemble were told while events were called.
 #[derive(Debug, Drop)]
-struct Told {
+struct Open {
     /// The third server's and the first one's, of a client that has seen the session.
     third: Shown,
     first: Shown,
     /// The first server's, once the node was made.
     made: Shown,
+}
+
+/// What the readers of an ensemble were told.
+#[derive(Debug, Drop)]
+struct Told {
+    open: Open,
     /// Whether closing had all, and what the first server's was told then.
     whole: bool,
     closed: Shown,
 }
 
-/// Asks a view for `/q`.
-fn ask(alloc: Global, reader: &mut Reader, pass: &mut Pass) -> Result<Shown, Fail> {
+/// Asks the last reader of a view for `/q`.
+fn ask(
+    alloc: Global,
+    readers: &mut [Vec<Reader>],
+    view: usize,
+    pass: &mut Pass,
+) -> Result<Shown, NoMemory> {
+    let reader = readers
+        .get_mut(view)
+        .and_then(|list| list.last_mut())
+        .ok_or(NoMemory)?;
     let call = ReadCall::Exists {
-        path: Path::read(alloc, "/q")?,
+        path: Path::read(alloc, "/q").ok().ok_or(NoMemory)?,
     };
     Ok(
         reader.read(pass, &call, &[]).map(|seen| (
@@ -87,10 +102,38 @@ pub fn call_all<L: Ledger, R: Wait>(
     Ok(())
 }
 
-/// The last reader of the last view.
-fn last_of(readers: &mut Vec<Vec<Reader>>) -> Result<Reader, NoMemory> {
-    let mut list = readers.pop().ok_or(NoMemory)?;
-    list.pop().ok_or(NoMemory)
+/// What readers are told while the events are called. All is lent: a function that has several ends and owns servers is dear to
+/// prove.
+fn watch<L: Ledger, R: Wait>(
+    rt: &R,
+    alloc: Global,
+    shared: &Shared<L>,
+    seats: &mut [Seat<L>],
+    readers: &mut [Vec<Reader>],
+    receipts: &mut Vec<Receipt>,
+    pass: &mut Pass,
+) -> Result<Open, Fail> {
+    let seat = seats.last_mut().ok_or(NoMemory)?;
+    call_all(rt, alloc, shared, seat, &FIRST_SESSION, receipts)?;
+    receipts.get(ARRIVE_8).ok_or(NoMemory)?.show(pass);
+    let third = ask(alloc, readers, 2, pass)?;
+    let first = ask(alloc, readers, 0, pass)?;
+    call_all(rt, alloc, shared, seat, &NODE, receipts)?;
+    let made = ask(alloc, readers, 0, pass)?;
+    Ok(Open { third, first, made })
+}
+
+fn all_told(
+    open: Result<Open, Fail>,
+    whole: bool,
+    closed: Result<Shown, NoMemory>,
+) -> Result<Told, Fail> {
+    let open = open?;
+    Ok(Told {
+        open,
+        whole,
+        closed: closed?,
+    })
 }
 
 fn run<L: Ledger, R: Wait>(rt: &R, alloc: Global, blank: Blank) -> Result<Told, Fail>
@@ -103,27 +146,12 @@ fn run<L: Ledger, R: Wait>(rt: &R, alloc: Global, blank: Blank) -> Result<Told, 
         mut seats,
         mut readers,
     } = Shared::<L>::start(rt, alloc, blank, 3, 1, 1)?;
-    let mut third = last_of(&mut readers)?;
-    last_of(&mut readers)?;
-    let mut first = last_of(&mut readers)?;
-    let mut seat = seats.pop().ok_or(NoMemory)?;
     let mut receipts = Vec::new(alloc);
-    call_all(rt, alloc, &shared, &mut seat, &FIRST_SESSION, &mut receipts)?;
     let mut pass = Pass::new();
-    receipts.get(ARRIVE_8).ok_or(NoMemory)?.show(&mut pass);
-    let of_third = ask(alloc, &mut third, &mut pass)?;
-    let of_first = ask(alloc, &mut first, &mut pass)?;
-    call_all(rt, alloc, &shared, &mut seat, &NODE, &mut receipts)?;
-    let made = ask(alloc, &mut first, &mut pass)?;
-    seats.push(seat)?;
+    let (lent, asked) = (&mut seats, &mut readers);
+    let open = watch(rt, alloc, &shared, lent, asked, &mut receipts, &mut pass);
     let whole = shared.close(rt, alloc, seats, receipts).is_ok();
-    Ok(Told {
-        third: of_third,
-        first: of_first,
-        made,
-        whole,
-        closed: ask(alloc, &mut first, &mut pass)?,
-    })
+    all_told(open, whole, ask(alloc, &mut readers, 0, &mut pass))
 }
 
 /// The ledger is picked here.
@@ -138,9 +166,9 @@ fn reader_behind_and_reader_current(rt: HostRuntime) -> Result<(), Fail> {
         seen: OPENED,
         zxid: 0,
     };
-    assert_eq!(rt; told.third, Err(behind));
-    assert_eq!(rt; told.first, Ok((OPENED, false)));
-    assert_eq!(rt; told.made, Ok((MADE, true)));
+    assert_eq!(rt; told.open.third, Err(behind));
+    assert_eq!(rt; told.open.first, Ok((OPENED, false)));
+    assert_eq!(rt; told.open.made, Ok((MADE, true)));
     assert!(rt; told.whole);
     assert_eq!(rt; told.closed, Err(ViewFault::Gone));
     Ok(())

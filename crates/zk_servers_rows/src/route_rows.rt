@@ -11,7 +11,7 @@ use std::test::Fail;
 use zab_runs::Moved;
 use zk_path::NoMemory;
 use zk_runs::Answer;
-use zk_servers::{Post, Receipt, Routed, Seat, Shared, Started, inboxes, send_on};
+use zk_servers::{Inbox, Post, Reader, Receipt, Routed, Seat, Shared, Started, inboxes, send_on};
 
 /// The first server comes to lead the second, and a session is opened.
 const BEGINNING: [Happening; 8] = [
@@ -47,8 +47,9 @@ fn call_all<L: Ledger, R: Wait>(
     rt: &R,
     alloc: Global,
     shared: &Shared<L>,
-    seat: &mut Seat<L>,
+    seats: &mut [Seat<L>],
 ) -> Result<Vec<Route>, Fail> {
+    let seat = seats.last_mut().ok_or(NoMemory)?;
     let mut routes = Vec::new(alloc);
     for happening in &BEGINNING {
         let event = event_of(alloc, *happening)?;
@@ -56,6 +57,19 @@ fn call_all<L: Ledger, R: Wait>(
         routes.push(route_of(&routed))?;
     }
     Ok(routes)
+}
+
+fn all_seen(
+    routes: Result<Vec<Route>, Fail>,
+    called: [u64; 4],
+    readers: &[Vec<Reader>],
+) -> Result<Seen, Fail> {
+    Ok(Seen {
+        routes: routes?,
+        called,
+        servers: readers.len(),
+        unread: readers.iter().all(|list| list.is_empty()),
+    })
 }
 
 fn run<L: Ledger, R: Wait>(rt: &R, alloc: Global, blank: Blank) -> Result<Seen, Fail>
@@ -68,15 +82,9 @@ fn run<L: Ledger, R: Wait>(rt: &R, alloc: Global, blank: Blank) -> Result<Seen, 
         mut seats,
         readers,
     } = Shared::<L>::start(rt, alloc, blank, 3, 1, 0)?;
-    let mut seat = seats.pop().ok_or(NoMemory)?;
-    let routes = call_all(rt, alloc, &shared, &mut seat)?;
+    let routes = call_all(rt, alloc, &shared, &mut seats);
     let called = [1, 2, 3, 16].map(|server| shared.called(server));
-    Ok(Seen {
-        routes,
-        called,
-        servers: readers.len(),
-        unread: readers.iter().all(|list| list.is_empty()),
-    })
+    all_seen(routes, called, &readers)
 }
 
 /// The ledger is picked here.
@@ -103,12 +111,8 @@ fn messages_are_for_leader_and_follower_in_turn(rt: HostRuntime) -> Result<(), F
     Ok(())
 }
 
-/// The numbers that two servers find in their inboxes behind an event that sent messages 5 and 6, for the second server and the first.
-fn sent<R: Wait>(rt: &R, alloc: Global) -> Result<[Option<usize>; 2], Fail> {
-    let Post {
-        mut inboxes,
-        senders,
-    } = inboxes(alloc, 2)?;
+/// An event that sent messages 5 and 6, for the second server and the first.
+fn of_two_messages(alloc: Global) -> Result<Routed, NoMemory> {
     let mut addressees = Vec::new(alloc);
     addressees.push(2)?;
     addressees.push(1)?;
@@ -118,18 +122,31 @@ fn sent<R: Wait>(rt: &R, alloc: Global) -> Result<[Option<usize>; 2], Fail> {
         answer: Ok(Answer::Moved(moved)),
         zxid: 0,
     };
-    send_on(
-        rt,
-        &senders,
-        Routed {
-            receipt,
-            addressees,
-        },
-    );
+    Ok(Routed {
+        receipt,
+        addressees,
+    })
+}
+
+/// The first number in a server's inbox.
+fn next_of<R: Wait>(rt: &R, inboxes: &mut [Inbox], place: usize) -> Option<usize> {
+    match inboxes.get_mut(place) {
+        None => None,
+        Some(inbox) => inbox.next(rt),
+    }
+}
+
+/// The numbers that two servers find in their inboxes behind the event.
+fn sent<R: Wait>(rt: &R, alloc: Global) -> Result<[Option<usize>; 2], NoMemory> {
+    let routed = of_two_messages(alloc)?;
+    let Post {
+        mut inboxes,
+        senders,
+    } = inboxes(alloc, 2)?;
+    send_on(rt, &senders, routed);
     senders.end_all(rt);
-    let mut second = inboxes.pop().ok_or(NoMemory)?;
-    let mut first = inboxes.pop().ok_or(NoMemory)?;
-    Ok([first.next(rt), second.next(rt)])
+    let first = next_of(rt, &mut inboxes, 0);
+    Ok([first, next_of(rt, &mut inboxes, 1)])
 }
 
 #[test]

@@ -10,10 +10,10 @@ returns-in-Some-clause-table c = rw (← c.self.view_is) (λ one.
     c.answers.ensures
     ∙ ap (λ o. answers_in (option_copied o)) (sym c.in-Some.is)
     ∙ ap answers_in (c.find.ensures ∙ ap (λ rs. shown_at rs c.args.number) c.deref.ensures.value)
-    ∙ answers_of_table (below_by c.self.inside.world) c.self.inside.replicas.items c.args.number c.self.invariant one)
+    ∙ answers_of_table (below_by c.self.inside.world) c.self.inside.replicas.items c.args.number c.self.invariant.run one)
 
 pub returns-in-None-clause-table : goal.returns-in-None-clause-table
 returns-in-None-clause-table c = rw (← c.self.view_is) (λ one.
     ap (λ o. answers_in (option_copied o)) (sym c.in-None.is)
     ∙ ap answers_in (c.find.ensures ∙ ap (λ rs. shown_at rs c.args.number) c.deref.ensures.value)
-    ∙ answers_of_table (below_by c.self.inside.world) c.self.inside.replicas.items c.args.number c.self.invariant one)
+    ∙ answers_of_table (below_by c.self.inside.world) c.self.inside.replicas.items c.args.number c.self.invariant.run one)

@@ -1,4 +1,4 @@
-use Rattle.std.proofs.Common.{◌≡◌, ◌≤◌, length, Err, refl, sym, ap, subst, ◌∙◌}
+use Rattle.std.proofs.Common.{◌≡◌, ◌≤◌, ◌++◌, length, Err, refl, sym, ap, subst, ◌∙◌}
 use Rattle.std.proofs.lemmas.List.{with_items_is}
 use Rattle.zab_runs.specs.Runs.{delivered_of}
 use Rattle.zk_runs.specs.declared.event.Event.TheVariants as events
@@ -6,7 +6,8 @@ use Rattle.zk_runs.specs.declared.fault.EnsembleFault.TheVariants as faults
 use Rattle.zk_runs.specs.Counting.{counted, IsAnswered}
 use Rattle.zk_runs.specs.Ensembles.{Told, ensemble, of_world}
 use Rattle.zk_ensemble.specs.Views.{below_by, profile_in}
-use Rattle.zk_ensemble.proofs.Runs.{IsStepped, no_shorter, ok_of, err_of, of_run, went_on, acted, fallen_is, is_some, fell, has_died, answered_on, fit_counted}
+use Rattle.zk_ensemble.proofs.Keeping.{may_serve_then, each_then, stand_again, held_then}
+use Rattle.zk_ensemble.proofs.Runs.{IsStepped, no_shorter, ok_of, err_of, went_on, acted, fallen_is, is_some, fell, has_died, answered_on, fit_counted}
 use Rattle.zk_ensemble.proofs.ensemble.Ensemble.move_world.Goals as goal
 
 pub catch_up-requires : goal.catch_up-requires
@@ -25,7 +26,11 @@ catch_up-requires c =
       kept = c.is_no_memory.ensures.no c.if-is_no_memory.false;
     } in
     let had : before ≡ length (delivered_of w number) = c.len-before.ensures.value ∙ ap length c.delivered.ensures in
-    record { grown = λ runs. subst (λ n. n ≤ length (delivered_of next number)) (sym had) (no_shorter below shown event answer next number c.self.invariant stepped runs) }
+    record {
+      grown = λ runs. subst (λ n. n ≤ length (delivered_of next number)) (sym had) (no_shorter below shown event answer next number c.self.invariant.run stepped runs);
+      places = ap length c.deref_mut-2.ensures.value ∙ c.self.invariant.places ∙ sym (ap length c.deref_mut.ensures.value);
+      aside = may_serve_then below shown c.self.inside.kept.items c.deref_mut-2.result.now event answer next number c.self.invariant c.deref_mut-2.ensures.value stepped;
+    }
 
 pub fail-requires : goal.fail-requires
 fail-requires c =
@@ -74,8 +79,13 @@ invariant_of-self-then-is_err c =
     let keeps = with_items_is c.self.inside.replicas news (c.catch_up.ensures.count ∙ c.deref_mut.ensures.len) in
     let counts = fell (profile_in below) w shown given news _ event c.advance-answer.new.self.fallen c.fail.new.self.world number c.deref_mut.ensures.value c.mover-number.ensures fallen c.fail.ensures.fell (err_of c.catch_up.result c.catch_up.ensures.forgets refused) keeps in
     let told : Told = Err (faults.Died number) in
-    of_run below (below_by c.fail.new.self) shown _ (counted (events.World event) told) c.self.invariant (fit_counted (events.World event) told c.know_session.ensures)
+    let more = counted (events.World event) told in
+    let held = with_items_is c.self.inside.kept c.catch_up.new.kept (c.catch_up.ensures.places ∙ c.deref_mut-2.ensures.len) in
+    let each = each_then below shown given c.self.inside.kept.items c.deref_mut-2.result.now c.catch_up.new.kept more number c.self.invariant c.deref_mut.ensures.value c.deref_mut-2.ensures.value c.catch_up.ensures.aside in
+    stand_again below (below_by c.fail.new.self) shown _ c.self.inside.kept.items _ more c.self.invariant (fit_counted (events.World event) told c.know_session.ensures)
     (c.fail.ensures.same.0 ∙ c.advance-answer.ensures.same.0) (c.fail.ensures.same.1 ∙ c.advance-answer.ensures.same.1) counts
+    (ap length held ∙ c.catch_up.ensures.places ∙ ap length c.deref_mut-2.ensures.value ∙ c.self.invariant.places ∙ sym (ap length keeps ∙ c.catch_up.ensures.count ∙ ap length c.deref_mut.ensures.value))
+    (held_then below (c.self.invariant.run.events ++ more) held each)
 
 pub returns-then-is_err-clause-counts : goal.returns-then-is_err-clause-counts
 returns-then-is_err-clause-counts c = rw (← c.self.view_is) (
@@ -146,8 +156,13 @@ invariant_of-self-else-is_err c =
     let keeps = with_items_is c.self.inside.replicas news (c.catch_up.ensures.count ∙ c.deref_mut.ensures.len) in
     let counts = went_on (profile_in below) w shown given news _ event answer next number before (of_world answer) c.deref_mut.ensures.value c.mover-number.ensures had stepped
     (ok_of c.catch_up.result c.catch_up.ensures.shown (sym c.is_err.ensures.value ∙ c.if-is_err.false)) keeps refl in
-    of_run below (below_by c.advance-answer.new.self) shown _ (counted (events.World event) (of_world answer)) c.self.invariant (fit_counted (events.World event) (of_world answer) c.know_session.ensures)
+    let more = counted (events.World event) (of_world answer) in
+    let held = with_items_is c.self.inside.kept c.catch_up.new.kept (c.catch_up.ensures.places ∙ c.deref_mut-2.ensures.len) in
+    let each = each_then below shown given c.self.inside.kept.items c.deref_mut-2.result.now c.catch_up.new.kept more number c.self.invariant c.deref_mut.ensures.value c.deref_mut-2.ensures.value c.catch_up.ensures.aside in
+    stand_again below (below_by c.advance-answer.new.self) shown _ c.self.inside.kept.items _ more c.self.invariant (fit_counted (events.World event) (of_world answer) c.know_session.ensures)
     c.advance-answer.ensures.same.0 c.advance-answer.ensures.same.1 counts
+    (ap length held ∙ c.catch_up.ensures.places ∙ ap length c.deref_mut-2.ensures.value ∙ c.self.invariant.places ∙ sym (ap length keeps ∙ c.catch_up.ensures.count ∙ ap length c.deref_mut.ensures.value))
+    (held_then below (c.self.invariant.run.events ++ more) held each)
 
 pub returns-clause-counts : goal.returns-clause-counts
 returns-clause-counts c = rw (← c.self.view_is) (

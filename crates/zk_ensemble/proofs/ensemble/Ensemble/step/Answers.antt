@@ -22,7 +22,7 @@ pub returns-in-World-clause-run : goal.returns-in-World-clause-run
 returns-in-World-clause-run c =
     let v = c.args.self.now in
     let event = events.World c.in-World.event in
-    let of_run = subst IsViewOfRun c.self.view_is (view_of_run (below_by c.self.inside.world) c.self.inside.replicas.items c.self.invariant) in
+    let of_run = subst IsViewOfRun c.self.view_is (view_of_run (below_by c.self.inside.world) c.self.inside.replicas.items c.self.invariant.run) in
     subst (λ (e : Event). IsNextInRun (profile_in v.below) v.below.servers (state_of v) (counted e c.move_world.result) (state_of c.move_world.new.self)) (sym c.in-World.is)
     (next_in_run v (counted event c.move_world.result) (state_of c.move_world.new.self) of_run (fit_counted event c.move_world.result c.move_world.ensures.fits) c.move_world.ensures.counts)
 
@@ -42,7 +42,7 @@ pub returns-in-Read-clause-run : goal.returns-in-Read-clause-run
 returns-in-Read-clause-run c =
     let v = c.args.self.now in
     let event = events.Read c.in-Read.question in
-    let of_run = subst IsViewOfRun c.self.view_is (view_of_run (below_by c.self.inside.world) c.self.inside.replicas.items c.self.invariant) in
+    let of_run = subst IsViewOfRun c.self.view_is (view_of_run (below_by c.self.inside.world) c.self.inside.replicas.items c.self.invariant.run) in
     subst (λ (e : Event). IsNextInRun (profile_in v.below) v.below.servers (state_of v) (counted e c.look.result) (state_of c.look.new.self)) (sym c.in-Read.is)
     (next_in_run v (counted event c.look.result) (state_of c.look.new.self) of_run (fit_counted event c.look.result tt)
     (read_counts (profile_in v.below) (state_of v) (state_of c.look.new.self) c.in-Read.question c.look.result c.look.ensures.acts (λ refused. ap state_of (c.look.ensures.unchanged refused))))

@@ -12,7 +12,7 @@ returns-in-Some-clause-table c = rw (← c.self.view_is) (λ one.
     ap (λ m. m.state) is
     ∙ ap (λ o. tree_in (option_copied o)) (sym c.in-Some.is)
     ∙ ap tree_in (c.find.ensures ∙ ap (λ rs. shown_at rs c.args.number) c.deref.ensures.value)
-    ∙ tree_of_table (below_by c.self.inside.world) c.self.inside.replicas.items c.args.number c.self.invariant one) c.tree.ensures)
+    ∙ tree_of_table (below_by c.self.inside.world) c.self.inside.replicas.items c.args.number c.self.invariant.run one) c.tree.ensures)
 
 pub returns-in-None-clause-table : goal.returns-in-None-clause-table
 returns-in-None-clause-table c = rw (← c.self.view_is) (λ one.
@@ -20,4 +20,4 @@ returns-in-None-clause-table c = rw (← c.self.view_is) (λ one.
     ap (λ m. m.state) is
     ∙ ap (λ o. tree_in (option_copied o)) (sym c.in-None.is)
     ∙ ap tree_in (c.find.ensures ∙ ap (λ rs. shown_at rs c.args.number) c.deref.ensures.value)
-    ∙ tree_of_table (below_by c.self.inside.world) c.self.inside.replicas.items c.args.number c.self.invariant one) c.new.ensures)
+    ∙ tree_of_table (below_by c.self.inside.world) c.self.inside.replicas.items c.args.number c.self.invariant.run one) c.new.ensures)

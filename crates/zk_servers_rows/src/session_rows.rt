@@ -1,0 +1,130 @@
+//! Rows of sessions: what they ask, and what becomes of one that is due.
+
+use crate::asks::{Asking, Row};
+use crate::events::FIRST;
+use crate::running::{Played, played_by_three, played_by_two};
+use std::test::Fail;
+
+/// A session from its opening to its close.
+static SESSION: [Row; 8] = [
+    Row {
+        session: 0,
+        asking: Asking::Open(30000),
+        told: "wrote 0000000100000001 0",
+    },
+    Row {
+        session: FIRST,
+        asking: Asking::Create("/a"),
+        told: "wrote 0000000100000002 0 /a",
+    },
+    Row {
+        session: FIRST,
+        asking: Asking::Exists("/a"),
+        told: "found 0000000100000002 at 0000000100000002",
+    },
+    Row {
+        session: FIRST,
+        asking: Asking::WatchChildren("/"),
+        told: "children a zookeeper at 0000000100000002",
+    },
+    Row {
+        session: FIRST,
+        asking: Asking::Create("/b"),
+        told: "ChildrenChanged / wrote 0000000100000003 0 /b",
+    },
+    Row {
+        session: FIRST,
+        asking: Asking::Create("/b"),
+        told: "wrote 0000000100000004 -110",
+    },
+    Row {
+        session: FIRST,
+        asking: Asking::Sync,
+        told: "caught",
+    },
+    Row {
+        session: FIRST,
+        asking: Asking::Close,
+        told: "wrote 0000000100000005 0",
+    },
+];
+
+fn is_right(played: &Played) -> bool {
+    played.wrong.is_none() && played.whole
+}
+
+#[test]
+fn session_over_three_servers(rt: HostRuntime) -> Result<(), Fail> {
+    let played = played_by_three(&rt, rt.alloc(), &[1000], &SESSION)?;
+    assert!(rt; is_right(&played), "{played:?}");
+    Ok(())
+}
+
+#[test]
+fn session_over_two_servers(rt: HostRuntime) -> Result<(), Fail> {
+    let played = played_by_two(&rt, rt.alloc(), &[1000], &SESSION)?;
+    assert!(rt; is_right(&played), "{played:?}");
+    Ok(())
+}
+
+const SECOND: i64 = FIRST + 2;
+
+/// The first session is due at 5000, and at 7000 if it is heard of at 3000.
+static DUE: [Row; 9] = [
+    Row {
+        session: 0,
+        asking: Asking::Open(4000),
+        told: "wrote 0000000100000001 0",
+    },
+    Row {
+        session: FIRST,
+        asking: Asking::CreateOwned("/e"),
+        told: "wrote 0000000100000002 0 /e",
+    },
+    Row {
+        session: 0,
+        asking: Asking::Open(30000),
+        told: "wrote 0000000100000003 0",
+    },
+    Row {
+        session: SECOND,
+        asking: Asking::Exists("/e"),
+        told: "found 0000000100000002 at 0000000100000003",
+    },
+    Row {
+        session: SECOND,
+        asking: Asking::WatchChildren("/"),
+        told: "children e zookeeper at 0000000100000003",
+    },
+    // its close, and then this
+    Row {
+        session: SECOND,
+        asking: Asking::Create("/c"),
+        told: "ChildrenChanged / wrote 0000000100000005 0 /c",
+    },
+    Row {
+        session: SECOND,
+        asking: Asking::Exists("/e"),
+        told: "refused -101 at 0000000100000005",
+    },
+    Row {
+        session: FIRST,
+        asking: Asking::Create("/d"),
+        told: "wrote 0000000100000006 -112",
+    },
+    // its own close, which is due
+    Row {
+        session: SECOND,
+        asking: Asking::Create("/d"),
+        told: "wrote 0000000100000008 -112",
+    },
+];
+
+static TIMES: [i64; 9] = [1000, 3000, 4000, 6999, 6999, 7000, 7000, 7000, 37000];
+
+#[test]
+fn session_that_is_due_is_expired(rt: HostRuntime) -> Result<(), Fail> {
+    let played = played_by_three(&rt, rt.alloc(), &TIMES, &DUE)?;
+    assert!(rt; is_right(&played), "{played:?}");
+    Ok(())
+}
