@@ -56,7 +56,8 @@ head -n 7 "$work/out" | cmp - "$work/wanted"
 first=$(printf 'step\n' | "$zk" debug "$log")
 [ "$(printf 'step\nquit\n' | "$zk" debug --prompt "$log")" = "zk 0 0000000000000000> $first
 zk 1 ${first#place 1 }> " ]
-printf 'step\n' | "$zk" debug "$log" --prompt | head -n 1 | grep -qx "zk 0 0000000000000000> $first"
+printf 'step\n' | "$zk" debug "$log" --prompt >"$work/out"
+[ "$(head -n 1 "$work/out")" = "zk 0 0000000000000000> $first" ]
 
 # and at a terminal, which echoes the lines
 {
@@ -68,14 +69,23 @@ printf 'step\n' | "$zk" debug "$log" --prompt | head -n 1 | grep -qx "zk 0 00000
 grep -qF "zk 0 0000000000000000> " "$work/terminal"
 grep -qF "$first" "$work/terminal"
 grep -qF "zk 1 ${first#place 1 }> " "$work/terminal"
-if printf 'step\n' | "$zk" debug "$log" | grep -qF '> '; then
+
+# tells PATTERN LINE..: whether a session of these lines tells the pattern
+# (by a file: a `grep -q` that stops early in a pipe is an output that fails)
+tells() {
+    local pattern=$1
+    shift
+    printf '%s\n' "$@" | "$zk" debug "$log" >"$work/out"
+    grep -q -- "$pattern" "$work/out"
+}
+if tells '> ' step; then
     exit 1
 fi
 
 # every line that help names, and the last move
-printf 'help\n' | "$zk" debug "$log" | grep -q '^  quit  '
-printf 'step\nlist 1\n' | "$zk" debug "$log" | grep -q '^>'
-printf 'run\ndiff\n' | "$zk" debug "$log" | grep -q '^+ "/lock'
+tells '^  quit  ' help
+tells '^>' step 'list 1'
+tells '^+ "/lock' run diff
 
 # ends STATUS WORD..: what `zk WORD..` ends with, and what it tells
 ends() {

@@ -46,7 +46,7 @@ lists run $run_lines
 lists serve $serve_lines
 
 for order in show list asm mend debug run serve; do
-    "$zk" "$order" --help </dev/null | grep -qF "$faults"
+    [[ $("$zk" "$order" --help </dev/null) = *"$faults"* ]]
 done
 
 # want of memory is told by a word, whatever was read, and never as G8 or L8
