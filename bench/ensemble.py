@@ -2,7 +2,7 @@
 """Measures what an event of an ensemble costs, beside applying what its servers deliver; what ten times the calls cost; and
 what a follower costs that joins its leader again and lacks ten entries of many.
 
-usage: bench/ensemble.py     in a checkout where `rt ci`, or `rt run` in crates/zk_ensemble_load, has left the proved program
+usage: bench/ensemble.py     in a checkout where `rt ci`, or `rt run` in crates/zk_load, has left the proved program
 
 The program runs five servers under 2,000 calls, waits, and then applies what the last leader has delivered to as many machines as
 it is told; at its end it frees what the servers hold, which no server does while it runs. What the calls took is read while the
@@ -16,7 +16,7 @@ import sys
 import time
 
 HERE = os.path.dirname(os.path.abspath(__file__))
-LOAD = os.path.join(HERE, "..", "crates", "zk_ensemble_load", "out", "zk_ensemble_load")
+LOAD = os.path.join(HERE, "..", "crates", "zk_load", "out", "zk_load")
 CALLS = 2000
 SERVERS = 5
 MACHINES = 100
@@ -37,7 +37,7 @@ def taken(pid):
 def run(calls, machines=0, joins=0):
     """The CPU seconds up to the end of the calls, those of the whole run, its events, and its steps of machines."""
     words = [str(it) for it in (calls, machines, joins)]
-    child = subprocess.Popen([LOAD, *words], stdin=subprocess.PIPE, stdout=subprocess.PIPE)
+    child = subprocess.Popen([LOAD, "ensemble", *words], stdin=subprocess.PIPE, stdout=subprocess.PIPE)
     told = [child.stdout.readline().decode().split()]
     seconds = taken(child.pid)
     child.stdin.close()
@@ -50,7 +50,8 @@ def run(calls, machines=0, joins=0):
 
 
 def join(calls, turns):
-    """The CPU seconds in which a follower that lacks ten entries joins again behind so many calls, beyond those of the ten calls."""
+    """The CPU seconds that it costs that a follower does not hear ten calls and joins again, behind so many calls, beyond those of ten calls
+    that all hear."""
     joined = min(run(calls, 0, JOINS) for _ in range(turns))[0]
     return (joined - min(run(calls + LACKS * JOINS) for _ in range(turns))[0]) / JOINS
 
@@ -70,7 +71,8 @@ def main():
     print("%d calls, %d events: %.3f s, %.1f times as long; with its end %.3f s, %.1f times"
           % (CALLS * MORE, more_events, more, more / seconds, more_whole, more_whole / whole))
     for calls, turns in ((CALLS, TURNS), (MANY, 3)):
-        print("behind %d calls a follower that lacks ten entries joins again in %.3f ms" % (calls, join(calls, turns) * 1e3))
+        print("behind %d calls it costs %.3f ms more that a follower lacks ten entries and joins again than that it hears them"
+              % (calls, join(calls, turns) * 1e3))
 
 
 if __name__ == "__main__":

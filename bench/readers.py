@@ -2,7 +2,7 @@
 """Measures how many reads a second the readers of one server's view answer together, beside a thread that calls; and what a publish
 costs beside applying its transactions.
 
-usage: bench/readers.py     in a checkout where `rt ci`, or `rt run` in crates/zk_servers_load, has left the proved program
+usage: bench/readers.py     in a checkout where `rt ci`, or `rt run` in crates/zk_load, has left the proved program
 
 The seconds of reads are those of a clock on the wall, less those of a run without reads; so nothing else may run on the machine.
 One core is the calling thread's, and as many others as there are readers are free, if the machine has them.
@@ -19,7 +19,7 @@ import sys
 import time
 
 HERE = os.path.dirname(os.path.abspath(__file__))
-LOAD = os.path.join(HERE, "..", "crates", "zk_servers_load", "out", "zk_servers_load")
+LOAD = os.path.join(HERE, "..", "crates", "zk_load", "out", "zk_load")
 READERS = (1, 2, 4)
 READS = 1_000_000
 # nodes, transactions, how many times over
@@ -32,7 +32,7 @@ def run(readers, reads, nodes=0, txns=0, at_once=1, views=0, machines=0):
     """The seconds by the clock, and the CPU seconds."""
     words = [str(it) for it in (readers, reads, nodes, txns, at_once, views, machines)]
     before = time.monotonic()
-    child = subprocess.Popen([LOAD, *words], stdin=subprocess.DEVNULL, stdout=subprocess.PIPE)
+    child = subprocess.Popen([LOAD, "readers", *words], stdin=subprocess.DEVNULL, stdout=subprocess.PIPE)
     told = child.stdout.read().decode().split()
     _, status, usage = os.wait4(child.pid, 0)
     seconds = time.monotonic() - before

@@ -1,7 +1,7 @@
 #!/usr/bin/env bash
 # Debug scripts by the proved program: the lock that a closed session took away, and a multi with the tree at each place, on
-# files and on standard input; a malformed line, with the answers before it; an empty script; and what can't be opened, read
-# or written.
+# files and on standard input; a malformed line, with the answers before it; an empty script; more breakpoints than there are
+# numbers; and what can't be opened, read or written.
 set -euo pipefail
 work=$(mktemp -d)
 trap 'rm -rf "$work"' EXIT
@@ -43,6 +43,18 @@ head -n 3 "$answers" | cmp - "$work/out"
 echo >"$work/bad"
 [ "$(ends "$zk" debug "$log" "$work/bad")" = "1 zk: script 1" ]
 [ ! -s "$work/out" ]
+
+# as many breakpoints can be set as there are numbers, each at the next one, and no number comes again
+"$zk" asm /dev/null "$work/empty.log"
+{
+    seq 65535 | sed 's/.*/break error/'
+    printf 'clear 1\nclear 1\nbreak error\n'
+} >"$work/breaks"
+{
+    seq 65535 | sed 's/^/break /'
+    printf 'ok\nB3\nB6\n'
+} >"$work/wanted"
+"$zk" debug "$work/empty.log" "$work/breaks" | cmp - "$work/wanted"
 
 # both inputs are opened before either is read, and the log is loaded before the script is read
 printf 'step\377' >"$work/bad"

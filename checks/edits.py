@@ -9,7 +9,8 @@ the crate. A line `file: src/..` and pairs of lines `old: TEXT`, `new: TEXT` fol
 The edits of a crate that turn different functions are tried in one check, of these functions and of what they call. A proof
 rests on a function's own body and on the contracts of what it calls, and no edit changes a contract; so each turned function is
 refused for its own edit or not at all. It must be refused at a goal or an answer of its own: one that only calls what is not
-proved is tried again by itself. The edits of one function are tried one after the other.
+proved is tried again by itself. The edits of one function are tried one after the other. The checks of a crate go on from what
+the ones before proved, in a folder of this run.
 """
 import os
 import re
@@ -92,8 +93,8 @@ def words_of(crate):
     return [top + "/bin/rattle", "check", *words, "--jobs", "1", "--links", crate + "="]
 
 
-def check(crate, edits):
-    """What a check of the edited functions says, line by line, and its status."""
+def check(crate, edits, kept):
+    """What a check of the edited functions says, line by line, and its status. It goes on from what is kept, and keeps its own."""
     with tempfile.TemporaryDirectory(prefix="edits-") as room:
         for part in PARTS:
             if os.path.isdir(os.path.join(ROOT, "crates", crate, part)):
@@ -101,7 +102,8 @@ def check(crate, edits):
         for edit in edits:
             edit.apply(room)
         only = [word for function in sorted({it.function for it in edits}) for word in ("--only", function)]
-        ran = subprocess.run([*words_of(crate), *only], cwd=room, stdin=subprocess.DEVNULL, capture_output=True, text=True, errors="replace")
+        words = [*words_of(crate), "--incremental", kept, *only]
+        ran = subprocess.run(words, cwd=room, stdin=subprocess.DEVNULL, capture_output=True, text=True, errors="replace")
     return (ran.stdout + ran.stderr).splitlines(), ran.returncode
 
 
@@ -133,9 +135,9 @@ def groups(edits):
     return found
 
 
-def trial(crate, edits):
+def trial(crate, edits, kept):
     """Tries a group, and by itself what is not refused there. Answers what to print, and how many were not refused."""
-    lines, status = check(crate, edits)
+    lines, status = check(crate, edits, kept)
     if status != 1 and len(edits) == 1:
         return ["%s/%s: NOT REFUSED" % (crate, edits[0].name), *lines[-12:]], 1
     told, missed = [], 0
@@ -144,11 +146,21 @@ def trial(crate, edits):
         if said:
             told.append("%s/%s: refused: %s" % (crate, edit.name, said[:110]))
         elif len(edits) > 1:
-            more, lost = trial(crate, [edit])
+            more, lost = trial(crate, [edit], kept)
             told, missed = told + more, missed + lost
         else:
             told += ["%s/%s: NOT REFUSED for a goal of its own" % (crate, edit.name), *[it for it in lines if it.startswith("fn ") and not it.endswith(": proved")]]
             missed += 1
+    return told, missed
+
+
+def trials(crate, edits):
+    """Tries a crate's groups one after the other. Answers what to print, and how many were not refused."""
+    told, missed = [], 0
+    with tempfile.TemporaryDirectory(prefix="edits-kept-") as kept:
+        for group in groups(edits):
+            more, lost = trial(crate, group, kept)
+            told, missed = told + more, missed + lost
     return told, missed
 
 
@@ -170,12 +182,12 @@ def main(crates):
     work = []
     for crate in crates or every:
         edits = [Edit(crate, it) for it in sorted(os.listdir(os.path.join(HERE, "edits", crate)))]
-        work += [(crate, it) for it in groups(edits)]
+        work.append((crate, edits))
     # (the dearest first, so that none is left alone at the end)
     work.sort(key=lambda it: size_of(it[0]), reverse=True)
     missed = 0
     with ThreadPoolExecutor(lanes()) as pool:
-        for told, of in pool.map(lambda it: trial(*it), work):
+        for told, of in pool.map(lambda it: trials(*it), work):
             print("\n".join(told), flush=True)
             missed += of
     print("%d edits refused, %d not" % (sum(len(it) for _, it in work) - missed, missed))

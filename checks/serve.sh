@@ -1,5 +1,6 @@
 #!/usr/bin/env bash
-# `zk serve`, by a client that is bash alone: a port that is taken is told; connections are served one after the other, and the
+# `zk serve`, by a client that is bash alone: a port that is taken is told, and so is an output that fails; each kind of line is
+# answered; lines are read up to 65,536 bytes, and a longer one harms nobody; connections are served one after the other, and the
 # second sees the tree that the first one left; a client that goes away in the middle of a line harms nobody; and a lock that is
 # held by an ephemeral node is told to whoever waits for it, once its holder has gone away and is due.
 set -euo pipefail
@@ -77,6 +78,52 @@ asks 'ruok' 'imok'
 goes_away
 ends
 
+# an output that fails
+status=0
+"$zk" serve "$port" 3 --conns 1 >/dev/full 2>"$work/why" </dev/null || status=$?
+[ "$status" = 1 ]
+[ "$(cat "$work/why")" = "zk: write" ]
+
+# the lines of one connection
+starts
+connects
+asks 'open 30000' 'ok 0000000100000001 30000'
+asks 'create "/a" x6869 '"$open" 'ok "/a"'
+asks 'get "/a"' 'ok x6869 0000000100000002 0000000100000002 T T 0 0 0 0000000000000000 2 0 0000000100000002'
+asks 'ruok' 'imok'
+asks 'ls -w "/"' 'ok 2 "a" "zookeeper" 0000000000000000 0000000000000000 0 0 0 0 0 0000000000000000 0 2 0000000100000002'
+asks 'create "/b" x '"$open" 'event 4 "/"' 'ok "/b"'
+asks 'sync "/a"' 'ok "/a"'
+asks $'commit\nruok' 'err -8' 'imok'
+goes_away
+ends
+
+# is_read BYTES ANSWER: a line of so many bytes, with its newline, is answered so, and the next one is answered
+is_read() {
+    local front='create "/l" "' back="\" $open" content
+    printf -v content '%*s' $(($1 - ${#front} - ${#back} - 1)) ''
+    starts
+    connects
+    asks 'open 30000' 'ok 0000000100000001 30000'
+    asks "$front${content// /y}$back"$'\nruok' "$2" 'imok'
+    goes_away
+    ends
+}
+
+is_read 65535 'ok "/l"'
+is_read 65536 'ok "/l"'
+is_read 65537 'err -8'
+is_read 70000 'err -8'
+is_read 140000 'err -8'
+
+# a long line that is none, without a session
+printf -v long '%70000s' ''
+starts
+connects
+asks "${long// /x}"$'\nruok' 'err -8' 'imok'
+goes_away
+ends
+
 # three connections in turn; the first ends within a line, and leaves a session and what it holds
 starts --conns=3
 connects
@@ -114,4 +161,4 @@ asks 'commit' 'err -103 ; 0 "/b" - ; -103 - -'
 asks 'close' 'ok'
 goes_away
 ends
-echo "serve: connections in turn, a lock that is passed on, and a port that is taken"
+echo "serve: lines, long ones too, connections in turn, a lock that is passed on, a port that is taken and an output that fails"

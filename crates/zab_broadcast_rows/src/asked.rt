@@ -2,12 +2,30 @@
 
 ghost use Rattle.std.specs.Prelude.{◌≡◌, true};
 ghost use Rattle.zab_epoch.specs.Shortness.{IsShort};
+ghost use Rattle.zab_broadcast.specs.Echoes.{echo_of};
 ghost use Rattle.zab_broadcast.specs.Guards.{EndsBelow};
 
 use zab_broadcast::{Primary, Server, next_zxid};
 use zab_epoch::{Entry, History};
-use zk_jute::size;
 use zk_path::NoMemory;
+use zk_records::size;
+use zk_table::{Op, Txn};
+
+/// The entry of a call that is a tag alone: it changes nothing.
+pub(crate) fn entry(tag: u64, zxid: i64) -> Entry
+    ensures { result ≡ echo_of tag zxid }
+{
+    Entry {
+        tag,
+        txn: Txn {
+            session: 0,
+            cxid: 0,
+            zxid,
+            time: 0,
+            op: Op::Error { code: 0 },
+        },
+    }
+}
 
 /// Whether a server's history ends below the zxid that it would make next.
 pub(crate) fn ends_below<P: Primary>(server: &Server<P>) -> bool

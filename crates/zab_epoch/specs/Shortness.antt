@@ -5,8 +5,8 @@ use Rattle.zab_epoch.specs.declared.history.Entry.{Entry}
 use Rattle.zab_epoch.specs.declared.message.Body.{Body}
 use Rattle.zab_epoch.specs.declared.message.Body.TheVariants.{Propose}
 use Rattle.zab_epoch.specs.declared.message.Message.{Message}
-use Rattle.zk_jute.specs.Records.{record_of}
-use Rattle.zk_jute.specs.Sizes.{size_of}
+use Rattle.zk_records.specs.Records.{record_of}
+use Rattle.zk_records.specs.Sizes.{size_of}
 
 -- its record has at most so many bytes
 abbrev pub IsShort : Entry → Type 0

@@ -18,8 +18,8 @@ use Rattle.zab_runs.specs.Standings.{Standing, standing}
 use Rattle.zab_runs.specs.Worlds.{World, Profile, Answer, world, spent, is_server, server_at, if_up, running, resting, told, said, with_server, acts, receives, message_at, arrives, spends, submits, spends_sync, syncs, crashed, crashes, restarts, happens}
 use Rattle.zab_runs.proofs.Fronts.{happens_front}
 use Rattle.zab_runs.proofs.ServerLists.{found, same_place, up_is}
-use Rattle.zab_world.specs.declared.note.Note.{Note}
-use Rattle.zab_world.specs.Notes.{kept_before, kept_at, back_of, note_at, note_if, note_of, fallen_at, fallen_by}
+use Rattle.zab_places.specs.declared.note.Note.{Note}
+use Rattle.zab_places.specs.Notes.{kept_before, kept_at, back_of, note_at, note_if, note_of, fallen_at, fallen_by}
 use Rattle.zab_world.specs.Sayings.{Goes}
 
 set_twice : {A : Type 0} (xs : List A) (i : ℕ) (x y : A) → set (set xs i x) i y ≡ set xs i y

@@ -1,4 +1,4 @@
 pub mod Back
 pub mod Joinings
 pub mod Living
-pub mod Places
+pub mod Numbers

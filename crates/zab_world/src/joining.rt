@@ -11,16 +11,15 @@ ghost use Rattle.zab_runs.specs.Standings.{Standing};
 ghost use Rattle.zab_runs.specs.Worlds.{world, running, arrives, message_at, profile_of};
 ghost use Rattle.zab_agreement_laws.specs.Promises.{EachEndsBelow};
 ghost use Rattle.zab_world.specs.Joinings.{brings_new_leader, acked_by, IsForeseen, MayFall};
-ghost use Rattle.zab_world.specs.Notes.{fallen_by, moved_in};
+ghost use Rattle.zab_places.specs.Notes.{fallen_by, moved_in};
 ghost use Rattle.zab_world.specs.Sayings.{IsLiving};
 
-use crate::note::Note;
-use crate::place::Place;
 use crate::saying::{arrive, find_message};
 use crate::steps::{check_running, take_step};
 use std::alloc::Global;
 use zab_broadcast::Primary;
 use zab_epoch::{Body, History, Messages, Quorums, Stable};
+use zab_places::{Note, Place};
 use zab_runs::{Event, Moved, Spent, WorldFault};
 
 /// A NewLeader that comes, and what its addressee answers that takes it.

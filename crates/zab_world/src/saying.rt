@@ -15,11 +15,11 @@ ghost use Rattle.zab_runs.specs.Worlds.{acts, receives, arrives, submits, syncs,
 ghost use Rattle.zab_agreement_laws.specs.Promises.{EachEndsBelow};
 ghost use Rattle.zab_world.specs.Sayings.{sent, silence, IsLiving, IsPlain};
 
-use crate::place::Place;
 use crate::steps::{check_down, check_running, is_server};
 use std::alloc::Global;
 use zab_broadcast::{Primary, Server};
 use zab_epoch::{Body, Message, Messages, Quorums, RuleFault, Vote};
+use zab_places::Place;
 use zab_runs::{Event, Spent, WorldFault};
 
 /// What a server says of an event: the messages to send, and the tag that is spent.
@@ -151,7 +151,7 @@ fn receive<P: Primary, Q: Quorums>(
 }
 
 /// A message comes to its addressee, which answers with others.
-#[tactic(auto, using(crate::proofs::Places::ends_below))]
+#[tactic(auto, using(crate::proofs::Numbers::ends_below))]
 fn hear<P: Primary, Q: Quorums>(
     alloc: Global,
     quorums: &Q,
@@ -212,7 +212,7 @@ pub(crate) fn arrive<P: Primary, Q: Quorums>(
 }
 
 /// A client submits a call at a server.
-#[tactic(auto, using(crate::proofs::Places::ends_below))]
+#[tactic(auto, using(crate::proofs::Numbers::ends_below))]
 fn submit<P: Primary, Q: Quorums>(
     alloc: Global,
     quorums: &Q,

@@ -3,7 +3,8 @@
 
 ghost use Rattle.std.specs.Prelude.{◌+◌, ◌-◌, ◌<◌, ◌^◌};
 ghost use Rattle.zk_acting.specs.Acting.{Acts};
-ghost use Rattle.zk_log.specs.Devices.{reads_of, read_failures_of, write_failures_of};
+ghost use Rattle.zk_journal.specs.Sinks.{write_failures_of};
+ghost use Rattle.zk_log.specs.Devices.{reads_of, read_failures_of};
 
 use std::alloc::Global;
 use std::io::{Read, Write};

@@ -1,22 +1,26 @@
-//! The worked rows of the program's orders: which of them a command line names, and what each writes and tells; and no code
-//! of its own.
+//! The worked rows of what is asked of `zk` by lines: command lines, what the orders do over devices, run scripts, debug scripts
+//! and the lines in which clients ask; and no code of its own.
 //!
-//! They stand apart from the crates that they test, as those of `zk_rows` do, and for the same reason.
+//! What the program itself shows stands in `checks/rows`, `examples` and the scripts of `checks`: here are what no command
+//! shows, and each public call once. The rows stand apart from the crates that they test, as those of `zk_rows` do, and for the
+//! same reason.
 #![tactic(auto)]
 
 #[cfg(test)]
+mod asked;
+#[cfg(test)]
+mod command_rows;
+#[cfg(test)]
 mod debug_rows;
 #[cfg(test)]
-mod job_rows;
+mod fault_rows;
 #[cfg(test)]
-mod mend_rows;
+mod reading_rows;
 #[cfg(test)]
-mod order_rows;
+mod request_rows;
 #[cfg(test)]
 mod run_rows;
 #[cfg(test)]
-mod serving_rows;
-#[cfg(test)]
-mod text_rows;
-#[cfg(test)]
 mod trial;
+#[cfg(test)]
+mod trial_rows;

@@ -25,38 +25,41 @@ pub(crate) struct Trial<'a> {
     pub told: &'a str,
 }
 
-/// An order that reads, writes and tells nothing.
+/// An order that reads, writes and tells nothing; four bytes would be written at a time.
 pub(crate) const NOTHING: Trial<'static> = Trial {
     order: Order::Asm,
     file: (b"", 1, None),
     script: (b"", 1, None),
-    output: (64, None),
-    report: (64, None),
+    output: (4, None),
+    report: (4, None),
     written: b"",
     reported: b"",
     told: "",
 };
 
+/// A reader that gives bytes so.
+fn reader<'a>((bytes, piece, good_reads): Input<'a>) -> DripIn<'a> {
+    DripIn::new(bytes, piece.max(1), good_reads)
+}
+
 /// A writer that takes bytes so.
-pub(crate) fn writer(alloc: Global, output: Output) -> DripOut {
-    DripOut::new(alloc, output.0, output.1)
+fn writer(alloc: Global, (piece, good_writes): Output) -> DripOut {
+    DripOut::new(alloc, piece, good_writes)
 }
 
 /// Does what the order asks for, with writers that are lent, and answers the status.
-pub(crate) fn status_of(
+fn status_of(
     alloc: Global,
     trial: &Trial,
     output: &mut DripOut,
     report: &mut DripOut,
     faults: &mut DripOut,
 ) -> Result<u8, NoMemory> {
-    let (file, file_piece, good_file_reads) = trial.file;
-    let (script, script_piece, good_script_reads) = trial.script;
     act(
         alloc,
         &trial.order,
-        &mut Source::new(DripIn::new(file, file_piece.max(1), good_file_reads)),
-        &mut Source::new(DripIn::new(script, script_piece.max(1), good_script_reads)),
+        &mut Source::new(reader(trial.file)),
+        &mut Source::new(reader(trial.script)),
         &mut Sink::new(output),
         &mut Sink::new(report),
         &mut Sink::new(faults),
@@ -69,15 +72,8 @@ pub(crate) fn is_so(alloc: Global, trial: &Trial) -> bool {
     let mut report = writer(alloc, trial.report);
     let mut faults = writer(alloc, (64, None));
     let status = status_of(alloc, trial, &mut output, &mut report, &mut faults);
-    let expected = if trial.told.is_empty() { 0 } else { 1 };
-    matches!(status, Ok(status) if status == expected)
+    status == Ok(u8::from(!trial.told.is_empty()))
         && output.bytes() == trial.written
         && report.bytes() == trial.reported
         && faults.bytes() == trial.told.as_bytes()
-}
-
-/// Appends the bytes that hexadecimal digits spell. Answers whether it could.
-pub(crate) fn push_spelled(alloc: Global, bytes: &mut Vec<u8>, digits: &str) -> bool {
-    let spelled = hex::decode(alloc, digits);
-    matches!(&spelled, Ok(spelled) if bytes.extend_from_slice(spelled.as_slice()).is_ok())
 }

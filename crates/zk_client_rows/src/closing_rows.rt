@@ -1,9 +1,9 @@
 //! Watches beside a machine: what a session's end and a multi tell.
 
-use crate::watch_rows::{fired, set};
+use crate::view_rows::txns_of;
+use crate::watch_rows::{Event, fires, set};
 use std::alloc::Global;
-use zk_listing::assemble;
-use zk_machine::{Applied, Change, Machine, MachineFault};
+use zk_machine::{Applied, ChangeKind, Machine, MachineFault};
 use zk_path::NoMemory;
 use zk_table::{Op, Txn};
 use zk_watch::{WatchKind, Watches};
@@ -13,11 +13,6 @@ const HISTORY: &str = "0000000000000001 0000000000000007 0 1000 createSession 40
     0000000000000002 0000000000000008 0 1000 createSession 4000\n\
     0000000000000003 0000000000000007 1 1000 create \"/e\" x6869 1 31 \"world\" \"anyone\" e -1\n";
 
-/// The transactions of a listing.
-fn txns_of(alloc: Global, listing: &str) -> Result<Vec<Txn>, NoMemory> {
-    assemble(alloc, listing).map_err(|_| NoMemory)
-}
-
 /// Applies a transaction, of which there are few.
 fn applied(machine: &mut Machine, txn: &Txn) -> Result<Applied, MachineFault> {
     if machine.steps()? == u64::MAX {
@@ -26,74 +21,107 @@ fn applied(machine: &mut Machine, txn: &Txn) -> Result<Applied, MachineFault> {
     machine.apply(txn)
 }
 
-/// Applies a transaction as a server does, and shows what sessions are told: what a session that closes waits for is
-/// dropped before.
-fn told_by(
-    alloc: Global,
+/// Applies a transaction as a server does. Whether sessions are told these events: what a session that closes waits for is dropped
+/// before.
+fn tells(
     machine: &mut Machine,
     watches: &mut Watches,
     txn: &Txn,
-) -> Result<String, MachineFault> {
+    events: &[Event],
+) -> Result<bool, MachineFault> {
     let changes = applied(machine, txn)?.changes;
     if matches!(txn.op, Op::CloseSession) {
         watches.drop_session(txn.session.cast_unsigned());
     }
-    Ok(fired(alloc, watches, changes.as_slice())?)
+    Ok(fires(watches, changes.as_slice(), events)?)
 }
 
-fn append(text: &mut String, more: &str) -> Result<(), NoMemory> {
-    Ok(text.push_str(more)?)
+/// Whether each of these transactions does so.
+fn each_tells(
+    machine: &mut Machine,
+    watches: &mut Watches,
+    txns: &[Txn],
+    events: &[Event],
+) -> Result<bool, MachineFault> {
+    for txn in txns {
+        if !tells(machine, watches, txn, events)? {
+            return Ok(false);
+        }
+    }
+    Ok(true)
 }
 
-/// The same of a listing's transactions.
-fn told_by_all(
+/// Whether each of a listing's transactions does so.
+fn listing_tells(
     alloc: Global,
     machine: &mut Machine,
     watches: &mut Watches,
     listing: &str,
-) -> Result<String, MachineFault> {
-    let mut text = String::new(alloc);
-    for txn in &txns_of(alloc, listing)? {
-        let told = told_by(alloc, machine, watches, txn)?;
-        append(&mut text, told.as_str())?;
-    }
-    Ok(text)
+    events: &[Event],
+) -> Result<bool, MachineFault> {
+    let txns = txns_of(alloc, listing)?;
+    each_tells(machine, watches, txns.as_slice(), events)
 }
 
-/// A session waits for the content and the children of `/e` and for the children of `/`; then a listing is applied.
-fn told_after(alloc: Global, session: u64, listing: &str) -> Result<String, MachineFault> {
+/// A session waits for the content and the children of `/e` and for the children of `/`.
+fn wait(alloc: Global, watches: &mut Watches, session: u64) -> Result<(), NoMemory> {
+    set(alloc, watches, session, WatchKind::Content, "/e")?;
+    set(alloc, watches, session, WatchKind::Children, "/e")?;
+    set(alloc, watches, session, WatchKind::Children, "/")
+}
+
+/// Whether these events are told where a session waits so behind the history, and then one transaction is applied.
+fn tells_then(
+    alloc: Global,
+    machine: &mut Machine,
+    watches: &mut Watches,
+    (session, listing, events): &(u64, &str, &[Event]),
+) -> Result<bool, MachineFault> {
+    let quiet = listing_tells(alloc, machine, watches, HISTORY, &[])?;
+    wait(alloc, watches, *session)?;
+    Ok(quiet && listing_tells(alloc, machine, watches, listing, events)?)
+}
+
+/// The same of a new machine.
+fn is_told(alloc: Global, row: &(u64, &str, &[Event])) -> Result<bool, MachineFault> {
     let mut machine = Machine::new(alloc)?;
     let mut watches = Watches::new(alloc);
-    told_by_all(alloc, &mut machine, &mut watches, HISTORY)?;
-    set(alloc, &mut watches, session, WatchKind::Content, "/e")?;
-    set(alloc, &mut watches, session, WatchKind::Children, "/e")?;
-    set(alloc, &mut watches, session, WatchKind::Children, "/")?;
-    told_by_all(alloc, &mut machine, &mut watches, listing)
+    tells_then(alloc, &mut machine, &mut watches, row)
 }
+
+const CLOSING: &str = "0000000000000004 0000000000000007 2 1000 closeSession\n";
+
+/// Who waits, the transaction, and the events.
+static CLOSED: [(u64, &str, &[Event]); 2] = [
+    (
+        8,
+        CLOSING,
+        &[
+            (8, ChangeKind::ChildrenChanged, "/"),
+            (8, ChangeKind::Deleted, "/e"),
+        ],
+    ),
+    (7, CLOSING, &[]),
+];
 
 #[test]
 fn closing_fires_watches_of_others(rt: HostRuntime) {
-    let closing = "0000000000000004 0000000000000007 2 1000 closeSession\n";
-    let told = told_after(rt.alloc(), 8, closing);
-    let expected = "0000000000000008 ChildrenChanged /\n0000000000000008 Deleted /e\n";
-    assert!(rt;
-        matches!(&told, Ok(told) if told.as_str() == expected),
-        "{told:?}"
-    );
-    let told = told_after(rt.alloc(), 7, closing);
-    assert!(rt; matches!(&told, Ok(told) if told.is_empty()), "{told:?}");
+    for row in &CLOSED {
+        assert_eq!(rt; is_told(rt.alloc(), row), Ok(true));
+    }
 }
+
+static MULTI: (u64, &str, &[Event]) = (
+    8,
+    "0000000000000004 0000000000000007 2 1000 multi ; setData \"/e\" x686f 1 ; create \"/f\" x6869 1 31 \"world\" \"anyone\" p -1 ; setData \"/e\" x 2 ; delete \"/e\"\n",
+    &[
+        (8, ChangeKind::DataChanged, "/e"),
+        (8, ChangeKind::ChildrenChanged, "/"),
+        (8, ChangeKind::Deleted, "/e"),
+    ],
+);
 
 #[test]
 fn multi_tells_part_by_part(rt: HostRuntime) {
-    let multi =
-        "0000000000000004 0000000000000007 2 1000 multi ; setData \"/e\" x686f 1 ; create \"/f\" x6869 1 31 \"world\" \"anyone\" p -1 ; setData \"/e\" x 2 ; delete \"/e\"\n";
-    let told = told_after(rt.alloc(), 8, multi);
-    let expected = "0000000000000008 DataChanged /e\n\
-        0000000000000008 ChildrenChanged /\n\
-        0000000000000008 Deleted /e\n";
-    assert!(rt;
-        matches!(&told, Ok(told) if told.as_str() == expected),
-        "{told:?}"
-    );
+    assert_eq!(rt; is_told(rt.alloc(), &MULTI), Ok(true));
 }

@@ -13,8 +13,6 @@ mod digest_rows;
 #[cfg(test)]
 mod fault_rows;
 #[cfg(test)]
-mod kind_rows;
-#[cfg(test)]
 mod thread_rows;
 #[cfg(test)]
 mod view_rows;

@@ -5,7 +5,7 @@ use Rattle.zk_connections.specs.declared.ask.Deed.{Deed}
 use Rattle.zk_connections.specs.declared.session.Session.{Session}
 use Rattle.zk_front_lines.specs.Sayings.{said_in}
 use Rattle.zk_front_lines.specs.declared.saying.Said.{Said}
-use Rattle.zk_prepare.specs.declared.call.Part.{Part}
+use Rattle.zk_requests.specs.declared.call.Part.{Part}
 
 abbrev with_parts : Session → Option (List Part) → Session
 with_parts it parts = record it { parts = parts }

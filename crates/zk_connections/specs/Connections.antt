@@ -24,9 +24,9 @@ use Rattle.zk_front_lines.specs.declared.wish.Wish.{Wish}
 use Rattle.zk_front_lines.specs.declared.wish.Wish.TheVariants as wishes
 use Rattle.zk_front_lines.specs.Sayings.{said_in, said_in_multi}
 use Rattle.zk_front_lines.specs.Tellings.{wish_of_request, wish_of_call}
-use Rattle.zk_prepare.specs.declared.call.Part.{Part}
-use Rattle.zk_prepare.specs.declared.call.Request.{Request}
-use Rattle.zk_prepare.specs.declared.call.Request.TheVariants as requests
+use Rattle.zk_requests.specs.declared.call.Part.{Part}
+use Rattle.zk_requests.specs.declared.call.Request.{Request}
+use Rattle.zk_requests.specs.declared.call.Request.TheVariants as requests
 use Rattle.zk_txn.specs.Codes.{bad_arguments, session_expired}
 use Rattle.zk_txn.specs.declared.read.ReadCall.{ReadCall}
 use Rattle.zk_txn.specs.declared.result.TxnResult.{TxnResult}

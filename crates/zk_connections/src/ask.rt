@@ -1,6 +1,6 @@
 use zk_acl::Ids;
 use zk_front_lines::Wish;
-use zk_prepare::Request;
+use zk_requests::Request;
 use zk_txn::ReadCall;
 
 /// What a line asks of the service.

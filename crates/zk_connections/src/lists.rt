@@ -6,7 +6,7 @@ use std::alloc::Global;
 use std::marker::Model;
 use zk_acl::{Id, Ids};
 use zk_path::NoMemory;
-use zk_prepare::{Part, Parts};
+use zk_requests::{Part, Parts};
 
 /// The identities that a session has proved, in order, seen as their list.
 #[derive(Debug, Drop)]
@@ -61,7 +61,7 @@ pub struct Gathered {
 
 impl Model for Gathered {
     ghost use Rattle.std.specs.Prelude.{List};
-    ghost use Rattle.zk_prepare.specs.declared.call.Part.{Part};
+    ghost use Rattle.zk_requests.specs.declared.call.Part.{Part};
 
     ghost Value = { List Part };
 

@@ -9,7 +9,7 @@ use std::alloc::Global;
 use zk_acl::Id;
 use zk_front_lines::{Said, SaidInMulti, Wish, meaning_in_multi, meaning_of};
 use zk_path::NoMemory;
-use zk_prepare::{Part, Request};
+use zk_requests::{Part, Request};
 use zk_txn::ReadCall;
 use zk_txn::codes::BAD_ARGUMENTS;
 

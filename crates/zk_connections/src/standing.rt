@@ -11,7 +11,7 @@ use std::alloc::Global;
 use zk_acl::Ids;
 use zk_front_lines::{Said, Wish, meaning_of};
 use zk_path::NoMemory;
-use zk_prepare::Request;
+use zk_requests::Request;
 use zk_txn::TxnResult;
 use zk_txn::codes::{BAD_ARGUMENTS, SESSION_EXPIRED};
 

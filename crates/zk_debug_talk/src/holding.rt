@@ -1,6 +1,7 @@
 //! The order `debug` without a script.
 ghost use Rattle.std.specs.Prelude.{◌≡◌, ◌+◌, ◌-◌, ◌<◌, ◌^◌};
-ghost use Rattle.zk_log.specs.Devices.{reads_of, read_failures_of, write_failures_of};
+ghost use Rattle.zk_journal.specs.Sinks.{write_failures_of};
+ghost use Rattle.zk_log.specs.Devices.{reads_of, read_failures_of};
 ghost use Rattle.zk_debug_talk.specs.Holding.{HoldsOver, HoldsSession, TellsEnd};
 
 use crate::line::Line;

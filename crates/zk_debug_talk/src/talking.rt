@@ -1,7 +1,8 @@
 //! A session, line by line.
 ghost use Rattle.std.specs.Prelude.{◌≡◌, ◌-◌, ◌<◌, ◌^◌, ℕ, List, IfOk, Ok};
 ghost use Rattle.std.specs.String.{string_bytes};
-ghost use Rattle.zk_log.specs.Devices.{reader_of, writer_of, reads_of, read_failures_of, write_failures_of};
+ghost use Rattle.zk_journal.specs.Sinks.{writer_of, write_failures_of};
+ghost use Rattle.zk_log.specs.Devices.{reader_of, reads_of, read_failures_of};
 ghost use Rattle.zk_debug_session.specs.declared.session.Turn.TheVariants as turns;
 ghost use Rattle.zk_debug_talk.specs.Hearing.{ReadsSo};
 ghost use Rattle.zk_debug_talk.specs.Lines.{Holds};

@@ -1,5 +1,5 @@
--- What is seen of the code's ensembles and of their servers.
-use Rattle.std.specs.Prelude.{◌≡◌, ℕ, Bool, false, List, [], Option, Some, None, IfSome, refl}
+-- What is seen of the code's ensembles.
+use Rattle.std.specs.Prelude.{◌≡◌, ℕ, Bool, List, [], Option, Some, None, refl}
 use Rattle.std.specs.Coded.{Coded, code_by, coded×, coded_list, coded_bool, coded_ℕ}
 use Rattle.zab_quorums.specs.Quorums.{is_heavy}
 use Rattle.zab_epoch.specs.declared.message.Message.{Message}
@@ -9,32 +9,15 @@ use Rattle.zab_runs.specs.Movers.{mover}
 use Rattle.zab_runs.specs.Runs.{Sight}
 use Rattle.zab_runs.specs.Standings.{Standing}
 use Rattle.zab_runs.specs.Worlds.{World, Profile}
-use Rattle.zk_machine.specs.Machines.{MachineView}
-use Rattle.zk_prepare.specs.declared.call.Call.{Call}
+use Rattle.zk_requests.specs.declared.call.Call.{Call}
 use Rattle.zk_runs.specs.declared.answer.Answered.{Answered}
 use Rattle.zk_runs.specs.declared.event.Event.{Event}
 use Rattle.zk_runs.specs.declared.event.Event.TheVariants as events
 use Rattle.zk_headline_laws.specs.Consequences.{FitEvents}
 use Rattle.zk_runs.specs.Ensembles.{Shown, Ensemble, ensemble, profile_by}
 use Rattle.zk_runs.specs.Runs.{run}
-use Rattle.zk_txn.specs.declared.node.Node.{Node}
-use Rattle.zk_table.specs.States.{State, start_state, state_code}
+use Rattle.zk_table.specs.States.{State, start_state}
 use Rattle.zk_watch.specs.declared.watch.Fired.{Fired}
-use Rattle.zk_watch.specs.declared.watch.Watch.{Watch}
-
--- ---- a server
-
-abbrev pub shown_code : Coded Node → Coded Answered → Coded Watch → Coded Fired → Coded Shown
-shown_code node answered watch fired =
-    code_by (State × (List Answered × (List Watch × List Fired))) (coded× (state_code node) (coded× (coded_list answered) (coded× (coded_list watch) (coded_list fired)))) (λ s. (s.tree, (s.answers, (s.watches, s.events)))) (λ p. record { tree = p.0; answers = p.1.0; watches = p.1.1.0; events = p.1.1.1 }) (λ _. refl)
-
--- the tree of a server's machine: one that has delivered nothing since it started may have none
-abbrev pub tree_by : Option MachineView → State
-tree_by None = start_state
-tree_by (Some machine) = machine.state
-
-abbrev pub HasNotFailed : Option MachineView → Type 0
-HasNotFailed machine = IfSome machine (λ it. it.failed ≡ false)
 
 -- ---- an ensemble
 

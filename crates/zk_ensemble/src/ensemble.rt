@@ -1,21 +1,22 @@
-ghost use Rattle.std.specs.Prelude.{◌≡◌, ◌≢◌, length, true, false, Err};
+ghost use Rattle.std.specs.Prelude.{◌≡◌, ◌≢◌, ◌≤◌, ◌<◌, ◌⊎◌, length, true, false, Err, OnOk, OnErr};
 ghost use Rattle.zab_runs.specs.declared.fault.WorldFault.TheVariants as world_faults;
+ghost use Rattle.zab_runs.specs.Running.{is_running};
+ghost use Rattle.zab_runs.specs.Runs.{delivered_of};
 ghost use Rattle.zk_headline_laws.specs.Consequences.{FitsInWorld};
-ghost use Rattle.zk_runs.specs.Ensembles.{of_world};
+ghost use Rattle.zk_replicas.specs.Keeping.{MayServe, EachKept, WasKept, WasShown};
+ghost use Rattle.zk_runs.specs.Ensembles.{fresh, at_server, shown_then, of_world};
 
-use crate::kept::Kept;
-use crate::moving::{catch_up, find, look, peek};
-use crate::replica::Replica;
 use std::alloc::Global;
 use std::marker::Model;
 use zab_epoch::{Entries, Message, Weighted};
 use zab_runs::Moved;
 use zab_world::{Caught, World, WorldFault};
-use zk_log::Journal;
+use zk_journal::Journal;
 use zk_machine::Machine;
 use zk_path::NoMemory;
-use zk_prepare::Call;
 use zk_primary::Preparer;
+use zk_replicas::{Kept, Replica, find, look, peek};
+use zk_requests::Call;
 use zk_runs::{Answer, Answered, EnsembleFault, Event, Question};
 use zk_watch::Fired;
 
@@ -35,12 +36,13 @@ pub struct Ensemble {
 impl Model for Ensemble {
     ghost use Rattle.zab_epoch.specs.contracts.message.Message as message;
     ghost use Rattle.zab_broadcast.specs.contracts.state.State as state;
-    ghost use Rattle.zk_prepare.specs.contracts.call.Call as call;
+    ghost use Rattle.zk_requests.specs.contracts.call.Call as call;
     ghost use Rattle.zk_txn.specs.contracts.node.Node as node;
     ghost use Rattle.zk_runs.specs.contracts.answer.Answered as answered;
     ghost use Rattle.zk_watch.specs.contracts.watch.Watch as watch;
     ghost use Rattle.zk_watch.specs.contracts.watch.Fired as fired;
-    ghost use Rattle.zk_ensemble.specs.Views.{EnsembleView, world_code, below_code, shown_code, ensemble_code, below_by};
+    ghost use Rattle.zk_ensemble.specs.Views.{EnsembleView, world_code, below_code, ensemble_code, below_by};
+    ghost use Rattle.zk_replicas.specs.Views.{shown_code};
     ghost use Rattle.zk_ensemble.specs.Keeping.{IsStanding};
 
     ghost Value = { EnsembleView };
@@ -270,6 +272,38 @@ impl Ensemble {
     {
         self.world.messages()
     }
+}
+
+/// The server with this number delivers what it has not delivered before, or shows nothing any more where it does not run.
+fn catch_up(
+    alloc: Global,
+    world: &World<Preparer, Weighted>,
+    replicas: &mut [Replica],
+    kept: &mut [Option<Kept>],
+    number: usize,
+    before: usize,
+) -> Result<(), NoMemory>
+    requires grown { is_running world.now.world number ≡ true → before ≤ length (delivered_of world.now.world number) }
+    requires places { length kept.old ≡ length replicas.old }
+    requires aside { EachKept (MayServe (delivered_of world.now.world number)) kept.old }
+    ensures shown { OnOk result (replicas.new
+        ≡ at_server (shown_then (is_running world.now.world number) before (delivered_of world.now.world number)) replicas.old number) }
+    ensures forgets { OnErr result (replicas.new ≡ at_server (λ _. fresh) replicas.old number) }
+    ensures runs { OnErr result (is_running world.now.world number ≡ true) }
+    ensures news { OnErr result (before < length (delivered_of world.now.world number)) }
+    ensures count { length replicas.new ≡ length replicas.old }
+    ensures places { length kept.new ≡ length kept.old }
+    ensures aside { EachKept (λ it. WasKept kept.old it ⊎ WasShown replicas.old number it) kept.new }
+{
+    let running = is_running(world, number);
+    let delivered = world.delivered(number);
+    zk_replicas::catch_up(alloc, running, &delivered, replicas, kept, number, before)
+}
+
+fn is_running(world: &World<Preparer, Weighted>, number: usize) -> bool
+    ensures { result ≡ is_running world.now.world number }
+{
+    world.running(number).is_ok()
 }
 
 /// The type of a session says that it is a number of 64 bits: it is known once the session is read.

@@ -6,10 +6,7 @@
 #![tactic(auto)]
 
 mod ensemble;
-mod kept;
-mod moving;
 mod outcome;
-mod replica;
 
 pub use ensemble::Ensemble;
 pub use outcome::{Mark, Outcome};

@@ -1,143 +1,160 @@
-//! Rows of copies: each kind of event and of call, compared with what it is a copy of; and calls that reach the servers by
-//! copies, with what they come to.
+//! Rows of copies: each kind of event, of call, of answer and of reply, compared with what it is a copy of.
 
-use crate::event_rows::{FIRST_COMMIT, FIRST_SUBMIT};
-use crate::events::Happening::{Arrive, Crash, Expire, Follow, Lead, Read, Restart, Submit};
-use crate::events::{Ask, AskPart, By, Happening, Look, event_of};
-use crate::reports::Report::{Answers, Delivered};
-use crate::scripts::Row::{Shown, Told};
-use crate::scripts::{FIRST, Row, play};
+use crate::ensembles::Part::{All, Reads};
+use crate::ensembles::{Part, new_ensemble, walk};
+use crate::events::{Look, event_of, read_of};
+use crate::happenings::Happening::{Arrive, Crash, Expire, Follow, Lead, Restart, Submit, Sync};
+use crate::happenings::{Happening, Sends};
+use crate::scripts::{CREATE, FIRST, JOINED, SUBMIT_ALONE};
 use std::alloc::Global;
-use std::test::Fail;
-use zk_ensemble::Event;
+use std::fmt::Debug;
+use zab_epoch::WeightFault;
+use zk_ensemble::{Answer, Answered, Ensemble, Event};
+use zk_listing::ListCause;
 use zk_path::NoMemory;
 
 /// One part of each kind: the node that the first makes is there for the others alone.
-const PARTS: [AskPart; 4] = [
-    AskPart::Create("/q/m"),
-    AskPart::Empty("/q", 0),
-    AskPart::Check("/q/m", 0),
-    AskPart::Delete("/q/m", 0),
-];
+const MULTI: &str =
+    "multi ; create \"/q/m\" x 1 31 \"world\" \"anyone\" ; set \"/q\" x 0 ; check \"/q/m\" 0 ; delete \"/q/m\" 0";
 
-const READER: By = By {
-    server: 2,
-    session: FIRST,
-    seen: 5,
-    watch: true,
-};
+/// Everyone loses the right to change the node's list, and gets it again.
+const CLOSE_LIST: &str = "setacl \"/q\" 1 15 \"world\" \"anyone\" 0";
 
-/// Each kind of event, and a submit for each kind of call.
-static EVENTS: [Happening; 18] = [
+const OPEN_LIST: &str = "setacl \"/q\" 1 31 \"world\" \"anyone\" 1";
+
+/// Each kind of event but a read, and a submit for each kind of call.
+static EVENTS: [Happening; 16] = [
     Lead(1),
     Follow(2, 1),
     Arrive(3),
     Crash(4),
     Restart(5),
     Expire(6, 7),
-    Read(READER, Look::Get, "/q"),
-    Read(READER, Look::Stat, "/q"),
-    Read(READER, Look::List, "/q"),
-    Submit(1, 2, 3, Ask::Open),
-    Submit(1, 2, 3, Ask::Close),
-    Submit(1, 2, 3, Ask::Create("/q")),
-    Submit(1, 2, 3, Ask::CreateOwned("/q")),
-    Submit(1, 2, 3, Ask::Empty("/q")),
-    Submit(1, 2, 3, Ask::Delete("/q", 4)),
-    Submit(1, 2, 3, Ask::Permit("/q", 15, 4)),
-    Submit(1, 2, 3, Ask::Multi(&[])),
-    Submit(1, 2, 3, Ask::Multi(&PARTS)),
+    Sync(8, 9),
+    Submit(1, 2, 3, "open 30000"),
+    Submit(1, 2, 3, "close"),
+    Submit(1, 2, 3, CREATE),
+    Submit(1, 2, 3, "create -e \"/q\" x 1 31 \"world\" \"anyone\""),
+    Submit(1, 2, 3, "set \"/q\" x -1"),
+    Submit(1, 2, 3, "delete \"/q\" 4"),
+    Submit(1, 2, 3, CLOSE_LIST),
+    Submit(1, 2, 3, "multi"),
+    Submit(1, 2, 3, MULTI),
 ];
 
-/// An event, with all that it has.
-fn spelled(alloc: Global, event: &Event) -> Result<String, NoMemory> {
-    Ok(format!(in alloc; "{event:?}")?)
+/// Each kind of read, and one that is refused, by the first session, which has seen something.
+const READS: &[Look] = &[
+    Look(1, FIRST, 5, "get -w \"/q\""),
+    Look(1, FIRST, 5, "stat -w \"/q\""),
+    Look(1, FIRST, 5, "ls -w \"/q\""),
+    Look(1, FIRST, 5, "getacl \"/q\""),
+    Look(1, FIRST, 5, "get \"/none\""),
+];
+
+/// Whether two values, of which each may be refused memory, are spelled alike, with all that they have.
+fn are_spelled_alike<T: Debug>(alloc: Global, value: &T, copy: &T) -> Result<bool, NoMemory> {
+    let spelled = format!(in alloc; "{value:?}")?;
+    Ok(format!(in alloc; "{copy:?}")?.as_str() == spelled.as_str())
 }
 
-/// Its copy.
-fn copy_spelled(alloc: Global, event: &Event) -> Result<String, NoMemory> {
-    let copy = event.copy()?;
-    spelled(alloc, &copy)
+/// Whether a copy of an event is spelled as the event is.
+fn is_copied(alloc: Global, event: &Event) -> bool {
+    match event.copy() {
+        Ok(copy) => are_spelled_alike(alloc, event, &copy) == Ok(true),
+        Err(_) => false,
+    }
 }
 
-/// Whether a copy of an event is spelled as the event is, and as it was before.
-fn is_copied(alloc: Global, event: &Event) -> Result<bool, NoMemory> {
-    let before = spelled(alloc, event)?;
-    let copy = copy_spelled(alloc, event)?;
-    let after = spelled(alloc, event)?;
-    Ok(copy.as_str() == before.as_str() && after.as_str() == before.as_str())
+/// Whether a copy of what an event is answered is spelled as the answer is.
+pub fn is_told_as_copied(alloc: Global, answer: &Answer) -> bool {
+    match answer.copy() {
+        Ok(copy) => are_spelled_alike(alloc, answer, &copy) == Ok(true),
+        Err(_) => false,
+    }
+}
+
+/// Whether a copy of what a call was answered is spelled as the answer is.
+fn is_answered_as_copied(alloc: Global, answered: &Answered) -> bool {
+    match answered.copy() {
+        Ok(copy) => are_spelled_alike(alloc, answered, &copy) == Ok(true),
+        Err(_) => false,
+    }
+}
+
+/// Whether an event that can be made is copied.
+fn is_made_and_copied(alloc: Global, event: Result<Event, ListCause>) -> bool {
+    match event {
+        Ok(event) => is_copied(alloc, &event),
+        Err(_) => false,
+    }
 }
 
 #[test]
-fn copies_of_events_equal_what_they_copy(rt: HostRuntime) -> Result<(), Fail> {
+fn copies_of_events_equal_what_they_copy(rt: HostRuntime) {
     for happening in EVENTS {
-        let event = event_of(rt.alloc(), happening)?;
-        assert!(rt; is_copied(rt.alloc(), &event)?);
+        assert!(rt; is_made_and_copied(rt.alloc(), event_of(rt.alloc(), happening)));
     }
-    Ok(())
+    for look in READS {
+        assert!(rt; is_made_and_copied(rt.alloc(), read_of(rt.alloc(), *look)));
+    }
+}
+
+/// Whether an event is spelled so.
+fn is_spelled(
+    alloc: Global,
+    event: Result<Event, ListCause>,
+    expected: &str,
+) -> Result<bool, NoMemory> {
+    Ok(format!(in alloc; "{event:?}")?.as_str() == expected)
 }
 
 // what the comparison rests on: an event's text has each of its fields
 #[test]
-fn a_delete_is_spelled_whole(rt: HostRuntime) -> Result<(), Fail> {
-    let event = event_of(rt.alloc(), Submit(1, 2, 3, Ask::Delete("/q", 4)))?;
-    let told = copy_spelled(rt.alloc(), &event)?;
+fn a_delete_is_spelled_whole(rt: HostRuntime) {
+    let event = event_of(rt.alloc(), Submit(1, 2, 3, "delete \"/q\" 4"));
     let expected =
-        "World(Submit { server: 1, call: Call { tag: 2, session: 3, cxid: 1, auths: Ids { ids: [] }, now: 2000, request: Delete { path: Text { text: \"/q\" }, version: 4 } } })";
-    assert_eq!(rt; told.as_str(), expected);
-    Ok(())
+        "Ok(World(Submit { server: 1, call: Call { tag: 2, session: 3, cxid: 1, auths: Ids { ids: [] }, now: 2000, request: Delete { path: Text { text: \"/q\" }, version: 4 } } }))";
+    assert_eq!(rt; is_spelled(rt.alloc(), event, expected), Ok(true));
 }
 
-/// A node is made, and everyone loses the right to change its list. The multi comes by a follower. Then the list can't be
-/// changed, and the multi has raised the version.
-static CHANGES: [Row; 15] = [
-    Told(Submit(1, 2, FIRST, Ask::Create("/q")), "ok 10"),
-    Told(Submit(1, 3, FIRST, Ask::Permit("/q", 15, 0)), "ok 11"),
-    Told(Submit(2, 4, FIRST, Ask::Multi(&PARTS)), "ok 12"),
-    Told(Arrive(12), "ok 13"),
-    Told(Submit(1, 5, FIRST, Ask::Permit("/q", 31, 1)), "ok 14"),
-    Told(Submit(1, 6, FIRST, Ask::Delete("/q", 0)), "ok 15"),
-    Told(Submit(1, 7, FIRST, Ask::Delete("/q", 1)), "ok 16"),
-    Told(Arrive(10), "ok 17"),
-    Told(Arrive(11), "ok 18"),
-    Told(Arrive(13), "ok 19"),
-    Told(Arrive(14), "ok 20"),
-    Told(Arrive(15), "ok 21"),
-    Told(Arrive(16), "ok 22"),
-    // the last acknowledgement stands for the five before it, which are lost
-    Told(Arrive(22), "ok 23"),
-    Told(Arrive(23), "ok"),
+/// A node is made, and everyone loses the right to change its list. Then the list can't be changed, a multi raises the node's
+/// version, and it is removed. Server 1 commits each call at once.
+const CHANGES: &[Sends] = &[
+    Sends(Submit(1, 2, FIRST, CREATE), &[9, 10]),
+    Sends(Submit(1, 3, FIRST, CLOSE_LIST), &[11, 12]),
+    Sends(Submit(1, 4, FIRST, MULTI), &[13, 14]),
+    Sends(Submit(1, 5, FIRST, OPEN_LIST), &[15, 16]),
+    Sends(Submit(1, 6, FIRST, "delete \"/q\" 0"), &[17, 18]),
 ];
 
-/// What either server has delivered then, and its answers.
-static CHANGED: [Row; 4] = [
-    Shown(Delivered(1), CHANGES_DELIVERED),
-    Shown(Delivered(2), CHANGES_DELIVERED),
-    Shown(Answers(1), CHANGES_ANSWERED),
-    Shown(Answers(2), CHANGES_ANSWERED),
+/// One more removes the node.
+const REMOVED: &[Sends] = &[Sends(Submit(1, 7, FIRST, "delete \"/q\" 1"), &[19, 20])];
+
+/// Calls of every kind, by copies of their events, and reads of what they made.
+static CALLED: [Part; 5] = [
+    All(JOINED),
+    All(SUBMIT_ALONE),
+    All(CHANGES),
+    Reads(READS),
+    All(REMOVED),
 ];
 
-const CHANGES_DELIVERED: &str = "0000000100000001 0000000100000001 0 1000 createSession 30000
-0000000100000002 0000000100000001 1 2000 create \"/q\" x 1 31 \"world\" \"anyone\" p 1
-0000000100000003 0000000100000001 2 2000 setACL \"/q\" 1 15 \"world\" \"anyone\" 1
-0000000100000004 0000000100000001 3 2000 multi ; create \"/q/m\" x 1 31 \"world\" \"anyone\" p 1 ; setData \"/q\" x 1 ; check \"/q/m\" 1 ; delete \"/q/m\"
-0000000100000005 0000000100000001 4 2000 error -102
-0000000100000006 0000000100000001 5 2000 error -103
-0000000100000007 0000000100000001 6 2000 delete \"/q\"
-";
+/// Whether so many calls were answered at server 1, each with what a copy is.
+fn are_answered_as_copied(alloc: Global, ensemble: &Ensemble) -> bool {
+    let answers = ensemble.answers(1);
+    answers.len() == 7
+        && answers
+            .iter()
+            .all(|answered| is_answered_as_copied(alloc, answered))
+}
 
-const CHANGES_ANSWERED: &str = "1 0000000100000001 result 0000000100000001 0 - -
-2 0000000100000001 result 0000000100000002 0 \"/q\" -
-3 0000000100000001 result 0000000100000003 0 \"/q\" 0000000100000002 0000000100000002 2000 2000 0 0 1 0000000000000000 0 0 0000000100000002
-4 0000000100000001 result 0000000100000004 0 - - ; 0 \"/q/m\" - ; 0 \"/q\" 0000000100000002 0000000100000004 2000 2000 1 1 1 0000000000000000 0 1 0000000100000004 ; 0 \"/q/m\" - ; 0 \"/q/m\" -
-5 0000000100000001 result 0000000100000005 -102 - -
-6 0000000100000001 result 0000000100000006 -103 - -
-7 0000000100000001 result 0000000100000007 0 \"/q\" -
-";
+/// Whether copies stand for what they copy in a new ensemble in which server 1 outweighs the others.
+fn are_copied(alloc: Global) -> Result<bool, WeightFault> {
+    let mut ensemble = new_ensemble(alloc, &[3, 1, 1])?;
+    Ok(walk(alloc, &mut ensemble, &CALLED).is_none() && are_answered_as_copied(alloc, &ensemble))
+}
 
 #[test]
-fn calls_of_every_kind_reach_both_servers(rt: HostRuntime) -> Result<(), Fail> {
-    let scripts: [&[Row]; 4] = [&FIRST_SUBMIT, &FIRST_COMMIT, &CHANGES, &CHANGED];
-    assert_eq!(rt; play(rt.alloc(), &scripts)?, None);
-    Ok(())
+fn answers_are_copied(rt: HostRuntime) {
+    assert_eq!(rt; are_copied(rt.alloc()), Ok(true));
 }

@@ -1,24 +1,32 @@
-//! The worked rows of ensembles of servers with trees: the tests of `zk_ensemble`, and no code of its own.
+//! The worked rows of worlds of servers, with calls that are echoed, and of ensembles: the tests of `zab_world` and
+//! `zk_ensemble`, and no code of its own. What a run script shows stands in `examples/runs`.
 //!
-//! Expected values come from the definitions of the protocol, of the table and of watches. Each event and each answer is
-//! taken by a copy of it.
+//! Expected values come from the definitions of the protocol, of the table and of watches.
 #![tactic(auto)]
 
 #[cfg(test)]
+mod agreement_rows;
+#[cfg(test)]
 mod copy_rows;
 #[cfg(test)]
-mod event_rows;
+mod ensembles;
 #[cfg(test)]
 mod events;
 #[cfg(test)]
+mod fail_rows;
+#[cfg(test)]
 mod fault_rows;
+#[cfg(test)]
+mod happenings;
 #[cfg(test)]
 mod outcome_rows;
 #[cfg(test)]
-mod read_rows;
-#[cfg(test)]
-mod reports;
+mod replay_rows;
 #[cfg(test)]
 mod scripts;
 #[cfg(test)]
-mod weight_rows;
+mod shown_rows;
+#[cfg(test)]
+mod world_rows;
+#[cfg(test)]
+mod worlds;

@@ -1,131 +1,144 @@
 //! Rows of what has come of a tag, and of a session's events, behind a mark.
 
-use crate::event_rows::{FIRST_COMMIT, FIRST_SUBMIT};
-use crate::events::Ask;
-use crate::events::Happening::{Arrive, Crash, Submit, Sync};
-use crate::read_rows::{CLOSED, OTHER_WATCHES, OWNED};
-use crate::reports::Report::Outcome;
-use crate::scripts::Row::{Shown, Told};
-use crate::scripts::{FIRST, Row, SECOND, play};
-use std::test::Fail;
-use zk_ensemble::Mark;
+use crate::ensembles::Part::{All, Comes, Reads};
+use crate::ensembles::{Ask, Part, Told, play};
+use crate::events::Look;
+use crate::happenings::Happening::{Arrive, Crash, Submit, Sync};
+use crate::happenings::Sends;
+use crate::scripts::{FIRST, FIRST_COMMIT, FIRST_DELIVERY, FIRST_SUBMIT, JOINED, SECOND};
+use zk_machine::ChangeKind::{self, ChildrenChanged, Deleted};
 
-const START: Mark = Mark {
-    answers: 0,
-    syncs: 0,
-    events: 0,
-};
+/// Nothing was looked at, or nothing is there.
+const START: (usize, usize, usize) = (0, 0, 0);
 
-/// A call has no answer before the server has delivered it.
-static NOT_YET: [Row; 2] = [
-    Shown(Outcome(1, 1, 0, START), "mark 0 0 0\n"),
-    Shown(Outcome(9, 1, 0, START), "mark 0 0 0\n"),
+/// Nothing has come.
+const NOTHING: Told = Told(None, None, &[], START);
+
+/// The request that makes a node of the session's own.
+const CREATE_OWNED: &str = "create -e \"/e\" x 1 31 \"world\" \"anyone\"";
+
+/// A second session is opened, and the first one owns a node.
+const OWNED: &[Sends] = &[
+    Sends(Submit(1, 2, 0, "open 30000"), &[10]),
+    Sends(Arrive(10), &[11]),
+    Sends(Arrive(11), &[12]),
+    Sends(Arrive(12), &[]),
+    Sends(Submit(1, 3, FIRST, CREATE_OWNED), &[13]),
+    Sends(Arrive(13), &[14]),
+    Sends(Arrive(14), &[15]),
+    Sends(Arrive(15), &[]),
 ];
 
-/// Behind a mark, past which the answers of tags 1 to 3 and the first of two events stand.
-const BEHIND: Mark = Mark {
-    answers: 3,
-    syncs: 0,
-    events: 1,
-};
+/// The second session watches the node, its children and those of the root.
+const WATCHES: &[Look] = &[
+    Look(1, SECOND, 0, "stat -w \"/e\""),
+    Look(1, SECOND, 0, "ls -w \"/e\""),
+    Look(1, SECOND, 0, "ls -w \"/\""),
+];
 
-/// Past all that there is, and further.
-const PAST: Mark = Mark {
-    answers: 4,
-    syncs: 7,
-    events: 9,
-};
+/// The first session closes.
+const CLOSED: &[Sends] = &[
+    Sends(Submit(1, 4, FIRST, "close"), &[16]),
+    Sends(Arrive(16), &[17]),
+    Sends(Arrive(17), &[18]),
+    Sends(Arrive(18), &[]),
+];
+
+/// The session and the transaction of two answers.
+const THIRD: Option<(i64, i64)> = Some((FIRST, 0x1_0000_0003));
+
+const FOURTH: Option<(i64, i64)> = Some((FIRST, 0x1_0000_0004));
 
 /// Both events are the second session's.
-static TOLD: [Row; 7] = [
-    Shown(
-        Outcome(1, 4, SECOND, START),
-        "answered 4 0000000100000004\nChildrenChanged /\nDeleted /e\nmark 4 0 2\n",
-    ),
-    Shown(
-        Outcome(1, 4, FIRST, START),
-        "answered 4 0000000100000004\nmark 4 0 2\n",
-    ),
-    Shown(
-        Outcome(1, 3, SECOND, START),
-        "answered 3 0000000100000003\nChildrenChanged /\nDeleted /e\nmark 4 0 2\n",
-    ),
-    Shown(
-        Outcome(1, 4, SECOND, BEHIND),
-        "answered 4 0000000100000004\nDeleted /e\nmark 4 0 2\n",
-    ),
-    Shown(Outcome(1, 3, SECOND, BEHIND), "Deleted /e\nmark 4 0 2\n"),
-    Shown(Outcome(1, 4, SECOND, PAST), "mark 4 0 2\n"),
-    Shown(
-        Outcome(1, 5, SECOND, START),
-        "ChildrenChanged /\nDeleted /e\nmark 4 0 2\n",
-    ),
-];
+const FIRED: &[(ChangeKind, &str)] = &[(ChildrenChanged, "/"), (Deleted, "/e")];
 
-/// A crash makes all shorter than the mark.
-static CRASHED: [Row; 2] = [
-    Told(Crash(1), "ok"),
-    Shown(Outcome(1, 4, SECOND, BEHIND), "mark 0 0 0\n"),
+const LAST_FIRED: &[(ChangeKind, &str)] = &[(Deleted, "/e")];
+
+/// All that server 1 has then.
+const ALL: (usize, usize, usize) = (4, 0, 2);
+
+/// Behind a mark, past which the answers of tags 1 to 3 and the first of two events stand.
+const BEHIND: (usize, usize, usize) = (3, 0, 1);
+
+/// Past all that there is, and further.
+const PAST: (usize, usize, usize) = (4, 7, 9);
+
+/// A call has no answer before the server has delivered it. A crash makes all shorter than the mark.
+static CALLS: [Part; 18] = [
+    All(JOINED),
+    All(FIRST_SUBMIT),
+    Comes(Ask(1, 1, 0, START), NOTHING),
+    Comes(Ask(9, 1, 0, START), NOTHING),
+    All(FIRST_COMMIT),
+    All(FIRST_DELIVERY),
+    All(OWNED),
+    Reads(WATCHES),
+    All(CLOSED),
+    Comes(Ask(1, 4, SECOND, START), Told(FOURTH, None, FIRED, ALL)),
+    Comes(Ask(1, 4, FIRST, START), Told(FOURTH, None, &[], ALL)),
+    Comes(Ask(1, 3, SECOND, START), Told(THIRD, None, FIRED, ALL)),
+    Comes(
+        Ask(1, 4, SECOND, BEHIND),
+        Told(FOURTH, None, LAST_FIRED, ALL),
+    ),
+    Comes(Ask(1, 3, SECOND, BEHIND), Told(None, None, LAST_FIRED, ALL)),
+    Comes(Ask(1, 4, SECOND, PAST), Told(None, None, &[], ALL)),
+    Comes(Ask(1, 5, SECOND, START), Told(None, None, FIRED, ALL)),
+    All(&[Sends(Crash(1), &[])]),
+    Comes(Ask(1, 4, SECOND, BEHIND), NOTHING),
 ];
 
 #[test]
-fn outcomes_stand_behind_the_mark(rt: HostRuntime) -> Result<(), Fail> {
-    let scripts: [&[Row]; 8] = [
-        &FIRST_SUBMIT,
-        &NOT_YET,
-        &FIRST_COMMIT,
-        &OWNED,
-        &OTHER_WATCHES,
-        &CLOSED,
-        &TOLD,
-        &CRASHED,
-    ];
-    assert_eq!(rt; play(rt.alloc(), &scripts)?, None);
-    Ok(())
+fn outcomes_stand_behind_the_mark(rt: HostRuntime) {
+    assert_eq!(rt; play(rt.alloc(), &[], &CALLS), Ok(None));
 }
 
-const ONE_SYNC: Mark = Mark {
-    answers: 0,
-    syncs: 1,
-    events: 0,
-};
+/// The session and the transaction of the first two answers at server 2.
+const OPENED: Option<(i64, i64)> = Some((FIRST, FIRST));
 
-/// Server 2 syncs twice: behind one entry, and behind two. The tags are apart from those of calls.
-static SYNCED: [Row; 12] = [
-    Told(Sync(2, 1), "ok 10"),
-    Shown(
-        Outcome(2, 1, FIRST, START),
-        "answered 1 0000000100000001\nmark 1 0 0\n",
-    ),
-    Told(Arrive(10), "ok 11"),
-    Told(Arrive(11), "ok"),
-    Shown(
-        Outcome(2, 1, FIRST, START),
-        "answered 1 0000000100000001\ncaught 1\nmark 1 1 0\n",
-    ),
-    Shown(
-        Outcome(2, 1, FIRST, ONE_SYNC),
-        "answered 1 0000000100000001\nmark 1 1 0\n",
-    ),
-    Told(Submit(1, 2, FIRST, Ask::Close), "ok 12"),
-    Told(Arrive(12), "ok 13"),
-    Told(Arrive(13), "ok 14"),
-    Told(Sync(2, 7), "ok 15"),
-    Told(Arrive(15), "ok 16"),
-    Told(Arrive(16), "ok"),
+const CLOSING: Option<(i64, i64)> = Some((FIRST, SECOND));
+
+const ONE_SYNC: (usize, usize, usize) = (0, 1, 0);
+
+/// The first session closes, and server 2 syncs again.
+const CLOSED_AND_SYNCED: &[Sends] = &[
+    Sends(Submit(1, 2, FIRST, "close"), &[12]),
+    Sends(Arrive(12), &[13]),
+    Sends(Arrive(13), &[14]),
+    Sends(Sync(2, 7), &[15]),
+    Sends(Arrive(15), &[16]),
+    Sends(Arrive(16), &[]),
 ];
 
-static SYNCED_AGAIN: [Row; 2] = [
-    Shown(Outcome(2, 7, FIRST, ONE_SYNC), "caught 2\nmark 2 2 0\n"),
-    Shown(
-        Outcome(2, 2, FIRST, ONE_SYNC),
-        "answered 2 0000000100000002\nmark 2 2 0\n",
+/// Server 2 syncs twice: behind one entry, and behind two. The tags are apart from those of calls.
+static SYNCS: [Part; 12] = [
+    All(JOINED),
+    All(FIRST_SUBMIT),
+    All(FIRST_COMMIT),
+    All(FIRST_DELIVERY),
+    All(&[Sends(Sync(2, 1), &[10])]),
+    Comes(Ask(2, 1, FIRST, START), Told(OPENED, None, &[], (1, 0, 0))),
+    All(&[Sends(Arrive(10), &[11]), Sends(Arrive(11), &[])]),
+    Comes(
+        Ask(2, 1, FIRST, START),
+        Told(OPENED, Some(1), &[], (1, 1, 0)),
+    ),
+    Comes(
+        Ask(2, 1, FIRST, ONE_SYNC),
+        Told(OPENED, None, &[], (1, 1, 0)),
+    ),
+    All(CLOSED_AND_SYNCED),
+    Comes(
+        Ask(2, 7, FIRST, ONE_SYNC),
+        Told(None, Some(2), &[], (2, 2, 0)),
+    ),
+    Comes(
+        Ask(2, 2, FIRST, ONE_SYNC),
+        Told(CLOSING, None, &[], (2, 2, 0)),
     ),
 ];
 
 #[test]
-fn outcomes_of_syncs_stand_behind_the_mark(rt: HostRuntime) -> Result<(), Fail> {
-    let scripts: [&[Row]; 4] = [&FIRST_SUBMIT, &FIRST_COMMIT, &SYNCED, &SYNCED_AGAIN];
-    assert_eq!(rt; play(rt.alloc(), &scripts)?, None);
-    Ok(())
+fn outcomes_of_syncs_stand_behind_the_mark(rt: HostRuntime) {
+    assert_eq!(rt; play(rt.alloc(), &[], &SYNCS), Ok(None));
 }

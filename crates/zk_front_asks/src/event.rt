@@ -4,7 +4,7 @@ ghost use Rattle.std.specs.Prelude.{◌≡◌};
 ghost use Rattle.zk_front_asks.specs.Asks.{event_of, next_tag, session_of};
 
 use zk_connections::Ask;
-use zk_prepare::Call;
+use zk_requests::Call;
 use zk_runs::{Event, Question};
 
 /// The number of the server that asks are made at.

@@ -8,9 +8,9 @@ use Rattle.zk_acl.specs.Digests.{digest_of}
 use Rattle.zk_listing.specs.Reading.{front_of, back_of, past, quoted_at, path_at}
 use Rattle.zk_listing.proofs.Exact.{bind_some, past_is, past_self, front-back}
 use Rattle.zk_listing.proofs.QuotedLaws.{quoted_exact, path_exact}
-use Rattle.zk_prepare.specs.declared.call.Part.{Part}
-use Rattle.zk_prepare.specs.declared.call.Request.{Request}
-use Rattle.zk_prepare.specs.declared.call.Request.TheVariants as requests
+use Rattle.zk_requests.specs.declared.call.Part.{Part}
+use Rattle.zk_requests.specs.declared.call.Request.{Request}
+use Rattle.zk_requests.specs.declared.call.Request.TheVariants as requests
 use Rattle.zk_request_lines.specs.declared.lookups.Lookup.{Lookup}
 use Rattle.zk_request_lines.specs.declared.lookups.Lookup.TheVariants as lookups
 use Rattle.zk_request_lines.specs.Reading.{request_at, lookup_at, part_at, whole}

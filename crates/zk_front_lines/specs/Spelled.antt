@@ -3,9 +3,9 @@ use Rattle.std.specs.Prelude.{◌≡◌, ◌↔◌, ◌++◌, ℕ, ℤ, List, []
 use Rattle.std.specs.Str.{IsUtf8}
 use Rattle.zk_acl.specs.declared.acl.Id.{Id}
 use Rattle.zk_acl.specs.Digests.{digest_of}
-use Rattle.zk_prepare.specs.declared.call.Part.{Part}
-use Rattle.zk_prepare.specs.declared.call.Request.{Request}
-use Rattle.zk_prepare.specs.declared.call.Request.TheVariants as requests
+use Rattle.zk_requests.specs.declared.call.Part.{Part}
+use Rattle.zk_requests.specs.declared.call.Request.{Request}
+use Rattle.zk_requests.specs.declared.call.Request.TheVariants as requests
 use Rattle.zk_request_lines.specs.declared.lookups.Lookup.TheVariants as lookups
 use Rattle.zk_request_lines.specs.RequestLines.{SpellsRequest, SpellsLookup, SpellsPart}
 use Rattle.zk_spelling.specs.Listings.{IsListedPath}

@@ -9,9 +9,9 @@ use Rattle.zk_front_lines.specs.declared.wish.Wish.{Wish}
 use Rattle.zk_front_lines.specs.declared.wish.Wish.TheVariants as wishes
 use Rattle.zk_machine.specs.declared.change.ChangeKind.{ChangeKind}
 use Rattle.zk_machine.specs.declared.change.ChangeKind.TheVariants as kinds
-use Rattle.zk_prepare.specs.Deadlines.{clamp}
-use Rattle.zk_prepare.specs.declared.call.Request.{Request}
-use Rattle.zk_prepare.specs.declared.call.Request.TheVariants as requests
+use Rattle.zk_requests.specs.Timeouts.{clamp}
+use Rattle.zk_requests.specs.declared.call.Request.{Request}
+use Rattle.zk_requests.specs.declared.call.Request.TheVariants as requests
 use Rattle.zk_request_lines.specs.ReplyLines.{refusal_text, reply_text}
 use Rattle.zk_spelling.specs.Reports.{part_answer}
 use Rattle.zk_spelling.specs.Spelling.{quoted, stat_text, id_digits}

@@ -9,8 +9,8 @@ use std::alloc::Global;
 use zk_acl::Text;
 use zk_listing::{ListCause, read_path, read_quoted};
 use zk_path::Path;
-use zk_prepare::{Part, Request};
 use zk_request_lines::{Lookup, read_lookup, read_part, read_request, take_word};
+use zk_requests::{Part, Request};
 
 pub(crate) fn request_in(alloc: Global, text: &str) -> Result<Request, ListCause>
     ensures { Makes result (whole (request_at text.now)) }

@@ -9,8 +9,8 @@ use std::alloc::Global;
 use zk_acl::{AclFault, Id, digest_id};
 use zk_listing::ListCause;
 use zk_path::{NoMemory, Path};
-use zk_prepare::{Part, Request};
 use zk_request_lines::Lookup;
+use zk_requests::{Part, Request};
 use zk_txn::ReadCall;
 
 /// What a line says outside a multi.

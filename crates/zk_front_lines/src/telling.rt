@@ -12,8 +12,8 @@ use zk_acl::Stat;
 use zk_listing::{push_id, push_quoted, push_stat};
 use zk_machine::ChangeKind;
 use zk_path::{NoMemory, Path};
-use zk_prepare::clamp;
 use zk_request_lines::{push_refusal, push_reply};
+use zk_requests::clamp;
 use zk_txn::{PartResult, ReadReply, TxnResult};
 
 /// Appends what happened, and where: `event KIND PATH`.

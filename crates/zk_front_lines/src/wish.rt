@@ -2,7 +2,7 @@ ghost use Rattle.std.specs.Prelude.{◌≡◌};
 ghost use Rattle.zk_front_lines.specs.Tellings.{wish_of_request, wish_of_call};
 
 use zk_path::Path;
-use zk_prepare::Request;
+use zk_requests::Request;
 use zk_txn::ReadCall;
 
 /// What a line waits for, once what it says was asked: by it the answer is told.

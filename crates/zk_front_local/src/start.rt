@@ -11,7 +11,7 @@ use std::alloc::Global;
 use zk_connections::ServiceFault;
 use zk_ensemble::{Ensemble, Event};
 use zk_front_asks::{HOME, service_fault_of};
-use zk_prepare::Call;
+use zk_requests::Call;
 
 /// A new ensemble of so many servers: server 1 leads, the others follow it, and all messages have arrived.
 pub(crate) fn start(alloc: Global, count: usize) -> Result<Servers, ServiceFault>

@@ -9,7 +9,7 @@ use zk_front_asks::{
 };
 use zk_front_local::{Ask, Reply, ServiceFault};
 use zk_path::Path;
-use zk_prepare::Request;
+use zk_requests::Request;
 use zk_runs::{Answer, EnsembleFault, Event};
 use zk_table::{ReadCall, ReadReply};
 

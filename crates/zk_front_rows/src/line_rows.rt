@@ -10,7 +10,7 @@ use zk_front_lines::{
 };
 use zk_machine::ChangeKind;
 use zk_path::{NoMemory, Path};
-use zk_prepare::Request;
+use zk_requests::Request;
 use zk_table::{ReadCall, ReadReply};
 
 fn is_split(bytes: &[u8], front: &[u8], back: &[u8]) -> bool {

@@ -3,7 +3,6 @@
 use std::alloc::Global;
 use zk_front_local::{Clock, FrontFault, Local, serve_lines};
 use zk_log::{DripIn, DripOut, Sink, Source};
-use zk_path::NoMemory;
 
 /// A clock that stands.
 #[derive(Drop)]
@@ -206,48 +205,6 @@ fn front_lines_over_memory(rt: HostRuntime) {
     assert!(rt; are_answered(rt.alloc(), LINES, 16, ANSWERS));
     assert!(rt; are_answered(rt.alloc(), MULTIS, 26, MULTI_ANSWERS));
     assert!(rt; are_answered(rt.alloc(), SESSIONS, 17, SESSION_ANSWERS));
-}
-
-/// Appends a line of so many bytes with its newline, and a line that is always answered.
-fn push_long_line(
-    input: &mut Vec<u8>,
-    front: &str,
-    back: &str,
-    bytes: usize,
-) -> Result<(), NoMemory> {
-    input.extend_from_slice(front.as_bytes())?;
-    for _ in input.len()..bytes.saturating_sub(back.len()) {
-        input.push(b'y')?;
-    }
-    input.extend_from_slice(back.as_bytes())?;
-    Ok(input.extend_from_slice(b"ruok\n")?)
-}
-
-/// Whether a line of so many bytes is answered so, and the next one is answered.
-fn long_line_is_answered(alloc: Global, bytes: usize, answers: &str) -> bool {
-    let front = "open 30000\ncreate \"/l\" \"";
-    let back = "\" 1 31 \"world\" \"anyone\"\n";
-    let bytes = bytes.saturating_add("open 30000\n".len());
-    let devices = Devices {
-        piece: 65_536,
-        ..GOOD
-    };
-    let mut input = Vec::new(alloc);
-    push_long_line(&mut input, front, back, bytes).is_ok()
-        && is_served(alloc, input.as_slice(), devices, Ok(3), answers.as_bytes())
-}
-
-const READ: &str = "ok 0000000100000001 30000\nok \"/l\"\nimok\n";
-
-const SKIPPED: &str = "ok 0000000100000001 30000\nerr -8\nimok\n";
-
-#[test]
-fn lines_of_65536_bytes_are_read(rt: HostRuntime) {
-    assert!(rt; long_line_is_answered(rt.alloc(), 65_535, READ));
-    assert!(rt; long_line_is_answered(rt.alloc(), 65_536, READ));
-    assert!(rt; long_line_is_answered(rt.alloc(), 65_537, SKIPPED));
-    assert!(rt; long_line_is_answered(rt.alloc(), 70_000, SKIPPED));
-    assert!(rt; long_line_is_answered(rt.alloc(), 140_000, SKIPPED));
 }
 
 #[test]

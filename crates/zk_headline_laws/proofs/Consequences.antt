@@ -11,8 +11,8 @@ use Rattle.zab_runs.specs.declared.event.Event.{Event as WorldEvent}
 use Rattle.zab_runs.specs.declared.event.Event.TheVariants as world
 use Rattle.zab_agreement_laws.specs.Origins.{IsOrigin, call_of}
 use Rattle.zab_runs.specs.Worlds.{server_at}
-use Rattle.zk_prepare.specs.declared.call.Call.{Call}
-use Rattle.zk_prepare.specs.Requests.{meaning_of}
+use Rattle.zk_requests.specs.declared.call.Call.{Call}
+use Rattle.zk_requests.specs.Requests.{meaning_of}
 use Rattle.zk_prepared_laws.specs.Consequences.{HasOpenOwners}
 use Rattle.zk_prepared_laws.specs.Prepared.{ArePrepared, HaveSessions, is_in_session}
 use Rattle.zk_prepared_laws.proofs.Each.{prepared_front, each_front}

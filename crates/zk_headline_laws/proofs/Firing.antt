@@ -18,7 +18,7 @@ use Rattle.zab_runs.specs.Worlds as worlds
 use Rattle.zab_runs.specs.Worlds.{World, Profile, if_up, running, server_at}
 use Rattle.zab_tag_laws.proofs.TagFacts.{cases_eq}
 use Rattle.zk_machine.specs.Changes.{changes_of}
-use Rattle.zk_prepare.specs.declared.call.Call.{Call}
+use Rattle.zk_requests.specs.declared.call.Call.{Call}
 use Rattle.zab_epoch.specs.Entries.{txns_of}
 use Rattle.zk_runs.proofs.Lists.{changed_here, changed_elsewhere, fresh_at}
 use Rattle.zk_headline_laws.proofs.Showing.{shows_in}

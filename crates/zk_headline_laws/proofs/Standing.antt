@@ -18,7 +18,7 @@ use Rattle.zab_agreement_laws.proofs.Deliveries.{no_deliveries_first, others_kee
 use Rattle.zab_runs.proofs.RunLaws as zab_laws
 use Rattle.zab_agreement_laws.proofs.WholeRuns.{whole, shares_of}
 use Rattle.zab_tag_laws.proofs.TagFacts.{cases_eq}
-use Rattle.zk_prepare.specs.declared.call.Call.{Call}
+use Rattle.zk_requests.specs.declared.call.Call.{Call}
 use Rattle.zk_runs.specs.declared.event.Event.{Event}
 use Rattle.zk_runs.specs.declared.event.Event.TheVariants as events
 use Rattle.zk_runs.specs.declared.event.Question.{Question}

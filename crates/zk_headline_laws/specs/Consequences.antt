@@ -6,7 +6,7 @@ use Rattle.std.specs.List.{AllByRecursion}
 use Rattle.zab_runs.specs.declared.event.Event.{Event as WorldEvent}
 use Rattle.zab_runs.specs.declared.event.Event.TheVariants as world
 use Rattle.zab_runs.specs.Worlds.{Profile}
-use Rattle.zk_prepare.specs.declared.call.Call.{Call}
+use Rattle.zk_requests.specs.declared.call.Call.{Call}
 use Rattle.zk_prepared_laws.specs.Consequences.{HasOpenOwners, IsRefusedOnlyAsError, IsWholeOrNothing}
 use Rattle.zk_prepared_laws.specs.Prepared.{ArePrepared, OfEach}
 use Rattle.zab_epoch.specs.Entries.{txns_of}

@@ -13,7 +13,7 @@ use Rattle.zab_agreement_laws.specs.Syncs.{AreCaught}
 use Rattle.zab_runs.specs.Runs as zab
 use Rattle.zab_runs.specs.Worlds.{Profile, is_server}
 use Rattle.zk_machine.specs.Changes.{changes_of}
-use Rattle.zk_prepare.specs.declared.call.Call.{Call}
+use Rattle.zk_requests.specs.declared.call.Call.{Call}
 use Rattle.zab_epoch.specs.Entries.{txns_of}
 use Rattle.zk_runs.specs.declared.answer.Answer.TheVariants.{Looked}
 use Rattle.zk_runs.specs.declared.event.Event.{Event}

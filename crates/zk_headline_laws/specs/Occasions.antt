@@ -6,7 +6,7 @@ use Rattle.zab_runs.specs.Running.{is_running}
 use Rattle.zab_runs.specs.Runs.{delivered_of}
 use Rattle.zab_runs.specs.Worlds.{Profile}
 use Rattle.zk_machine.specs.Changes.{changes_of}
-use Rattle.zk_prepare.specs.declared.call.Call.{Call}
+use Rattle.zk_requests.specs.declared.call.Call.{Call}
 use Rattle.zk_runs.specs.declared.answer.Answer.TheVariants.{Looked}
 use Rattle.zk_runs.specs.declared.event.Event.{Event}
 use Rattle.zk_runs.specs.declared.event.Event.TheVariants as events

@@ -4,7 +4,7 @@ use Rattle.std.specs.Int.{w32}
 use Rattle.zk_jute.specs.declared.bodies.CreateTxn.{CreateTxn}
 use Rattle.zk_jute.specs.declared.bodies.CreateTxnV0.{CreateTxnV0}
 use Rattle.zk_jute.specs.declared.bodies.SetDataTxn.{SetDataTxn}
-use Rattle.zk_jute.specs.Records.{int, ustring, buffer, boolean, acl_vector, create_old_body, set_data_body, IsCreate, IsCreateOld, IsSetData}
+use Rattle.zk_records.specs.Records.{int, ustring, buffer, boolean, acl_vector, create_old_body, set_data_body, IsCreate, IsCreateOld, IsSetData}
 use Rattle.zk_jute.specs.Reading.{◌>>=◌, number_at, content_at, boolean_at, acl_at, vector_at, front_at, create_at, with_count, set_data_at}
 use Rattle.zk_jute.proofs.Numbers.{IsBytes, TakesFront, TakesFront-then, IsField, first_read, at_ok}
 use Rattle.zk_jute.proofs.Texts.{int_field, path_field, content_field, boolean_field}

@@ -1,7 +1,4 @@
 pub mod Creates
-pub mod Fitting
-pub mod Joined
-pub mod Lengths
 pub mod Numbers
 pub mod Ops
 pub mod Parts

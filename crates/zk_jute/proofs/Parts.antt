@@ -9,7 +9,7 @@ use Rattle.zk_txn.specs.declared.sub.Sub.{Sub}
 use Rattle.zk_txn.specs.declared.sub.Sub.TheVariants as subs
 use Rattle.zk_jute.specs.declared.multis.PartKind.{PartKind}
 use Rattle.zk_jute.specs.declared.multis.PartKind.TheVariants as parts
-use Rattle.zk_jute.specs.Records.{int, ustring, vector, part_kind_of, part_body_of, part_of, IsShort, AreElements, IsSub, IsPart}
+use Rattle.zk_records.specs.Records.{int, ustring, vector, part_kind_of, part_body_of, part_of, IsShort, AreElements, IsSub, IsPart}
 use Rattle.zk_jute.specs.Reading.{◌>>=◌, number_at, counted_at, whole, known_part, part_kind_at, check_at, create_part, set_data_part, part_body_at, part_at, vector_at}
 use Rattle.zk_jute.proofs.Numbers.{IsBytes, IsBytes-between, TakesFront, TakesFront-then, IsField, first_read, took_all, bind_ok, done, at_ok, made_takes, whole_ok, either}
 use Rattle.zk_jute.proofs.Texts.{int_field, counted_field, path_field, count}

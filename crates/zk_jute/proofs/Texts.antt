@@ -9,7 +9,7 @@ use Rattle.zk_path.proofs.FaultLaw.{IsPath-from_fault, fault_of-IsPath}
 use Rattle.zk_path.specs.Paths.{fault_of}
 use Rattle.zk_path.specs.declared.fault.PathFault.{PathFault}
 use Rattle.zk_jute.specs.declared.fault.JuteFault.TheVariants as faults
-use Rattle.zk_jute.specs.Records.{int, long, ustring, buffer, boolean, IsShort, IsText, IsPathText, IsContent}
+use Rattle.zk_records.specs.Records.{int, long, ustring, buffer, boolean, IsShort, IsText, IsPathText, IsContent}
 use Rattle.zk_jute.specs.Reading.{number_at, bytes_at, not_negative, count_at, counted_at, text_at, path_at, content_of, content_at, boolean_at}
 use Rattle.zk_jute.proofs.Numbers.{IsBytes, TakesFront, TakesFront-then, IsField, first_read, bind_ok, guard_ended, ok_is, at_ok, wide32, wide64, number_field, bytes_take, bytes_again}
 

@@ -4,7 +4,7 @@ use Rattle.std.specs.List.{flat_map, AllByRecursion}
 use Rattle.std.proofs.lemmas.List.Concat.{flat_map-cons}
 use Rattle.zk_acl.specs.declared.acl.Acl.{Acl}
 use Rattle.zk_jute.specs.declared.fault.JuteFault.{JuteFault}
-use Rattle.zk_jute.specs.Records.{int, ustring, vector, acl_entry, acl_vector, AreElements, IsAcl, AreAcls}
+use Rattle.zk_records.specs.Records.{int, ustring, vector, acl_entry, acl_vector, AreElements, IsAcl, AreAcls}
 use Rattle.zk_jute.specs.Reading.{◌>>=◌, text_at, count_at, many_at, vector_at, acl_at}
 use Rattle.zk_jute.proofs.Numbers.{IsBytes, TakesFront, TakesFront-then, IsField, first_read, bind_ok, ok_is, at_ok}
 use Rattle.zk_jute.proofs.Texts.{int_field, count, IsCount, count_field, text_field}

@@ -1,6 +1,6 @@
-//! Laws of records: the contracts of functions that do nothing.
+//! Laws of records: the contract of a function that does nothing.
 
-ghost use Rattle.zk_jute.specs.Laws.{OnlyOldCreatesBeginOthers, RecordsAreOfOne, ShortOnesHaveRecords};
+ghost use Rattle.zk_jute.specs.Laws.{OnlyOldCreatesBeginOthers, RecordsAreOfOne};
 
 /// Bytes are the record of one transaction at most, and only a create of 3.3 begins another record.
 pub fn only_old_creates_begin_others()
@@ -8,9 +8,4 @@ pub fn only_old_creates_begin_others()
     ensures begins { OnlyOldCreatesBeginOthers }
     // Bytes are the record of one transaction at most.
     ensures one { RecordsAreOfOne }
-{}
-
-/// Every transaction has a record if its [`size`](crate::size) is at most 16,777,216.
-pub fn short_transactions_have_records()
-    ensures { ShortOnesHaveRecords }
 {}

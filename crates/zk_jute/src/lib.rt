@@ -1,4 +1,4 @@
-//! Transactions as the records of a log.
+//! The records of a log as transactions: how they are read. What a record is and how it is written stands in `zk_records`.
 //!
 //! `zookeeper.jute`, modules `org.apache.zookeeper.data` and `org.apache.zookeeper.txn`; the encoding is Jute's binary
 //! one.
@@ -8,16 +8,12 @@ pub mod acls;
 pub mod bodies;
 mod fault;
 pub mod fields;
-pub mod kinds;
 mod laws;
 pub mod multis;
 pub mod operations;
 mod reading;
-mod sizes;
-mod writing;
 
 pub use fault::JuteFault;
-pub use laws::{only_old_creates_begin_others, short_transactions_have_records};
+pub use laws::only_old_creates_begin_others;
 pub use reading::{Header, read_txn, read_txn_sharing, txn_header};
-pub use sizes::size;
-pub use writing::write_txn;
+pub use zk_records::{kinds, short_transactions_have_records, size, write_txn};

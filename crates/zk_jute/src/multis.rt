@@ -5,9 +5,9 @@ ghost use Rattle.zk_jute.specs.Reading.{Takes, many_at, vector_at, check_at, par
 use crate::bodies::{create, set_data};
 use crate::fault::JuteFault;
 use crate::fields::{count, counted, int, path};
-use crate::kinds;
 use std::alloc::Global;
 use zk_acl::Acls;
+use zk_records::kinds;
 use zk_txn::{Sub, Subs};
 
 /// What a part does.

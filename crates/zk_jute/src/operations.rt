@@ -6,10 +6,10 @@ use crate::acls::acl_vector;
 use crate::bodies::{created, set_data};
 use crate::fault::JuteFault;
 use crate::fields::{int, path};
-use crate::kinds;
 use crate::multis::parts;
 use std::alloc::Global;
 use zk_acl::Acls;
+use zk_records::kinds;
 use zk_txn::Op;
 
 /// `SetACLTxn`.

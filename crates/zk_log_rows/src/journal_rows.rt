@@ -3,9 +3,9 @@
 use crate::log_rows::{FIRST_LOG, loaded, read_log, sink_of};
 use std::alloc::Global;
 use std::io::Write;
-use zk_jute::size;
 use zk_log::{Ending, Journal, Loaded, LogFault, NotPushed, Sink, Source, WriteFault, write_log};
 use zk_path::NoMemory;
+use zk_records::size;
 use zk_table::{Op, Txn};
 
 /// The transactions that were loaded.

@@ -1,6 +1,6 @@
 ghost use Rattle.std.specs.Prelude.{◌≡◌, ◌-◌, ◌<◌, ◌^◌, IfOk};
 ghost use Rattle.std.specs.String.{string_bytes};
-ghost use Rattle.zk_log.specs.Devices.{write_failures_of};
+ghost use Rattle.zk_journal.specs.Sinks.{write_failures_of};
 ghost use Rattle.zk_mend_order.specs.FaultLines.{line_of_mend_fault, place_line};
 ghost use Rattle.zk_orders.specs.Telling.{TellsFault};
 

@@ -1,7 +1,8 @@
 ghost use Rattle.std.specs.Prelude.{◌≡◌, ◌+◌, ◌-◌, ◌<◌, ◌^◌, Ok};
 ghost use Rattle.std.specs.String.{string_bytes};
-ghost use Rattle.zk_log.specs.Devices.{reads_of, read_failures_of, write_failures_of};
-ghost use Rattle.zk_log.specs.Logs.{log_of};
+ghost use Rattle.zk_journal.specs.Sinks.{write_failures_of};
+ghost use Rattle.zk_log.specs.Devices.{reads_of, read_failures_of};
+ghost use Rattle.zk_journal.specs.Written.{log_of};
 ghost use Rattle.zk_mend_order.specs.Mends.{MendsLog, OutputsBoth};
 ghost use Rattle.zk_mend_order.specs.Reports.{mend_report};
 

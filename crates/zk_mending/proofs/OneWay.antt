@@ -5,11 +5,12 @@ use Rattle.std.proofs.lemmas.List.{append_cancel_left}
 use Rattle.std.proofs.lemmas.Nat.{from_be_bytes-to_be_bytes_8}
 use Rattle.std.specs.Int.{from_be_bytes}
 use Rattle.std.specs.List.{flat_map}
-use Rattle.zk_jute.specs.Records.{long}
+use Rattle.zk_records.specs.Records.{long}
 use Rattle.zk_log.proofs.OnlyLaws.{IsSame, one_record, like_stop}
 use Rattle.zk_log.proofs.Verdicts.{rank, verdict_on, stops_verdict, stands_entry}
-use Rattle.zk_log.specs.Checksum.{adler_of, sum_one, sum_two}
-use Rattle.zk_log.specs.Logs.{header_of, HasNoHeader, Stands, Ends}
+use Rattle.zk_journal.specs.Checksum.{adler_of, sum_one, sum_two}
+use Rattle.zk_journal.specs.Written.{header_of}
+use Rattle.zk_log.specs.Logs.{HasNoHeader, Stands, Ends}
 use Rattle.zk_log.specs.declared.fault.LogFault.TheVariants as log_faults
 use Rattle.zk_log.specs.declared.loaded.Ending.{Ending}
 use Rattle.zk_log.specs.declared.loaded.Ending.TheVariants.{Whole, Padding, Torn}

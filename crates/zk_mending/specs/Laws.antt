@@ -1,6 +1,6 @@
 -- Laws of mending.
 use Rattle.std.specs.Prelude.{◌≡◌, ℕ, ℤ, List, length}
-use Rattle.zk_jute.specs.Sizes.{capped}
+use Rattle.zk_records.specs.Sizes.{capped}
 use Rattle.zk_log.specs.Logs.{IsLogOf}
 use Rattle.zk_log.specs.declared.loaded.Ending.{Ending}
 use Rattle.zk_txn.specs.declared.txn.Txn.{Txn}

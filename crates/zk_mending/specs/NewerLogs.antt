@@ -7,10 +7,11 @@ use Rattle.std.specs.Ordering.{int_eq}
 use Rattle.std.specs.Str.{bytes_eq}
 use Rattle.zk_digest.specs.Digests.{Owners, tree_digest}
 use Rattle.zk_digest.specs.Following.{no_owners, owners_after}
-use Rattle.zk_jute.specs.Records.{record_of}
-use Rattle.zk_jute.specs.Sizes.{size_of}
-use Rattle.zk_log.specs.Checksum.{adler_of}
-use Rattle.zk_log.specs.Logs.{framed, has_head, most_bytes, stated_length, Ends, Stands}
+use Rattle.zk_records.specs.Records.{record_of}
+use Rattle.zk_records.specs.Sizes.{size_of}
+use Rattle.zk_journal.specs.Checksum.{adler_of}
+use Rattle.zk_journal.specs.Written.{framed, most_bytes}
+use Rattle.zk_log.specs.Logs.{has_head, stated_length, Ends, Stands}
 use Rattle.zk_log.specs.declared.fault.LogFault.TheVariants as log_faults
 use Rattle.zk_log.specs.declared.loaded.Ending.{Ending}
 use Rattle.zk_newer.specs.Changes.{owners_of}

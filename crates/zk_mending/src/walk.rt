@@ -3,9 +3,9 @@
 ghost use Rattle.std.specs.Prelude.{◌≡◌, ◌<◌, ◌≤◌, ◌+◌, ◌-◌, ◌^◌, pos, ◌<ℤ◌, true, false, [], length, IfOk, IfErr, OnOk};
 ghost use Rattle.zk_digest.specs.Digests.{Owners as ServerOwners};
 ghost use Rattle.zk_digest.specs.Following.{IsDigestOf, owners_after};
-ghost use Rattle.zk_jute.specs.Records.{record_of};
-ghost use Rattle.zk_jute.specs.Sizes.{size_of};
-ghost use Rattle.zk_log.specs.Logs.{last_of};
+ghost use Rattle.zk_records.specs.Records.{record_of};
+ghost use Rattle.zk_records.specs.Sizes.{size_of};
+ghost use Rattle.zk_journal.specs.Written.{last_of};
 ghost use Rattle.zk_newer.specs.Changes.{owners_of};
 ghost use Rattle.zk_newer.specs.Newer.{newer_record, tells_why};
 ghost use Rattle.zk_table.specs.Steps.{step};
@@ -18,11 +18,11 @@ use crate::told::Told;
 use std::alloc::Global;
 use zk_acl::Acls;
 use zk_digest::TreeDigest;
-use zk_jute::size;
 use zk_log::{FRAME, HEADER, Journal, LogFault, adler};
 use zk_machine::Machine;
 use zk_newer::{Newer, NewerFault, read_newer};
 use zk_path::NoMemory;
+use zk_records::size;
 
 /// The most bytes of a record.
 const MOST_BYTES: u64 = 16_777_216;

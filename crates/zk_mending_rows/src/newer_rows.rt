@@ -1,8 +1,8 @@
 //! Records as a server of 3.8 wrote them, and what they stand for.
 
 use std::alloc::Global;
-use zk_jute::{size, write_txn};
 use zk_newer::{Change, Newer, NewerFault, read_newer};
+use zk_records::{size, write_txn};
 use zk_table::Txn;
 
 /// A record, and what its mending is.

@@ -7,7 +7,7 @@ use Rattle.std.proofs.lemmas.Bool.{eqb-true, ne_eqb, false_from_ne_true}
 use Rattle.std.proofs.lemmas.Bool.Decides.{Decides-int_eq}
 use Rattle.zk_txn.specs.declared.txn.Op.TheVariants as ops
 use Rattle.zk_jute.specs.declared.fault.JuteFault.{JuteFault}
-use Rattle.zk_jute.specs.Records.{int, long, ustring, vector, AreElements, IsPathText}
+use Rattle.zk_records.specs.Records.{int, long, ustring, vector, AreElements, IsPathText}
 use Rattle.zk_jute.specs.Reading.{◌>>=◌, number_at, path_at, vector_at}
 use Rattle.zk_jute.proofs.Numbers.{IsBytes, TakesFront, first_read, at_ok, made_takes, either, IsField}
 use Rattle.zk_jute.proofs.Texts.{int_field, path_field}

@@ -9,7 +9,7 @@ use Rattle.std.proofs.lemmas.List.{append-nil, nil_from_length}
 use Rattle.zk_jute.specs.declared.bodies.CreateTxn.{CreateTxn}
 use Rattle.zk_jute.specs.declared.fault.JuteFault.{JuteFault}
 use Rattle.zk_jute.specs.declared.fault.JuteFault.TheVariants as faults
-use Rattle.zk_jute.specs.Records.{int, long, ustring, buffer, acl_vector, IsCreateOld}
+use Rattle.zk_records.specs.Records.{int, long, ustring, buffer, acl_vector, IsCreateOld}
 use Rattle.zk_jute.specs.Reading.{◌>>=◌, number_at, content_at, acl_at, vector_at, whole}
 use Rattle.zk_jute.proofs.Numbers.{IsBytes, TakesFront, TakesFront-then, IsField, first_read, bind_ok, at_ok, whole_ok, took_all, either}
 use Rattle.zk_jute.proofs.Texts.{int_field, long_field, path_field, content_field}

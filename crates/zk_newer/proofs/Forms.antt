@@ -11,7 +11,7 @@ use Rattle.zk_txn.specs.declared.sub.Sub.{Sub}
 use Rattle.zk_txn.specs.declared.sub.Sub.TheVariants as subs
 use Rattle.zk_jute.specs.declared.bodies.CreateTxn.{CreateTxn}
 use Rattle.zk_jute.specs.declared.fault.JuteFault.{JuteFault}
-use Rattle.zk_jute.specs.Records.{long, ustring, vector, kind_of, body_of, IsOp, AreElements, EndsByItself}
+use Rattle.zk_records.specs.Records.{long, ustring, vector, kind_of, body_of, IsOp, AreElements, EndsByItself}
 use Rattle.zk_jute.specs.Reading.{◌>>=◌, number_at, vector_at, check_at, made_of, create_op, set_data_op, op_at}
 use Rattle.zk_jute.proofs.Numbers.{IsBytes, TakesFront, TakesFront-then, first_read, bind_ok, at_ok, made_takes, either}
 use Rattle.zk_jute.proofs.Texts.{long_field, path_field}

@@ -11,7 +11,7 @@ use Rattle.zk_path.proofs.FaultLaw.{fault_of-IsPath}
 use Rattle.zk_txn.specs.declared.sub.Sub.{Sub}
 use Rattle.zk_txn.specs.declared.sub.Sub.TheVariants as subs
 use Rattle.zk_jute.specs.declared.fault.JuteFault.{JuteFault}
-use Rattle.zk_jute.specs.Records.{int, long, ustring, buffer, boolean, acl_entry, acl_vector, IsPathText, IsContent, AreAcls, IsCreateOld, IsSub}
+use Rattle.zk_records.specs.Records.{int, long, ustring, buffer, boolean, acl_entry, acl_vector, IsPathText, IsContent, AreAcls, IsCreateOld, IsSub}
 use Rattle.zk_jute.specs.Reading.{◌>>=◌, number_at, boolean_at, made_of, create_part}
 use Rattle.zk_jute.proofs.Numbers.{IsBytes, TakesFront, TakesFront-then, first_read, made_takes, at_ok, either}
 use Rattle.zk_jute.proofs.Texts.{int_field, long_field, path_field, content_field, boolean_field}

@@ -10,7 +10,7 @@ use Rattle.zk_txn.specs.declared.sub.Sub.{Sub}
 use Rattle.zk_txn.specs.declared.sub.Sub.TheVariants as subs
 use Rattle.zk_jute.specs.declared.bodies.CreateTxn.{CreateTxn}
 use Rattle.zk_jute.specs.declared.fault.JuteFault.{JuteFault}
-use Rattle.zk_jute.specs.Records.{int, long, ustring, vector, IsShort, IsPathText, IsCreateOld, IsSub, AreElements}
+use Rattle.zk_records.specs.Records.{int, long, ustring, vector, IsShort, IsPathText, IsCreateOld, IsSub, AreElements}
 use Rattle.zk_jute.specs.Reading.{◌>>=◌, number_at, counted_at, vector_at, check_at, made_of, whole, create_part, set_data_part}
 use Rattle.zk_jute.proofs.Numbers.{IsBytes, IsBytes-between, TakesFront, TakesFront-then, IsField, first_read, took_all, bind_ok, at_ok, made_takes, whole_ok, either}
 use Rattle.zk_jute.proofs.Texts.{int_field, long_field, counted_field, path_field, count}

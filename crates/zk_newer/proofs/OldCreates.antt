@@ -9,7 +9,7 @@ use Rattle.zk_jute.specs.declared.bodies.CreateTxn.{CreateTxn}
 use Rattle.zk_jute.specs.declared.bodies.CreateTxnV0.{CreateTxnV0}
 use Rattle.zk_jute.specs.declared.fault.JuteFault.{JuteFault}
 use Rattle.zk_jute.specs.declared.fault.JuteFault.TheVariants as faults
-use Rattle.zk_jute.specs.Records.{IsOldCreate}
+use Rattle.zk_records.specs.Records.{IsOldCreate}
 use Rattle.zk_jute.specs.Reading.{◌>>=◌, number_at, path_at, vector_at, acl_at, part_at, check_at, create_at, set_data_at, made_of, create_op, set_data_op, with_count, ended_or_counted, front_at, created_at, set_acl_at, op_at}
 use Rattle.zk_jute.proofs.Numbers.{bind_ok, at_ok, either}
 use Rattle.zk_newer.specs.declared.newer.Form.TheVariants as forms

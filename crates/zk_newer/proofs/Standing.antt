@@ -9,7 +9,7 @@ use Rattle.zk_txn.specs.declared.txn.Op.TheVariants as ops
 use Rattle.zk_txn.specs.declared.sub.Sub.{Sub}
 use Rattle.zk_txn.specs.declared.txn.Txn.{Txn}
 use Rattle.zk_txn.specs.Parts.{is_error}
-use Rattle.zk_jute.specs.Records.{int, vector, part_of, kind_of, body_of, txn_header, record_of, IsPart, IsOp, IsRecordOf}
+use Rattle.zk_records.specs.Records.{int, vector, part_of, kind_of, body_of, txn_header, record_of, IsPart, IsOp, IsRecordOf}
 use Rattle.zk_newer.specs.declared.newer.Form.{Form}
 use Rattle.zk_newer.specs.declared.newer.Form.TheVariants as forms
 use Rattle.zk_newer.specs.declared.newer.Newer.{Newer}

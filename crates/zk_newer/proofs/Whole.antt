@@ -5,7 +5,7 @@ use Rattle.zk_txn.specs.declared.txn.Op.{Op}
 use Rattle.zk_txn.specs.declared.txn.Op.TheVariants as ops
 use Rattle.zk_jute.specs.declared.fault.JuteFault.{JuteFault}
 use Rattle.zk_jute.specs.declared.reading.Header.{Header}
-use Rattle.zk_jute.specs.Records.{int, long, IsOldCreate}
+use Rattle.zk_records.specs.Records.{int, long, IsOldCreate}
 use Rattle.zk_jute.specs.Reading.{◌>>=◌}
 use Rattle.zk_jute.proofs.Numbers.{IsBytes, TakesFront-then, first_read, bind_ok, at_ok}
 use Rattle.zk_jute.proofs.Whole.{header, IsHeader, header_field}

@@ -1,6 +1,6 @@
 -- Laws of newer records.
 use Rattle.std.specs.Prelude.{◌≡◌, ℕ, List, true}
-use Rattle.zk_jute.specs.Records.{record_of, IsRecordOf}
+use Rattle.zk_records.specs.Records.{record_of, IsRecordOf}
 use Rattle.zk_newer.specs.Changes.{is_unchanged}
 use Rattle.zk_newer.specs.Newer.{IsSpelled, IsNewer, own}
 use Rattle.zk_newer.specs.declared.newer.Newer.{Newer}

@@ -4,7 +4,7 @@ use Rattle.std.specs.Prelude.{◌≡◌, ℕ, ℤ, pos, negsuc, List, [], ◌∷
 use Rattle.std.specs.Int.{w32, w64}
 use Rattle.std.specs.List.{list_any}
 use Rattle.zk_acl.specs.declared.acl.Acl.{Acl}
-use Rattle.zk_jute.specs.Records.{int, long, ustring, buffer, vector, acl_vector, part_kind_of, part_body_of, kind_of, body_of, IsPathText, IsShort, AreElements, IsSub, IsOp}
+use Rattle.zk_records.specs.Records.{int, long, ustring, buffer, vector, acl_vector, part_kind_of, part_body_of, kind_of, body_of, IsPathText, IsShort, AreElements, IsSub, IsOp}
 use Rattle.zk_newer.specs.declared.newer.Newer.{Newer}
 use Rattle.zk_newer.specs.declared.newer.Form.{Form}
 use Rattle.zk_newer.specs.declared.newer.Form.TheVariants as forms

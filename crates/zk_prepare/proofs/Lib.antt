@@ -1,2 +1,1 @@
-pub mod Slashless
 pub mod Tails

@@ -1,12 +1,8 @@
--- Timeouts and deadlines of sessions: ZooKeeper Programmer's Guide, "ZooKeeper Sessions". All are milliseconds.
-use Rattle.std.specs.Prelude.{ℕ, ℤ, pos, ◌+ℤ◌, Bool, List, map, filter, int_le}
-use Rattle.std.specs.Int.{w64, cast_unsigned, cast_signed, saturate_signed, int_max, int_min}
+-- Deadlines of sessions: ZooKeeper Programmer's Guide, "ZooKeeper Sessions". All are milliseconds.
+use Rattle.std.specs.Prelude.{ℕ, ℤ, ◌+ℤ◌, Bool, List, map, filter, int_le}
+use Rattle.std.specs.Int.{w64, cast_unsigned, cast_signed, saturate_signed}
 use Rattle.std.specs.Ordering.{nat_cmp}
 use Rattle.std.specs.FinMap.{FinMap, entries, insert, remove}
-
--- a session gets the timeout that it asks for, from 2 to 20 ticks of 2,000 milliseconds
-abbrev pub clamp : ℤ → ℤ
-clamp timeout = int_max (pos 4000) (int_min timeout (pos 40000))
 
 -- Sessions to deadlines. The key is the unsigned number of the session's 64 bits, which its sixteen digits spell.
 abbrev pub DeadlineMap : Type 0

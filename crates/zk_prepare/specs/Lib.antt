@@ -1,4 +1,2 @@
 pub mod Deadlines
-pub mod Refusals
-pub mod Requests
 pub mod Preparing

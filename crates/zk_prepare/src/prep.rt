@@ -4,14 +4,13 @@ ghost use Rattle.zk_table.specs.Histories.{state_after};
 ghost use Rattle.zk_table.specs.States.{State};
 ghost use Rattle.zk_table.specs.Steps.{step};
 ghost use Rattle.zk_prepare.specs.Preparing.{StandsFor};
-ghost use Rattle.zk_prepare.specs.Requests.{meaning_of};
+ghost use Rattle.zk_requests.specs.Requests.{meaning_of};
 
-use crate::call::Call;
-use crate::making::meaning_of;
 use std::alloc::Global;
 use std::marker::Model;
 use zk_machine::Machine;
 use zk_path::NoMemory;
+use zk_requests::{Call, meaning_of};
 use zk_table::Txn;
 
 /// A leader's state for preparing: a committed state and a tail of transactions that are taken and not yet delivered. What

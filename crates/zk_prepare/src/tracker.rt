@@ -2,27 +2,12 @@ ghost use Rattle.std.specs.Prelude.{◌≡◌, ◌<◌, ◌≤◌, length, Match
 ghost use Rattle.std.specs.FinMap as finite;
 ghost use Rattle.std.specs.Ordering.{nat_cmp};
 ghost use Rattle.zk_table.specs.Places.{place_of};
-ghost use Rattle.zk_prepare.specs.Deadlines.{clamp, deadline_of, touched, forgotten, has_come, expired_at};
+ghost use Rattle.zk_prepare.specs.Deadlines.{deadline_of, touched, forgotten, has_come, expired_at};
 
 use std::alloc::Global;
 use std::cmp::Ordering;
 use std::marker::Model;
 use zk_path::NoMemory;
-
-/// The least timeout that a session gets, in milliseconds: two ticks of 2,000.
-const LEAST_TIMEOUT: i32 = 4000;
-
-/// The greatest one: twenty ticks.
-const GREATEST_TIMEOUT: i32 = 40000;
-
-/// The timeout that a session gets that asks for this one, in milliseconds.
-///
-/// ZooKeeper Programmer's Guide, "ZooKeeper Sessions".
-pub fn clamp(timeout: i32) -> i32
-    ensures { result ≡ clamp timeout }
-{
-    timeout.clamp(LEAST_TIMEOUT, GREATEST_TIMEOUT)
-}
 
 /// The deadlines of sessions, in milliseconds: a list in the order of the sessions' sixteen digits.
 ///

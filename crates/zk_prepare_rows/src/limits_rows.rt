@@ -5,10 +5,10 @@ ghost use Rattle.std.specs.Prelude.{◌≡◌, false};
 use crate::asking::{HISTORY, SESSION, leader_after, ops_of, tells};
 use std::alloc::Global;
 use zk_acl::{Ids, Text};
-use zk_jute::size;
 use zk_listing::ListCause;
 use zk_path::NoMemory;
 use zk_prepare::{Call, Prep, Request, Tracker, clamp};
+use zk_records::size;
 use zk_table::{Content, Op, Txn};
 
 /// Appends a line with these sessions.

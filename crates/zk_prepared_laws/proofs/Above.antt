@@ -6,7 +6,7 @@ use Rattle.std.specs.Prelude.{replicate, nat_abs}
 use Rattle.std.specs.Fmt.{digits, digits_onto, digit_glyph, decimal}
 use Rattle.zk_path.specs.Paths.{is_slash, has_slash, before_last_slash, is_root, parent_of}
 use Rattle.zk_path.specs.Sequences.{sign_of, sequence}
-use Rattle.zk_prepare.specs.Requests.{text_above}
+use Rattle.zk_requests.specs.Requests.{text_above}
 
 -- ---- a number has no slash
 

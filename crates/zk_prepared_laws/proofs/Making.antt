@@ -20,11 +20,11 @@ use Rattle.zk_txn.specs.Parts.{is_error}
 use Rattle.zk_table.specs.Multis.{apply_part}
 use Rattle.zk_table.specs.Operations.{done_unless, parent_fault, create_fault, delete_fault, missing_fault}
 use Rattle.zk_table.specs.States.{NodeMap, children_of}
-use Rattle.zk_prepare.specs.declared.call.Part.{Part}
-use Rattle.zk_prepare.specs.declared.call.Part.TheVariants as asked
-use Rattle.zk_prepare.specs.Refusals.{◌>>=◌, demand}
-use Rattle.zk_prepare.specs.Requests.{text_above, is_legible, is_first_path, node_at, are_flags, is_sequential, matches, one_more, is_ephemeral, numbered, is_persistent, place_below, create_below, may_go, next_version, next_aversion, part_on}
-use Rattle.zk_prepare.specs.Requests as requests
+use Rattle.zk_requests.specs.declared.call.Part.{Part}
+use Rattle.zk_requests.specs.declared.call.Part.TheVariants as asked
+use Rattle.zk_requests.specs.Refusals.{◌>>=◌, demand}
+use Rattle.zk_requests.specs.Requests.{text_above, is_legible, is_first_path, node_at, are_flags, is_sequential, matches, one_more, is_ephemeral, numbered, is_persistent, place_below, create_below, may_go, next_version, next_aversion, part_on}
+use Rattle.zk_requests.specs.Requests as requests
 use Rattle.zk_prepared_laws.proofs.Above.{parent_is_above, above_numbered}
 use Rattle.zk_prepared_laws.proofs.Tests.{after_demand, after, after_option, after_path, same_ok}
 

@@ -1,15 +1,15 @@
 -- What a prepared transaction is: an error, or what was asked, of a session that is open.
 use Rattle.std.proofs.Common.{◌≡◌, ◌⊎◌, inl, inr, ℤ, true, ◌||◌, nat_lt, Result, Ok, Err, refl, ap}
 use Rattle.std.proofs.lemmas.Bool.{cases_cond}
-use Rattle.zk_jute.specs.Records.{record_of}
-use Rattle.zk_jute.specs.Sizes.{size_of}
+use Rattle.zk_records.specs.Records.{record_of}
+use Rattle.zk_records.specs.Sizes.{size_of}
 use Rattle.zk_txn.specs.declared.txn.Op.{Op}
 use Rattle.zk_txn.specs.declared.txn.Op.TheVariants as ops
 use Rattle.zk_txn.specs.declared.txn.Txn.{Txn}
 use Rattle.zk_txn.specs.Codes.{bad_arguments, session_expired}
 use Rattle.zk_table.specs.States.{State}
-use Rattle.zk_prepare.specs.declared.call.Call.{Call}
-use Rattle.zk_prepare.specs.Requests.{opens, is_open, header_of, asked_on, op_on, op_or_error, within_limit}
+use Rattle.zk_requests.specs.declared.call.Call.{Call}
+use Rattle.zk_requests.specs.Requests.{opens, is_open, header_of, asked_on, op_on, op_or_error, within_limit}
 use Rattle.zk_prepared_laws.specs.Prepared.{IsPrepared}
 use Rattle.zk_prepared_laws.proofs.Tests.{after_demand}
 

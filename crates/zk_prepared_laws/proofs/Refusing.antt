@@ -15,11 +15,11 @@ use Rattle.zk_txn.specs.Parts.{is_error}
 use Rattle.zk_table.specs.Multis.{answers_of}
 use Rattle.zk_table.specs.States.{State}
 use Rattle.zk_table.specs.Steps.{step}
-use Rattle.zk_prepare.specs.declared.call.Request.{Request}
-use Rattle.zk_prepare.specs.declared.call.Request.TheVariants as requested
-use Rattle.zk_prepare.specs.Refusals.{◌>>=◌, or_refused}
-use Rattle.zk_prepare.specs.Requests.{header_of, op_of, op_on, alone, parts_on, next_aversion}
-use Rattle.zk_prepare.specs.Requests as requests
+use Rattle.zk_requests.specs.declared.call.Request.{Request}
+use Rattle.zk_requests.specs.declared.call.Request.TheVariants as requested
+use Rattle.zk_requests.specs.Refusals.{◌>>=◌, or_refused}
+use Rattle.zk_requests.specs.Requests.{header_of, op_of, op_on, alone, parts_on, next_aversion}
+use Rattle.zk_requests.specs.Requests as requests
 use Rattle.zk_prepared_laws.specs.Consequences.{has_error, IsRefusedOnlyAsError, IsWholeOrNothing}
 use Rattle.zk_prepared_laws.specs.Prepared.{IsPrepared}
 use Rattle.zk_prepared_laws.proofs.Making.{Applies, create_applies, delete_applies, set_data_applies, aversion_there, answers_well}

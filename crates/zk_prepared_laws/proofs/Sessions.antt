@@ -12,9 +12,9 @@ use Rattle.zk_txn.specs.declared.txn.Txn.{Txn}
 use Rattle.zk_table.specs.Histories.{tree_of}
 use Rattle.zk_table.specs.States.{State, SessionMap}
 use Rattle.zk_tree.proofs.Kept.{tied, contains_key-insert, contains_key-remove}
-use Rattle.zk_prepare.specs.declared.call.Request.{Request}
-use Rattle.zk_prepare.specs.declared.call.Request.TheVariants as requested
-use Rattle.zk_prepare.specs.Requests.{opens, is_open, header_of, op_on}
+use Rattle.zk_requests.specs.declared.call.Request.{Request}
+use Rattle.zk_requests.specs.declared.call.Request.TheVariants as requested
+use Rattle.zk_requests.specs.Requests.{opens, is_open, header_of, op_on}
 use Rattle.zk_prepared_laws.specs.Prepared.{IsPrepared, ArePrepared, HaveSessions, is_in_session}
 use Rattle.zk_prepared_laws.proofs.Meanings.{WasAsked, meant}
 use Rattle.zk_prepared_laws.proofs.Tests.{same_ok}

@@ -23,7 +23,7 @@ use Rattle.zk_table.specs.Operations.{create, delete, set_data, set_acl}
 use Rattle.zk_table.specs.States.{NodeMap, State, start_state, path_cmp}
 use Rattle.zk_table.specs.Steps.{step, step_by}
 use Rattle.zk_tree.specs.Trees.{owner_at}
-use Rattle.zk_prepare.specs.Requests.{is_open}
+use Rattle.zk_requests.specs.Requests.{is_open}
 use Rattle.zk_prepare.proofs.Tails.{state_after-append}
 use Rattle.zk_prepared_laws.specs.Consequences.{HasOpenOwners}
 use Rattle.zk_prepared_laws.specs.Prepared.{IsPrepared, ArePrepared, HaveSessions, is_in_session}

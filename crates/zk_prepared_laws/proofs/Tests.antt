@@ -2,8 +2,8 @@
 use Rattle.std.proofs.Common.{◌≡◌, ℕ, ℤ, Bool, true, false, List, Option, Some, None, is_none, cond, Result, Ok, Err, refl}
 use Rattle.zk_path.specs.Paths.{fault_of}
 use Rattle.zk_txn.specs.Codes.{bad_arguments}
-use Rattle.zk_prepare.specs.Refusals.{◌>>=◌, demand, or_refused}
-use Rattle.zk_prepare.specs.Requests.{path_in}
+use Rattle.zk_requests.specs.Refusals.{◌>>=◌, demand, or_refused}
+use Rattle.zk_requests.specs.Requests.{path_in}
 
 pub after_demand : {B : Type 0} (test : Bool) (code : ℤ) (rest : Result B ℤ) (y : B) → (demand test code >>= λ _. rest) ≡ Ok y → (test ≡ true) × (rest ≡ Ok y)
 after_demand true code rest y e = (refl, e)

@@ -16,8 +16,8 @@ use Rattle.zk_table.specs.Multis.{apply_part, nodes_after, answers_of, answers_u
 use Rattle.zk_table.specs.Operations.{Done}
 use Rattle.zk_table.specs.States.{NodeMap, State}
 use Rattle.zk_table.specs.Steps.{step, step_by}
-use Rattle.zk_prepare.specs.declared.call.Part.{Part}
-use Rattle.zk_prepare.specs.Requests.{part_on, part_or_error, next_part, parts_after, parts_on}
+use Rattle.zk_requests.specs.declared.call.Part.{Part}
+use Rattle.zk_requests.specs.Requests.{part_on, part_or_error, next_part, parts_after, parts_on}
 use Rattle.zk_prepared_laws.specs.Consequences.{IsWhole, IsNothing}
 use Rattle.zk_prepared_laws.proofs.Making.{part_applies}
 

@@ -11,7 +11,7 @@ use Rattle.zk_table.specs.Multis.{nodes_after}
 use Rattle.zk_table.specs.States.{State}
 use Rattle.zk_table.specs.Steps.{step}
 use Rattle.zk_tree.specs.Trees.{owner_at}
-use Rattle.zk_prepare.specs.Requests.{is_open}
+use Rattle.zk_requests.specs.Requests.{is_open}
 
 -- ---- refusals by the table
 

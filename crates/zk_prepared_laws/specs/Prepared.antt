@@ -7,8 +7,8 @@ use Rattle.zk_txn.specs.declared.txn.Op.TheVariants.{Create, CreateOld, Delete, 
 use Rattle.zk_txn.specs.declared.txn.Txn.{Txn}
 use Rattle.zk_table.specs.Histories.{tree_of}
 use Rattle.zk_table.specs.States.{State}
-use Rattle.zk_prepare.specs.declared.call.Call.{Call}
-use Rattle.zk_prepare.specs.Requests.{meaning_of}
+use Rattle.zk_requests.specs.declared.call.Call.{Call}
+use Rattle.zk_requests.specs.Requests.{meaning_of}
 
 -- what some call comes to on a state, at some zxid
 pub record IsPrepared (state : State) (txn : Txn) : Type 0 where

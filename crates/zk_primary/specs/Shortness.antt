@@ -5,10 +5,10 @@ use Rattle.std.proofs.lemmas.Bool.Decides.{nat_tests}
 use Rattle.zab_epoch.specs.declared.history.Entry.{Entry}
 use Rattle.zab_epoch.specs.Shortness.{IsShort}
 use Rattle.zab_broadcast.specs.Shortness.{error_is_short}
-use Rattle.zk_jute.specs.Records.{record_of}
-use Rattle.zk_jute.specs.Sizes.{size_of}
-use Rattle.zk_prepare.specs.declared.call.Call.{Call}
-use Rattle.zk_prepare.specs.Requests.{within_limit}
+use Rattle.zk_records.specs.Records.{record_of}
+use Rattle.zk_records.specs.Sizes.{size_of}
+use Rattle.zk_requests.specs.declared.call.Call.{Call}
+use Rattle.zk_requests.specs.Requests.{within_limit}
 use Rattle.zk_primary.specs.Entries.{entry_of}
 use Rattle.zk_txn.specs.Codes.{bad_arguments}
 use Rattle.zk_txn.specs.declared.txn.Op.TheVariants as ops

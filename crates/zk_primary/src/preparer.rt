@@ -1,5 +1,5 @@
 ghost use Rattle.std.specs.Prelude.{refl};
-ghost use Rattle.zk_prepare.specs.Requests.{closing_call};
+ghost use Rattle.zk_requests.specs.Requests.{closing_call};
 ghost use Rattle.zk_primary.specs.Entries.{Prepares, entry_of, entry_zxid};
 ghost use Rattle.zk_primary.specs.Shortness.{entry_is_short};
 

@@ -164,14 +164,27 @@ fn tell(alloc: Global, chronicle: &mut Chronicle) -> Result<Seen, NoMemory> {
     Ok(Seen::Done)
 }
 
-/// The story; and a crash and a restart more, which no refused memory stands in the way of.
-pub(crate) fn add(alloc: Global) -> Result<Seen, NoMemory> {
-    let mut chronicle = Chronicle::new(alloc, SERVERS)?;
-    let seen = tell(alloc, &mut chronicle)?;
+/// A crash and a restart, which no refused memory stands in the way of.
+fn goes_on(alloc: Global, chronicle: &mut Chronicle) -> Result<bool, NoMemory> {
     for more in [Happening::Crash(3), Happening::Restart(3)] {
-        if recorded(&mut chronicle, event_of(alloc, more)?) != Seen::Done {
-            return Ok(Seen::Differs);
+        if recorded(chronicle, event_of(alloc, more)?) != Seen::Done {
+            return Ok(false);
         }
     }
-    Ok(seen)
+    Ok(true)
+}
+
+/// The story; and what goes on behind it.
+fn tell_on(alloc: Global, chronicle: &mut Chronicle) -> Result<Seen, NoMemory> {
+    let seen = tell(alloc, chronicle)?;
+    Ok(if goes_on(alloc, chronicle)? {
+        seen
+    } else {
+        Seen::Differs
+    })
+}
+
+pub(crate) fn add(alloc: Global) -> Result<Seen, NoMemory> {
+    let mut chronicle = Chronicle::new(alloc, SERVERS)?;
+    tell_on(alloc, &mut chronicle)
 }

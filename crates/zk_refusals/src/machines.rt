@@ -7,12 +7,12 @@ ghost use Rattle.zk_machine.specs.Undoing.{IsState, restored};
 use crate::seen::Seen;
 use std::alloc::Global;
 use zk_acl::{Ids, Text};
-use zk_listing::{assemble, push_line};
+use zk_listing::assemble;
 use zk_machine::{Machine, MachineFault, Undo};
 use zk_path::NoMemory;
 use zk_prepare::{Call, Prep, Request};
-use zk_reports::push_tree;
-use zk_table::Txn;
+use zk_table::{Op, Txn};
+use zk_tree::Tree;
 
 /// A session is opened and makes two nodes, one of them its own. It changes the one, deletes the other, and is closed;
 /// and another one is opened.
@@ -48,23 +48,35 @@ fn failed_by(machine: &mut Machine, txn: &Txn) -> Result<Option<bool>, MachineFa
 pub(crate) fn apply(alloc: Global) -> Result<Seen, NoMemory> {
     let txns = txns(alloc)?;
     let mut machine = Machine::new(alloc)?;
-    for txn in &txns {
-        match failed_by(&mut machine, txn) {
-            Ok(None) => {}
-            Ok(Some(holds)) => return Ok(Seen::refused(holds)),
-            Err(_) => return Ok(Seen::Differs),
-        }
-    }
-    Ok(Seen::Done)
+    Ok(apply_each(&mut machine, &txns))
 }
 
-/// The report of a machine's tree.
-fn standing(alloc: Global, machine: &Machine) -> Result<String, NoMemory>
-    requires { machine.now.failed ≡ false }
-{
-    let mut page = String::new(alloc);
-    push_tree(&mut page, machine)?;
-    Ok(page)
+/// Each step, up to the first that is refused memory.
+fn apply_each(machine: &mut Machine, txns: &[Txn]) -> Seen {
+    for txn in txns {
+        match failed_by(machine, txn) {
+            Ok(None) => {}
+            Ok(Some(holds)) => return Seen::refused(holds),
+            Err(_) => return Seen::Differs,
+        }
+    }
+    Seen::Done
+}
+
+/// The nodes of a tree with their paths, as they are shown for debugging.
+pub(crate) fn nodes(alloc: Global, tree: &Tree) -> Result<String, NoMemory> {
+    let entries = tree.entries()?;
+    Ok(format!(in alloc; "{:?}", entries.as_slice())?)
+}
+
+/// What a machine shows: its last transaction, its sessions and its nodes.
+fn standing(alloc: Global, machine: &Machine) -> Result<String, NoMemory> {
+    let (Ok(last), Ok(sessions), Ok(tree)) = (machine.last(), machine.sessions(), machine.tree())
+    else {
+        return Err(NoMemory);
+    };
+    let nodes = nodes(alloc, tree)?;
+    Ok(format!(in alloc; "{last} {sessions:?} {nodes}")?)
 }
 
 /// A step, and the record that takes it back.
@@ -80,42 +92,49 @@ fn record_of(machine: &mut Machine, txn: &Txn) -> Result<Undo, MachineFault>
     Ok(machine.apply(txn)?.undo)
 }
 
-/// A step and its way back. Where memory is refused on that, whether the machine has failed, and says so; else whether it
-/// stands as it did.
-fn there_and_back(alloc: Global, machine: &mut Machine, txn: &Txn) -> Result<Seen, NoMemory>
-    requires { machine.old.failed ≡ false }
-{
-    let stood = standing(alloc, machine)?;
+/// A step and its way back. Where memory is refused on that, whether the machine has failed, and says so.
+fn there_and_back(machine: &mut Machine, txn: &Txn) -> Result<Option<bool>, NoMemory> {
     let Ok(undo) = record_of(machine, txn) else {
         return Err(NoMemory);
     };
-    match machine.undo(undo) {
-        Ok(()) => Ok(Seen::done(standing(alloc, machine)?.as_str() == stood.as_str())),
-        Err(refused) => Ok(Seen::refused(
-            refused.fault == MachineFault::NoMemory
-                && machine.has_failed()
-                && machine.steps() == Err(MachineFault::Failed),
-        )),
+    let Err(refused) = machine.undo(undo) else {
+        return Ok(None);
+    };
+    Ok(Some(
+        refused.fault == MachineFault::NoMemory
+            && machine.has_failed()
+            && machine.steps() == Err(MachineFault::Failed),
+    ))
+}
+
+/// The same, after which a machine that was not refused memory stands as it did; and the step again.
+fn undone(alloc: Global, machine: &mut Machine, txn: &Txn) -> Result<Seen, NoMemory> {
+    let before = standing(alloc, machine)?;
+    if let Some(holds) = there_and_back(machine, txn)? {
+        return Ok(Seen::refused(holds));
+    }
+    let after = standing(alloc, machine)?;
+    match record_of(machine, txn) {
+        Ok(_) => Ok(Seen::done(after.as_str() == before.as_str())),
+        Err(_) => Err(NoMemory),
     }
 }
 
-/// The last of the steps, there and back.
-pub(crate) fn undo(alloc: Global) -> Result<Seen, NoMemory> {
-    let txns = txns(alloc)?;
-    let mut machine = Machine::new(alloc)?;
-    for txn in &txns {
-        if machine.has_failed() {
-            return Err(NoMemory);
-        }
-        let seen = there_and_back(alloc, &mut machine, txn)?;
+/// Each step there and back.
+fn undo_each(alloc: Global, machine: &mut Machine, txns: &[Txn]) -> Result<Seen, NoMemory> {
+    for txn in txns {
+        let seen = undone(alloc, machine, txn)?;
         if seen != Seen::Done {
             return Ok(seen);
         }
-        if record_of(&mut machine, txn).is_err() {
-            return Err(NoMemory);
-        }
     }
     Ok(Seen::Done)
+}
+
+pub(crate) fn undo(alloc: Global) -> Result<Seen, NoMemory> {
+    let txns = txns(alloc)?;
+    let mut machine = Machine::new(alloc)?;
+    undo_each(alloc, &mut machine, &txns)
 }
 
 /// A leader in the state that the listing leads to.
@@ -141,43 +160,55 @@ fn call(alloc: Global) -> Result<Call, NoMemory> {
     })
 }
 
-/// What the call is.
-const MADE: &str = "0000000000000010 0000000000000008 6 6000 delete \"/a\"\n";
+/// Whether a transaction is what the call is prepared to.
+fn is_made(txn: &Txn) -> bool {
+    let Op::Delete { path } = &txn.op else {
+        return false;
+    };
+    (txn.zxid, txn.session, txn.cxid, txn.time) == (16, 8, 6, 6000) && path.text() == "/a"
+}
 
-/// What a leader makes of a call, and makes of it again where it was refused memory.
-fn made(alloc: Global, prep: &Prep, call: &Call) -> Result<Seen, NoMemory>
+/// Whether a leader makes of the call what it is.
+fn makes(prep: &Prep, call: &Call) -> Result<bool, NoMemory>
     requires { prep.now.failed ≡ false }
 {
-    let (txn, was_refused) = match prep.make(call, 16) {
-        Ok(txn) => (txn, false),
-        Err(NoMemory) => (prep.make(call, 16)?, true),
-    };
-    let mut line = String::new(alloc);
-    push_line(&mut line, &txn)?;
-    let holds = line.as_str() == MADE && !prep.has_failed();
-    Ok(if was_refused {
-        Seen::refused(holds)
-    } else {
-        Seen::done(holds)
-    })
+    let txn = prep.make(call, 16)?;
+    Ok(is_made(&txn) && !prep.has_failed())
+}
+
+/// What a leader makes of a call, and makes of it again where it was refused memory.
+fn made(prep: &Prep, call: &Call) -> Result<Seen, NoMemory>
+    requires { prep.now.failed ≡ false }
+{
+    match makes(prep, call) {
+        Ok(holds) => Ok(Seen::done(holds)),
+        Err(NoMemory) => Ok(Seen::refused(makes(prep, call)?)),
+    }
 }
 
 pub(crate) fn make(alloc: Global) -> Result<Seen, NoMemory> {
-    let prep = leader(alloc, &txns(alloc)?)?;
-    made(alloc, &prep, &call(alloc)?)
+    let call = call(alloc)?;
+    let txns = txns(alloc)?;
+    let prep = leader(alloc, &txns)?;
+    made(&prep, &call)
 }
 
 /// A leader that goes on with each transaction.
 pub(crate) fn taken(alloc: Global) -> Result<Seen, NoMemory> {
     let txns = txns(alloc)?;
     let mut prep = leader(alloc, &[])?;
-    for txn in &txns {
+    Ok(take_each(&mut prep, &txns))
+}
+
+/// Each transaction, up to the first that is refused memory.
+fn take_each(prep: &mut Prep, txns: &[Txn]) -> Seen {
+    for txn in txns {
         if prep.has_failed() {
-            return Ok(Seen::Differs);
+            return Seen::Differs;
         }
         if prep.taken(txn).is_err() {
-            return Ok(Seen::refused(prep.has_failed()));
+            return Seen::refused(prep.has_failed());
         }
     }
-    Ok(Seen::Done)
+    Seen::Done
 }

@@ -74,6 +74,30 @@ fn closes_then<L: Ledger, R: Wait>(rt: &R, alloc: Global, it: Unclosed<L>) -> Se
     Seen::refused(fault == CloseFault::NoMemory && closed.is_ok())
 }
 
+/// What is left of a run, whether memory was refused in it or not.
+fn ended<L: Ledger, R: Wait>(
+    rt: &R,
+    alloc: Global,
+    shared: Shared<L>,
+    ran: Result<Run<L>, NoMemory>,
+) -> Seen {
+    let Ok(
+        Run {
+            seats,
+            receipts,
+            passed,
+        },
+    ) = ran
+    else {
+        return Seen::Refused;
+    };
+    let is_short = passed.iter().any(|count| *count > 0);
+    match closes(rt, alloc, shared, seats, receipts) {
+        Seen::Done if is_short => Seen::Refused,
+        seen => seen,
+    }
+}
+
 /// Two servers in threads, for one turn each.
 fn run<L: Ledger + Send + Sync, R: Threads + Wait + Sync>(
     rt: &R,
@@ -91,19 +115,8 @@ fn run<L: Ledger + Send + Sync, R: Threads + Wait + Sync>(
         seats,
         readers: _,
     } = Shared::<L>::start(rt, alloc, blank, 2, 2, 1)?;
-    let Ok(run) = run_servers(rt, alloc, &shared, &Open, post, seats, jobs, 1) else {
-        return Ok(Seen::Refused);
-    };
-    let Run {
-        seats,
-        receipts,
-        passed,
-    } = run;
-    let is_short = passed.iter().any(|count| *count > 0);
-    match closes(rt, alloc, shared, seats, receipts) {
-        Seen::Done if is_short => Ok(Seen::Refused),
-        seen => Ok(seen),
-    }
+    let ran = run_servers(rt, alloc, &shared, &Open, post, seats, jobs, 1);
+    Ok(ended(rt, alloc, shared, ran))
 }
 
 /// The ledger is picked here.

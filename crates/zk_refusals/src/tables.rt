@@ -6,14 +6,14 @@ ghost use Rattle.std.specs.Option.{ForSome};
 ghost use Rattle.zk_path.specs.Paths.{parent_of};
 ghost use Rattle.zk_tree.specs.Trees.{owner_at};
 
-use crate::machines::txns;
+use crate::machines::{nodes, txns};
 use crate::seen::Seen;
 use std::alloc::Global;
-use zk_jute::size;
 use zk_log::{Journal, NotPushed};
 use zk_machine::{Change, ChangeKind};
 use zk_path::{NoMemory, Path};
 use zk_prepare::Tracker;
+use zk_records::size;
 use zk_table::{Node, Txn};
 use zk_tree::{Refused, Tree};
 use zk_watch::{Fired, WatchKind, Watches};
@@ -124,14 +124,9 @@ fn can_put(tree: &Tree, path: &Path) -> bool
     above.owner == 0 && tree.get(path).is_none()
 }
 
-/// The paths of a tree, as they are shown for debugging.
-fn paths(alloc: Global, tree: &Tree) -> Result<String, NoMemory> {
-    Ok(format!(in alloc; "{:?}", tree.paths()?.as_slice())?)
-}
-
 /// A node is put at a path. Where memory is refused, whether the tree is as it was, and both come back.
 fn is_put(alloc: Global, tree: &mut Tree, text: &str) -> Result<Option<bool>, NoMemory> {
-    let before = paths(alloc, tree)?;
+    let before = nodes(alloc, tree)?;
     let path = path_of(alloc, text)?;
     let node = Node::first(alloc)?;
     if !can_put(tree, &path) {
@@ -142,44 +137,53 @@ fn is_put(alloc: Global, tree: &mut Tree, text: &str) -> Result<Option<bool>, No
         Err(Refused { path, node }) => Ok(Some(
             path.text() == text
                 && node.owner == 0
-                && paths(alloc, tree)?.as_str() == before.as_str(),
+                && nodes(alloc, tree)?.as_str() == before.as_str(),
         )),
     }
 }
 
-pub(crate) fn put(alloc: Global) -> Result<Seen, NoMemory> {
-    let mut tree = Tree::new(alloc)?;
+/// Nodes are put into a tree, up to the first that is refused memory.
+fn put_each(alloc: Global, tree: &mut Tree) -> Result<Seen, NoMemory> {
     for text in &["/a", "/b", "/a/b", "/a/c", "/c", "/d"] {
-        if let Some(holds) = is_put(alloc, &mut tree, text)? {
+        if let Some(holds) = is_put(alloc, tree, text)? {
             return Ok(Seen::refused(holds));
         }
     }
     Ok(Seen::Done)
 }
 
+pub(crate) fn put(alloc: Global) -> Result<Seen, NoMemory> {
+    let mut tree = Tree::new(alloc)?;
+    put_each(alloc, &mut tree)
+}
+
 // ---- a journal
 
-/// A transaction is appended. Where memory is refused, whether the journal is as it was, and the transaction comes back.
-fn is_pushed(alloc: Global, journal: &mut Journal, txn: Txn) -> Result<Option<bool>, NoMemory> {
-    let before = Vec::from_slice(alloc, journal.bytes())?;
-    let (count, zxid) = (journal.txns().len(), txn.zxid);
-    if zxid <= journal.last_zxid() || size(&txn) > 16_777_216 {
-        return Ok(Some(false));
+/// Appends a transaction; `None` where it may not be appended.
+fn append(journal: &mut Journal, txn: Txn) -> Option<Result<(), NotPushed>> {
+    if txn.zxid <= journal.last_zxid() || size(&txn) > 16_777_216 {
+        return None;
     }
-    match journal.push(txn) {
-        Ok(()) => Ok(None),
-        Err(NotPushed { txn }) => Ok(Some(
-            txn.zxid == zxid
-                && journal.txns().len() == count
-                && journal.bytes() == before.as_slice(),
-        )),
+    Some(journal.push(txn))
+}
+
+/// A transaction is appended. Where memory is refused, whether the journal is as it was, and the transaction comes back.
+fn is_pushed(journal: &mut Journal, txn: Txn, before: &[u8]) -> Option<bool> {
+    let (count, zxid) = (journal.txns().len(), txn.zxid);
+    match append(journal, txn) {
+        None => Some(false),
+        Some(Ok(())) => None,
+        Some(Err(NotPushed { txn })) => Some(
+            txn.zxid == zxid && journal.txns().len() == count && journal.bytes() == before,
+        ),
     }
 }
 
 pub(crate) fn push(alloc: Global) -> Result<Seen, NoMemory> {
     let mut journal = Journal::new(alloc);
     for txn in txns(alloc)? {
-        if let Some(holds) = is_pushed(alloc, &mut journal, txn)? {
+        let before = Vec::from_slice(alloc, journal.bytes())?;
+        if let Some(holds) = is_pushed(&mut journal, txn, before.as_slice()) {
             return Ok(Seen::refused(holds));
         }
     }

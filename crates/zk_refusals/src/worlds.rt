@@ -122,20 +122,32 @@ fn push_server(text: &mut String, world: &Small, server: usize) -> Result<(), No
     Ok(())
 }
 
+/// Whether two worlds show the same.
+fn show_the_same(alloc: Global, one: &Small, other: &Small) -> Result<bool, NoMemory> {
+    let shown_by_one = shown(alloc, one)?;
+    let shown_by_other = shown(alloc, other)?;
+    Ok(shown_by_one.as_str() == shown_by_other.as_str())
+}
+
 /// Whether a world shows what the run of these events leads to.
 fn is_led_to(alloc: Global, world: &Small, counts: Vec<Event<EchoCall>>) -> Result<bool, NoMemory> {
     let (replayed, _) = world.replay(counts)?;
-    Ok(shown(alloc, world)?.as_str() == shown(alloc, &replayed)?.as_str())
+    show_the_same(alloc, world, &replayed)
 }
 
-pub(crate) fn step(alloc: Global) -> Result<Seen, NoMemory> {
-    let mut world = Small::new(alloc, SERVERS)?;
+/// The story, and whether the world then stands where it leads.
+fn walk_and_look(alloc: Global, world: &mut Small) -> Result<Seen, NoMemory> {
     let mut counts = Vec::new(alloc);
-    let was_refused = walk(&mut world, &mut counts)?;
-    let holds = is_led_to(alloc, &world, counts)?;
+    let was_refused = walk(world, &mut counts)?;
+    let holds = is_led_to(alloc, world, counts)?;
     Ok(if was_refused {
         Seen::refused(holds)
     } else {
         Seen::done(holds)
     })
+}
+
+pub(crate) fn step(alloc: Global) -> Result<Seen, NoMemory> {
+    let mut world = Small::new(alloc, SERVERS)?;
+    walk_and_look(alloc, &mut world)
 }

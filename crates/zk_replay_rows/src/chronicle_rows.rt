@@ -1,22 +1,10 @@
 //! What a chronicle records, and the receipts that it gives.
 
-use crate::events::{FIRST, Happening, answer_line, event_of};
+use crate::events::{FIRST, Happening, event_of, is_told};
 use std::alloc::Global;
-use std::test::Fail;
-use zk_path::NoMemory;
-use zk_servers::{CallFault, Chronicle, Receipt, Record};
-
-/// A receipt's number, its answer, and its last transaction.
-fn receipt_line(alloc: Global, receipt: &Receipt) -> Result<String, NoMemory> {
-    let answer = answer_line(alloc, &receipt.answer)?;
-    Ok(format!(in alloc; "{} {answer} {:016x}", receipt.number, receipt.zxid)?)
-}
-
-/// The same of a record.
-fn record_line(alloc: Global, number: usize, it: &Record) -> Result<String, NoMemory> {
-    let answer = answer_line(alloc, &it.answer)?;
-    Ok(format!(in alloc; "{number} {answer} {:016x}", it.zxid)?)
-}
+use zk_chronicle::Chronicle;
+use zk_receipts::CallFault;
+use zk_runs::Event;
 
 /// A session is opened by two of three servers, and then events are refused, reads are told, and a server goes down. Each with
 /// its number, its answer and the last transaction of its server.
@@ -46,86 +34,80 @@ static HAPPENINGS: [(Happening, &str); 20] = [
 ];
 
 /// Whether an event's receipt is this.
-fn is_added(
-    alloc: Global,
-    chronicle: &mut Chronicle,
-    happening: Happening,
-    expected: &str,
-) -> Result<bool, Fail> {
-    let receipt = chronicle.add(event_of(alloc, happening)?)?;
-    let line = receipt_line(alloc, &receipt);
-    drop(receipt);
-    Ok(line?.as_str() == expected)
+fn is_added(alloc: Global, chronicle: &mut Chronicle, event: Event, expected: &str) -> bool {
+    match chronicle.add(event) {
+        Ok(it) => is_told(alloc, it.number as usize, &it.answer, it.zxid, expected),
+        Err(_) => false,
+    }
+}
+
+/// The same of what happens.
+fn happens(alloc: Global, chronicle: &mut Chronicle, it: Happening, expected: &str) -> bool {
+    match event_of(alloc, it) {
+        Some(event) => is_added(alloc, chronicle, event, expected),
+        None => false,
+    }
 }
 
 /// The place of an event whose receipt differs, from 0 on; none where all are as they are to be.
-fn add_all(alloc: Global, chronicle: &mut Chronicle) -> Result<Option<usize>, Fail> {
+fn add_all(alloc: Global, chronicle: &mut Chronicle) -> Option<usize> {
     for (place, (happening, expected)) in HAPPENINGS.iter().enumerate() {
-        if !is_added(alloc, chronicle, *happening, expected)? {
-            return Ok(Some(place));
+        if !happens(alloc, chronicle, *happening, expected) {
+            return Some(place);
         }
     }
-    Ok(None)
+    None
 }
 
-/// Whether a record is this.
-fn is_recorded(
-    alloc: Global,
-    number: usize,
-    record: &Record,
-    expected: &str,
-) -> Result<bool, NoMemory> {
-    Ok(record_line(alloc, number, record)?.as_str() == expected)
+/// Whether the record at a place, from 0 on, is this.
+fn is_recorded(alloc: Global, chronicle: &Chronicle, place: usize, expected: &str) -> bool {
+    match chronicle.records().get(place) {
+        Some(it) => is_told(alloc, place + 1, &it.answer, it.zxid, expected),
+        None => false,
+    }
 }
 
 /// The place of a record that differs, or is missing.
-fn records_differ(alloc: Global, chronicle: &Chronicle) -> Result<Option<usize>, NoMemory> {
+fn records_differ(alloc: Global, chronicle: &Chronicle) -> Option<usize> {
     for (place, (_, expected)) in HAPPENINGS.iter().enumerate() {
-        let Some(it) = chronicle.records().get(place) else {
-            return Ok(Some(place));
-        };
-        if !is_recorded(alloc, place + 1, it, expected)? {
-            return Ok(Some(place));
+        if !is_recorded(alloc, chronicle, place, expected) {
+            return Some(place);
         }
     }
-    Ok(None)
+    None
 }
 
 /// Whether each event has its receipt and its record, and the servers have delivered what they should.
-fn are_recorded(alloc: Global, chronicle: &mut Chronicle) -> Result<bool, Fail> {
-    Ok(
-        add_all(alloc, chronicle)?.is_none()
-            && records_differ(alloc, chronicle)?.is_none()
-            && chronicle.records().len() == 20
-            // the second server lost what it had delivered, the third never had any
-            && chronicle.delivered(1).len() == 1
-            && chronicle.delivered(2).len() == 0
-            && chronicle.delivered(3).len() == 0,
-    )
+fn are_recorded(alloc: Global, chronicle: &mut Chronicle) -> bool {
+    add_all(alloc, chronicle).is_none()
+        && records_differ(alloc, chronicle).is_none()
+        && chronicle.records().len() == 20
+        // the second server lost what it had delivered, the third never had any
+        && chronicle.delivered(1).len() == 1
+        && chronicle.delivered(2).len() == 0
+        && chronicle.delivered(3).len() == 0
 }
 
 /// The same of a new chronicle of three servers.
-fn are_recorded_from_the_start(alloc: Global) -> Result<bool, Fail> {
-    let mut chronicle = Chronicle::new(alloc, 3)?;
-    let are_recorded = are_recorded(alloc, &mut chronicle);
-    drop(chronicle);
-    are_recorded
+fn are_recorded_from_the_start(alloc: Global) -> bool {
+    match Chronicle::new(alloc, 3) {
+        Ok(mut chronicle) => are_recorded(alloc, &mut chronicle),
+        Err(_) => false,
+    }
 }
 
 #[test]
-fn each_event_is_recorded_with_its_answer(rt: HostRuntime) -> Result<(), Fail> {
-    assert!(rt; are_recorded_from_the_start(rt.alloc())?);
-    Ok(())
+fn each_event_is_recorded_with_its_answer(rt: HostRuntime) {
+    assert!(rt; are_recorded_from_the_start(rt.alloc()));
 }
 
-/// The two refusals that no test leads to.
-fn spelled(alloc: Global) -> Result<String, NoMemory> {
+/// Whether the two refusals that no test leads to have their numbers.
+fn are_numbered(alloc: Global) -> bool {
     let (memory, full) = (CallFault::NoMemory, CallFault::Full);
-    Ok(format!(in alloc; "{memory} {full}")?)
+    matches!(format!(in alloc; "{memory} {full}"), Ok(text) if text.as_str() == "S1 S2")
 }
 
 #[test]
-fn refusals_have_numbers(rt: HostRuntime) -> Result<(), Fail> {
-    assert!(rt; spelled(rt.alloc())?.as_str() == "S1 S2");
-    Ok(())
+fn refusals_have_numbers(rt: HostRuntime) {
+    assert!(rt; are_numbered(rt.alloc()));
 }

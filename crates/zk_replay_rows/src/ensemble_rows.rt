@@ -1,10 +1,9 @@
 //! Which server an event is about, where that server stands, and what a read would be told.
 
-use crate::events::{FIRST, Happening, answer_line, event_of, question};
+use crate::events::{FIRST, Happening, event_of, is_told, question};
 use std::alloc::Global;
-use std::test::Fail;
-use zk_path::NoMemory;
-use zk_servers::{Ensemble, Event};
+use zk_chronicle::Ensemble;
+use zk_runs::{Event, Question};
 
 /// A session is opened by two of three servers. Each event with the server that it is about, and with that server's last
 /// transaction after it.
@@ -33,56 +32,68 @@ fn is_about(ensemble: &mut Ensemble, event: Event, server: usize, last: i64) -> 
     about == server && ensemble.last(server) == last
 }
 
+/// The same of what happens.
+fn happens(alloc: Global, ensemble: &mut Ensemble, it: (Happening, usize, i64)) -> bool {
+    let (happening, server, last) = it;
+    match event_of(alloc, happening) {
+        Some(event) => is_about(ensemble, event, server, last),
+        None => false,
+    }
+}
+
 /// The place of an event that is about another server; none where all are as they are to be.
-fn walk(alloc: Global, ensemble: &mut Ensemble) -> Result<Option<usize>, Fail> {
-    for (place, (happening, server, last)) in ABOUT.iter().enumerate() {
-        let event = event_of(alloc, *happening)?;
-        if !is_about(ensemble, event, *server, *last) {
-            return Ok(Some(place));
+fn walk(alloc: Global, ensemble: &mut Ensemble) -> Option<usize> {
+    for (place, it) in ABOUT.iter().enumerate() {
+        if !happens(alloc, ensemble, *it) {
+            return Some(place);
         }
     }
-    Ok(None)
+    None
 }
 
-/// Whether the first session, which has seen its own opening, would be told this by a server.
-fn is_peeked(
-    alloc: Global,
-    ensemble: &Ensemble,
-    server: usize,
-    expected: &str,
-) -> Result<bool, Fail> {
-    let question = question(alloc, server, FIRST)?;
-    let answer = ensemble.peek(&question);
-    drop(question);
-    let line = answer_line(alloc, &answer);
-    drop(answer);
-    Ok(line?.as_str() == expected)
+/// What the first session, which has seen its own opening, would be told by each server, and by one that there is not: behind
+/// the server's number, and before no transaction.
+static PEEKED: [(usize, &str); 3] = [
+    (2, "2 told 0000000000000000"),
+    (3, "3 E1 0000000000000000"),
+    (4, "4 E2 0000000000000000"),
+];
+
+/// Whether a question would be answered so.
+fn is_answered(alloc: Global, ensemble: &Ensemble, question: &Question, expected: &str) -> bool {
+    let answer = ensemble.peek(question);
+    is_told(alloc, question.server, &answer, 0, expected)
 }
 
-/// What the first session would be told by each server, and by one that there is not.
-fn all_peeked(alloc: Global, ensemble: &Ensemble) -> Result<bool, Fail> {
-    Ok(
-        is_peeked(alloc, ensemble, 2, "told")?
-            && is_peeked(alloc, ensemble, 3, "E1")?
-            && is_peeked(alloc, ensemble, 4, "E2")?,
-    )
+/// Whether the session would be told this by a server.
+fn is_peeked(alloc: Global, ensemble: &Ensemble, server: usize, expected: &str) -> bool {
+    match question(alloc, server, FIRST) {
+        Some(question) => is_answered(alloc, ensemble, &question, expected),
+        None => false,
+    }
 }
 
-/// Whether all is as it is to be, first the events and then the reads.
-fn all_hold(alloc: Global, ensemble: &mut Ensemble) -> Result<bool, Fail> {
-    Ok(walk(alloc, ensemble)?.is_none() && all_peeked(alloc, ensemble)?)
+/// The first server that would tell the session something else.
+fn first_wrong(alloc: Global, ensemble: &Ensemble) -> Option<usize> {
+    for (server, expected) in &PEEKED {
+        if !is_peeked(alloc, ensemble, *server, expected) {
+            return Some(*server);
+        }
+    }
+    None
 }
 
-/// The same of a new ensemble of three servers.
-fn all_hold_from_the_start(alloc: Global) -> Result<bool, Fail> {
-    let mut ensemble = Ensemble::new(alloc, 3)?;
-    let all_hold = all_hold(alloc, &mut ensemble);
-    drop(ensemble);
-    all_hold
+/// Whether all is as it is to be of a new ensemble of three servers, first the events and then the reads.
+fn all_hold_from_the_start(alloc: Global) -> bool {
+    match Ensemble::new(alloc, 3) {
+        Ok(mut ensemble) => {
+            walk(alloc, &mut ensemble).is_none() && first_wrong(alloc, &ensemble).is_none()
+        }
+        Err(_) => false,
+    }
 }
 
 #[test]
-fn events_are_about_servers(rt: HostRuntime) -> Result<(), Fail> {
-    assert!(rt; all_hold_from_the_start(rt.alloc())?);
-    Ok(())
+fn events_are_about_servers(rt: HostRuntime) {
+    assert!(rt; all_hold_from_the_start(rt.alloc()));
 }

@@ -1,10 +1,9 @@
 //! Events, of plain values, and what they are answered.
 
 use std::alloc::Global;
-use std::test::Fail;
 use zk_acl::Ids;
 use zk_path::{NoMemory, Path};
-use zk_prepare::{Call, Request};
+use zk_requests::{Call, Request};
 use zk_runs::{Answer, EnsembleFault, Event, Question};
 use zk_table::ReadCall;
 
@@ -37,9 +36,9 @@ fn open_call(alloc: Global) -> Call {
 }
 
 /// The first session asks a server for the root.
-pub fn question(alloc: Global, server: usize, seen: i64) -> Result<Question, Fail> {
-    let path = Path::read(alloc, "/")?;
-    Ok(Question {
+pub fn question(alloc: Global, server: usize, seen: i64) -> Option<Question> {
+    let path = Path::read(alloc, "/").ok()?;
+    Some(Question {
         server,
         session: FIRST,
         seen,
@@ -57,27 +56,46 @@ fn open_event(alloc: Global, server: usize) -> Event {
     })
 }
 
-pub fn event_of(alloc: Global, happening: Happening) -> Result<Event, Fail> {
+pub fn event_of(alloc: Global, happening: Happening) -> Option<Event> {
     match happening {
-        Happening::Lead(server) => Ok(Event::World(zab_runs::Event::Lead { server })),
+        Happening::Lead(server) => Some(Event::World(zab_runs::Event::Lead { server })),
         Happening::Follow(server, leader) => {
-            Ok(Event::World(zab_runs::Event::Follow { server, leader }))
+            Some(Event::World(zab_runs::Event::Follow { server, leader }))
         }
-        Happening::Arrive(message) => Ok(Event::World(zab_runs::Event::Arrive { message })),
-        Happening::Crash(server) => Ok(Event::World(zab_runs::Event::Crash { server })),
-        Happening::Open(server) => Ok(open_event(alloc, server)),
-        Happening::Stat(server, seen) => Ok(Event::Read(question(alloc, server, seen)?)),
+        Happening::Arrive(message) => Some(Event::World(zab_runs::Event::Arrive { message })),
+        Happening::Crash(server) => Some(Event::World(zab_runs::Event::Crash { server })),
+        Happening::Open(server) => Some(open_event(alloc, server)),
+        Happening::Stat(server, seen) => Some(Event::Read(question(alloc, server, seen)?)),
     }
 }
 
-/// An answer: how many messages were sent and the first one's number, that a read was told something, or a refusal's number.
-pub fn answer_line(
+/// A line of a number, an answer and a last transaction. Of an answer: how many messages were sent and the first one's number,
+/// that a read was told something, or a refusal's number.
+fn line_of(
     alloc: Global,
+    number: usize,
     answer: &Result<Answer, EnsembleFault>,
+    zxid: i64,
 ) -> Result<String, NoMemory> {
-    match answer {
-        Ok(Answer::Moved(moved)) => Ok(format!(in alloc; "{} from {}", moved.count, moved.first)?),
-        Ok(Answer::Looked(_)) => Ok(String::from_str(alloc, "told")?),
-        Err(fault) => Ok(format!(in alloc; "{fault}")?),
+    Ok(match answer {
+        Ok(Answer::Moved(it)) => {
+            format!(in alloc; "{number} {} from {} {zxid:016x}", it.count, it.first)?
+        }
+        Ok(Answer::Looked(_)) => format!(in alloc; "{number} told {zxid:016x}")?,
+        Err(fault) => format!(in alloc; "{number} {fault} {zxid:016x}")?,
+    })
+}
+
+/// Whether the line is this.
+pub fn is_told(
+    alloc: Global,
+    number: usize,
+    answer: &Result<Answer, EnsembleFault>,
+    zxid: i64,
+    expected: &str,
+) -> bool {
+    match line_of(alloc, number, answer, zxid) {
+        Ok(line) => line.as_str() == expected,
+        Err(_) => false,
     }
 }

@@ -11,8 +11,8 @@ use Rattle.zk_listing.specs.Reading.{IsEnd, front_of, back_of, behind, both, spa
 use Rattle.zk_listing.proofs.Exact.{bind_some, first_is, second_is}
 use Rattle.zk_listing.proofs.InsideQuotes.{Fails-then}
 use Rattle.zk_listing.proofs.QuotedLaws.{behind_is}
-use Rattle.zk_prepare.specs.declared.call.Part.{Part}
-use Rattle.zk_prepare.specs.declared.call.Part.TheVariants as asked
+use Rattle.zk_requests.specs.declared.call.Part.{Part}
+use Rattle.zk_requests.specs.declared.call.Part.TheVariants as asked
 use Rattle.zk_spelling.specs.Spelling.{escaped, quoted, acl_text}
 use Rattle.zk_request_lines.specs.declared.fields.Created.{Created}
 use Rattle.zk_request_lines.specs.declared.fields.Named.{Named}

@@ -7,9 +7,9 @@ use Rattle.std.specs.List.{AllByRecursion}
 use Rattle.zk_acl.specs.declared.acl.Acl.{Acl}
 use Rattle.zk_listing.specs.Reading.{front_of, back_of, both, spaced, mapped}
 use Rattle.zk_listing.proofs.Exact.{bind_some, first_is, second_is}
-use Rattle.zk_prepare.specs.declared.call.Part.{Part}
-use Rattle.zk_prepare.specs.declared.call.Request.{Request}
-use Rattle.zk_prepare.specs.declared.call.Request.TheVariants as requests
+use Rattle.zk_requests.specs.declared.call.Part.{Part}
+use Rattle.zk_requests.specs.declared.call.Request.{Request}
+use Rattle.zk_requests.specs.declared.call.Request.TheVariants as requests
 use Rattle.zk_spelling.specs.Spelling.{quoted, acl_text}
 use Rattle.zk_request_lines.specs.declared.fields.Created.{Created}
 use Rattle.zk_request_lines.specs.declared.fields.Written.{Written}

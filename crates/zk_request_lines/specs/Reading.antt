@@ -11,10 +11,10 @@ use Rattle.zk_listing.specs.declared.fault.ListCause.{ListCause}
 use Rattle.zk_listing.specs.declared.fault.ListCause.TheVariants as causes
 use Rattle.zk_listing.specs.Reading.{◌>>=◌, is_end, front_of, back_of, of_field, past, spaced, both, mapped, behind, many_at, id_at, int_at, quoted_at, content_at, acl_at, Fails}
 use Rattle.zk_path.specs.Paths.{fault_of}
-use Rattle.zk_prepare.specs.declared.call.Part.{Part}
-use Rattle.zk_prepare.specs.declared.call.Part.TheVariants as asked
-use Rattle.zk_prepare.specs.declared.call.Request.{Request}
-use Rattle.zk_prepare.specs.declared.call.Request.TheVariants as requests
+use Rattle.zk_requests.specs.declared.call.Part.{Part}
+use Rattle.zk_requests.specs.declared.call.Part.TheVariants as asked
+use Rattle.zk_requests.specs.declared.call.Request.{Request}
+use Rattle.zk_requests.specs.declared.call.Request.TheVariants as requests
 use Rattle.zk_request_lines.specs.declared.fields.Created.{Created}
 use Rattle.zk_request_lines.specs.declared.fields.Named.{Named}
 use Rattle.zk_request_lines.specs.declared.fields.Written.{Written}

@@ -8,10 +8,10 @@ use Rattle.std.specs.Str.{IsUtf8}
 use Rattle.zk_acl.specs.declared.acl.Acl.{Acl}
 use Rattle.zk_acl.specs.declared.acl.Id.{Id}
 use Rattle.zk_path.specs.Paths.{IsPath}
-use Rattle.zk_prepare.specs.declared.call.Part.{Part}
-use Rattle.zk_prepare.specs.declared.call.Part.TheVariants as parts
-use Rattle.zk_prepare.specs.declared.call.Request.{Request}
-use Rattle.zk_prepare.specs.declared.call.Request.TheVariants as requests
+use Rattle.zk_requests.specs.declared.call.Part.{Part}
+use Rattle.zk_requests.specs.declared.call.Part.TheVariants as parts
+use Rattle.zk_requests.specs.declared.call.Request.{Request}
+use Rattle.zk_requests.specs.declared.call.Request.TheVariants as requests
 use Rattle.zk_request_lines.specs.declared.lookups.Lookup.{Lookup}
 use Rattle.zk_request_lines.specs.declared.lookups.Lookup.TheVariants as lookups
 use Rattle.zk_spelling.specs.Listings.{IsListedContent, AreListedAcls}

@@ -10,7 +10,7 @@ use crate::spaced::{spaced_acl, spaced_content, spaced_int, spaced_text};
 use crate::words::{flag, take_space, take_word};
 use std::alloc::Global;
 use zk_listing::ListCause;
-use zk_prepare::{Part, Parts};
+use zk_requests::{Part, Parts};
 
 /// The part of a multi that a line says, without its newline: `create [-s] [-e] PATH CONTENT ACL`, `delete PATH VERSION`,
 /// `set PATH CONTENT VERSION` or `check PATH VERSION`.

@@ -13,7 +13,7 @@ use crate::words::take_space;
 use std::alloc::Global;
 use zk_acl::Ids;
 use zk_listing::ListCause;
-use zk_prepare::Request;
+use zk_requests::Request;
 
 /// Takes the number of a transaction or a session: sixteen lower-case hexadecimal digits.
 pub fn take_id(input: &mut &str) -> Result<i64, ListCause>

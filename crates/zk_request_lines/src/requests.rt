@@ -11,7 +11,7 @@ use crate::spaced::{spaced_acl, spaced_int, spaced_text};
 use crate::words::take_word;
 use std::alloc::Global;
 use zk_listing::ListCause;
-use zk_prepare::Request;
+use zk_requests::Request;
 
 /// The request that a text says: `create [-s] [-e] PATH CONTENT ACL`, `delete PATH VERSION`, `set PATH CONTENT VERSION`,
 /// `setacl PATH ACL VERSION`, `open TIMEOUT`, `close`, or `multi` with its parts, each behind ` ; `.

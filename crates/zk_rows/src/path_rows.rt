@@ -7,11 +7,16 @@ ghost use Rattle.zk_path.specs.Paths.{is_slash};
 use std::alloc::Global;
 use zk_path::{NoMemory, Path, PathFault, sequence};
 
+/// Whether a fault is shown by this code.
+fn is_shown_as(alloc: Global, fault: PathFault, code: &str) -> Result<bool, NoMemory> {
+    Ok(format!(in alloc; "{fault}")?.as_str() == code)
+}
+
 /// Whether a text is refused with the fault of this code, and whether it is a path where the code is `-`.
 fn is_told(alloc: Global, text: &str, code: &str) -> Result<bool, NoMemory> {
     match Path::read(alloc, text) {
         Ok(_) => Ok(code == "-"),
-        Err(fault) => Ok(format!(in alloc; "{fault}")?.as_str() == code),
+        Err(fault) => is_shown_as(alloc, fault, code),
     }
 }
 
@@ -48,11 +53,19 @@ static PATH_FAULTS: [(&str, &str); 30] = [
     ("/\u{ffef}", "-"),
 ];
 
+/// The first of them that is told otherwise.
+fn other_fault(alloc: Global) -> Option<usize> {
+    for (place, (text, code)) in PATH_FAULTS.iter().enumerate() {
+        if is_told(alloc, text, code) != Ok(true) {
+            return Some(place);
+        }
+    }
+    None
+}
+
 #[test]
 fn path_faults_in_order(rt: HostRuntime) {
-    for (text, code) in &PATH_FAULTS {
-        assert_eq!(rt; is_told(rt.alloc(), text, code), Ok(true), "{text:?}");
-    }
+    assert_eq!(rt; other_fault(rt.alloc()), None);
 }
 
 /// Whether a path, by its copy, has this text, parent and name.
@@ -66,30 +79,46 @@ fn has_parts(
     Ok(path.text() == text && path.parent() == parent && path.name() == name)
 }
 
+/// Paths, their parents and their names.
+static PARTS: [(&str, Option<&str>, &str); 3] = [
+    ("/", None, ""),
+    ("/app", Some("/"), "app"),
+    ("/app/..lock", Some("/app"), "..lock"),
+];
+
+/// The first of them that has others.
+fn other_parts(alloc: Global) -> Option<usize> {
+    for (place, (text, parent, name)) in PARTS.iter().enumerate() {
+        if !matches!(has_parts(alloc, text, *parent, name), Ok(true)) {
+            return Some(place);
+        }
+    }
+    None
+}
+
 #[test]
 fn parents_and_names(rt: HostRuntime) {
-    for (text, parent, name) in [
-        ("/", None, ""),
-        ("/app", Some("/"), "app"),
-        ("/app/..lock", Some("/app"), "..lock"),
-    ] {
-        assert_eq!(rt;
-            has_parts(rt.alloc(), text, parent, name),
-            Ok(true),
-            "{text:?}"
-        );
-    }
+    assert_eq!(rt; other_parts(rt.alloc()), None);
 }
 
 /// Whether a path's child with this name has this text, or is refused with the fault of this code.
+fn is_child(alloc: Global, path: &Path, name: &str, child: &str) -> Result<bool, NoMemory>
+    requires filled { name.now ≢ [] }
+    requires whole { AllByRecursion (λ b. is_slash b ≡ false) name.now }
+{
+    match path.child(name) {
+        Ok(path) => Ok(path.text() == child),
+        Err(fault) => is_shown_as(alloc, fault, child),
+    }
+}
+
+/// The same of the path that a text spells.
 fn has_child(alloc: Global, text: &str, name: &str, child: &str) -> Result<bool, PathFault>
     requires filled { name.now ≢ [] }
     requires whole { AllByRecursion (λ b. is_slash b ≡ false) name.now }
 {
-    match Path::read(alloc, text)?.child(name) {
-        Ok(path) => Ok(path.text() == child),
-        Err(fault) => Ok(format!(in alloc; "{fault}")?.as_str() == child),
-    }
+    let path = Path::read(alloc, text)?;
+    Ok(is_child(alloc, &path, name, child)?)
 }
 
 #[test]
@@ -100,11 +129,6 @@ fn children_add_a_name(rt: HostRuntime) {
     assert_eq!(rt; has_child(alloc, "/app", ".", "P5"), Ok(true));
     assert_eq!(rt; has_child(alloc, "/app", "..", "P5"), Ok(true));
     assert_eq!(rt; has_child(alloc, "/app", "a\u{7f}", "P6"), Ok(true));
-}
-
-/// Whether want of memory is shown by this code.
-fn is_shown_as(alloc: Global, fault: PathFault, code: &str) -> Result<bool, NoMemory> {
-    Ok(format!(in alloc; "{fault}")?.as_str() == code)
 }
 
 #[test]
@@ -120,17 +144,20 @@ fn is_spelled(alloc: Global, number: i32, text: &str) -> bool {
     matches!(sequence(alloc, number), Ok(spelled) if spelled.as_str() == text)
 }
 
+/// Numbers, and how each is spelled.
+static NUMBERS: [(i32, &str); 7] = [
+    (0, "0000000000"),
+    (2, "0000000002"),
+    (3, "0000000003"),
+    (i32::MAX, "2147483647"),
+    (i32::MIN, "-2147483648"),
+    (-2147483647, "-2147483647"),
+    (-5, "-000000005"),
+];
+
 #[test]
 fn sequential_names_wrap(rt: HostRuntime) {
-    for (number, text) in [
-        (0, "0000000000"),
-        (2, "0000000002"),
-        (3, "0000000003"),
-        (i32::MAX, "2147483647"),
-        (i32::MIN, "-2147483648"),
-        (-2147483647, "-2147483647"),
-        (-5, "-000000005"),
-    ] {
-        assert!(rt; is_spelled(rt.alloc(), number, text), "{number}");
+    for (number, text) in &NUMBERS {
+        assert!(rt; is_spelled(rt.alloc(), *number, text));
     }
 }

@@ -36,13 +36,18 @@ type Shown = (&'static str, Option<&'static str>, i32, Stat);
 
 /// The path of a text that is one.
 fn path_of(alloc: Global, text: &str) -> Result<Path, NoMemory> {
-    Path::read(alloc, text).map_err(|_| NoMemory)
+    Path::read(alloc, text).ok().ok_or(NoMemory)
+}
+
+/// A content of another one's bytes, by its copy.
+fn remade(alloc: Global, content: &Content) -> Result<Content, NoMemory> {
+    let bytes = Vec::from_slice(alloc, content.as_slice())?;
+    Content::new(alloc, bytes)?.copy()
 }
 
 fn read_content(alloc: Global, text: &str) -> Result<Content, NoMemory> {
     let read = Content::read(alloc, text.as_bytes())?;
-    let bytes = Vec::from_slice(alloc, read.as_slice())?;
-    Content::new(alloc, bytes)?.copy()
+    remade(alloc, &read)
 }
 
 fn content_of(alloc: Global, text: Option<&str>) -> Result<Option<Content>, NoMemory> {
@@ -170,11 +175,17 @@ fn op_of(alloc: Global, row: Row) -> Result<Op, NoMemory> {
     }
 }
 
-fn parts_of(alloc: Global, rows: &[Row]) -> Result<Subs, NoMemory> {
-    let mut parts = Vec::new(alloc);
+/// Appends the parts that rows ask for.
+fn push_parts(alloc: Global, parts: &mut Vec<Sub>, rows: &[Row]) -> Result<(), NoMemory> {
     for row in rows {
         parts.push(part_of(alloc, *row)?)?;
     }
+    Ok(())
+}
+
+fn parts_of(alloc: Global, rows: &[Row]) -> Result<Subs, NoMemory> {
+    let mut parts = Vec::new(alloc);
+    push_parts(alloc, &mut parts, rows)?;
     Ok(Subs::new(parts))
 }
 
@@ -555,18 +566,24 @@ fn bare_stat(zxid: i64) -> Stat {
     }
 }
 
-/// Whether a read of `/n` tells this content, and a stat that counts no bytes.
-fn tells_content(alloc: Global, table: &Plain, content: Option<&str>) -> Result<bool, NoMemory> {
-    let call = ReadCall::GetData {
-        path: path_of(alloc, "/n")?,
-    };
-    match table.read(&call, &[])? {
-        ReadReply::Content {
-            content: told,
-            stat,
-        } => Ok(is_content(&told, content) && stat.data_length == 0),
-        _ => Ok(false),
+/// Whether a reply is this content, with a stat that counts no bytes.
+fn is_reply(reply: &ReadReply, text: Option<&str>) -> bool {
+    match reply {
+        ReadReply::Content { content, stat } => is_content(content, text) && stat.data_length == 0,
+        _ => false,
     }
+}
+
+/// Whether a read tells this content.
+fn is_read(table: &Plain, call: &ReadCall, text: Option<&str>) -> Result<bool, NoMemory> {
+    let reply = table.read(call, &[])?;
+    Ok(is_reply(&reply, text))
+}
+
+/// Whether a read of `/n` does.
+fn tells_content(alloc: Global, table: &Plain, text: Option<&str>) -> Result<bool, NoMemory> {
+    let path = path_of(alloc, "/n")?;
+    is_read(table, &ReadCall::GetData { path }, text)
 }
 
 /// Whether it does so where a new table has answered as these rows say.
@@ -606,10 +623,15 @@ static UNAPPLIED: [Row; 6] = [
 ];
 
 /// Whether a part answers as its row says where it is not applied, and is an error where the row says so.
-fn is_told_unapplied(alloc: Global, row: Row) -> Result<bool, NoMemory> {
-    let part = part_of(alloc, row)?;
+fn answers_unapplied(part: &Sub, row: Row) -> Result<bool, NoMemory> {
     let answer = part.answer_unapplied(-2)?;
     Ok(part.is_error() == matches!(row.1, Ask::Error) && is_told(&answer, row))
+}
+
+/// Whether the part that a row asks for does so.
+fn is_told_unapplied(alloc: Global, row: Row) -> Result<bool, NoMemory> {
+    let part = part_of(alloc, row)?;
+    answers_unapplied(&part, row)
 }
 
 /// Whether each of these parts does so.

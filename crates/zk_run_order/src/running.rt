@@ -1,5 +1,6 @@
 ghost use Rattle.std.specs.Prelude.{◌≡◌, ◌+◌, ◌-◌, ◌<◌, ◌^◌};
-ghost use Rattle.zk_log.specs.Devices.{reads_of, read_failures_of, write_failures_of};
+ghost use Rattle.zk_journal.specs.Sinks.{write_failures_of};
+ghost use Rattle.zk_log.specs.Devices.{reads_of, read_failures_of};
 ghost use Rattle.zk_run_order.specs.Running.{RunsText, RunsWhole};
 
 use std::alloc::Global;

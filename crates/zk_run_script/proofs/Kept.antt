@@ -5,7 +5,7 @@ use Rattle.zab_epoch.specs.Entries.{txns_of}
 use Rattle.zab_runs.specs.Runs.{kept, stable_of, history_list, history_of}
 use Rattle.zab_runs.specs.Standings.{Standing}
 use Rattle.zab_runs.specs.Worlds.{World, server_at}
-use Rattle.zk_prepare.specs.declared.call.Call.{Call}
+use Rattle.zk_requests.specs.declared.call.Call.{Call}
 use Rattle.zk_txn.specs.declared.txn.Txn.{Txn}
 
 told_by : (o : Option Standing) (txns : List Txn) → Some txns ≡ option_map (λ stable. txns_of stable.history) (kept o) → txns ≡ txns_of (history_list o)

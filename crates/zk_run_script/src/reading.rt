@@ -12,11 +12,11 @@ use crate::command::{Command, Report};
 use std::alloc::Global;
 use zab_runs::Event as WorldEvent;
 use zk_listing::ListCause;
-use zk_prepare::Call;
 use zk_request_lines::{
     Lookup, spaced_id, spaced_ids, spaced_int, spaced_long, spaced_lookup, spaced_number,
     spaced_request, take_word,
 };
+use zk_requests::Call;
 use zk_runs::{Event, Question};
 
 /// The command that a line says among so many servers, without its newline. A report on another server is none.

@@ -4,7 +4,7 @@ use Rattle.zab_runs.specs.declared.fault.WorldFault.{WorldFault}
 use Rattle.zab_runs.specs.Runs as zab
 use Rattle.zab_runs.specs.Standings.{Standing}
 use Rattle.zab_runs.specs.Worlds.{World, Profile, new_world, running}
-use Rattle.zk_prepare.specs.declared.call.Call.{Call}
+use Rattle.zk_requests.specs.declared.call.Call.{Call}
 use Rattle.zk_runs.specs.declared.event.Event.{Event}
 use Rattle.zk_runs.specs.declared.event.Event.TheVariants as events
 use Rattle.zk_runs.specs.declared.event.Question.{Question}

@@ -14,8 +14,8 @@ use Rattle.zab_runs.specs.Movers.{mover}
 use Rattle.zab_runs.specs.Running.{is_running}
 use Rattle.zab_runs.specs.Worlds.{World, Profile, profile_of, new_world, is_server, running}
 use Rattle.zk_machine.specs.Changes.{changes_of}
-use Rattle.zk_prepare.specs.declared.call.Call.{Call}
-use Rattle.zk_prepare.specs.Requests.{is_open, closing_call}
+use Rattle.zk_requests.specs.declared.call.Call.{Call}
+use Rattle.zk_requests.specs.Requests.{is_open, closing_call}
 use Rattle.zk_primary.specs.Entries.{entry_of}
 use Rattle.zk_runs.specs.declared.answer.Answer.{Answer}
 use Rattle.zk_runs.specs.declared.answer.Answer.TheVariants.{Moved as HasMoved, Looked}

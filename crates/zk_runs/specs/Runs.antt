@@ -4,7 +4,7 @@ use Rattle.zab_epoch.specs.declared.history.Entry.{Entry}
 use Rattle.zab_runs.specs.declared.event.Event.{Event as WorldEvent}
 use Rattle.zab_runs.specs.Runs.{delivered_of, history_of}
 use Rattle.zab_runs.specs.Worlds.{Profile}
-use Rattle.zk_prepare.specs.declared.call.Call.{Call}
+use Rattle.zk_requests.specs.declared.call.Call.{Call}
 use Rattle.zk_runs.specs.declared.answer.Answered.{Answered}
 use Rattle.zk_runs.specs.declared.event.Event.{Event}
 use Rattle.zk_runs.specs.declared.event.Event.TheVariants as events

@@ -5,7 +5,7 @@ ghost use Rattle.std.specs.Prelude.{◌≡◌, IfOk};
 use crate::answer::{Answer, Answered};
 use crate::event::{Event, Question};
 use zk_path::NoMemory;
-use zk_prepare::Call;
+use zk_requests::Call;
 
 fn copy_of(event: &zab_runs::Event<Call>) -> Result<zab_runs::Event<Call>, NoMemory>
     ensures { IfOk result (λ copy. copy ≡ event.now) }

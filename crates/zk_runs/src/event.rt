@@ -1,5 +1,5 @@
 use zk_acl::Ids;
-use zk_prepare::Call;
+use zk_requests::Call;
 use zk_txn::ReadCall;
 
 /// A read that a client asks of a server. Servers are numbered from 1.

@@ -7,7 +7,7 @@ use crate::event::{Event, Question};
 use crate::fault::EnsembleFault;
 use zk_acl::{Acl, Acls, Id, Ids, Stat, Text};
 use zk_path::Path;
-use zk_prepare::{Call, Part, Parts, Request};
+use zk_requests::{Call, Part, Parts, Request};
 use zk_txn::{Content, Names, PartResult, PartResults, ReadCall, ReadReply, TxnResult};
 
 /// Values that are compared as they are seen.

@@ -1,6 +1,6 @@
 -- How the order ends, by what was written and told.
 use Rattle.std.proofs.Common.{◌≡◌, ℕ, ◌<◌, ◌^◌, List, Option, Ok, Err, inl, inr, subst, codes, arith}
-use Rattle.zk_log.specs.declared.sink.Sink.{Sink}
+use Rattle.zk_journal.specs.declared.sink.Sink.{Sink}
 use Rattle.zk_path.specs.declared.memory.NoMemory.{NoMemory}
 use Rattle.zk_orders.specs.Telling.{Told}
 use Rattle.zk_orders.specs.Writing.{LeavesSink, Wrote, BrokeOff}

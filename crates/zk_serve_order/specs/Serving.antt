@@ -1,7 +1,7 @@
 -- What the order `serve` writes, by its status. Nothing can be said of what sockets give and take.
 use Rattle.std.specs.Prelude.{ℕ, zero, suc, ◌^◌, ◌<◌, ◌++◌, List, ◌⊎◌, Option, Result, Ok, Err, codes}
 use Rattle.std.specs.Fmt.{decimal}
-use Rattle.zk_log.specs.declared.sink.Sink.{Sink}
+use Rattle.zk_journal.specs.declared.sink.Sink.{Sink}
 use Rattle.zk_path.specs.declared.memory.NoMemory.{NoMemory}
 use Rattle.zk_orders.specs.Telling.{Told}
 use Rattle.zk_orders.specs.Writing.{LeavesSink, Wrote, BrokeOff}

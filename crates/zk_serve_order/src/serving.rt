@@ -1,5 +1,5 @@
 ghost use Rattle.std.specs.Prelude.{◌-◌, ◌<◌, ◌≤◌, ◌^◌};
-ghost use Rattle.zk_log.specs.Devices.{write_failures_of};
+ghost use Rattle.zk_journal.specs.Sinks.{write_failures_of};
 ghost use Rattle.zk_serve_order.specs.Serving.{Serves};
 
 use crate::accepting::Served;

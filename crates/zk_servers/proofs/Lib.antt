@@ -1,10 +1,3 @@
-pub mod Chronicles
-pub mod Scans
-pub mod Marks
 pub mod Turning
 pub mod Starting
 pub mod Joining
-pub mod Fronts
-pub mod Delivering
-pub mod Keeping
-pub mod Pushes

@@ -2,19 +2,18 @@ ghost use Rattle.std.specs.Prelude.{◌≡◌, length, map, IfOk, vec_len};
 ghost use Rattle.zk_servers.specs.Running.{AllDid, ArePromised, AreWorkers, DidRun, IsRunOf};
 ghost use Rattle.zk_servers.specs.Turns.{DidTurns};
 
-use crate::record::Receipt;
-use crate::seat::Seat;
 use crate::serving::{Gate, Worked, Worker, serve};
-use crate::shared::Shared;
 use std::alloc::Global;
 use std::snapshot::Snapshot;
 use std::sync::Wait;
 use std::sync::ledger::Ledger;
 use std::thread;
 use std::thread::{Promise, PromisedHandle, Scope, Threads};
-use zk_ensemble::Event;
+use zk_boards::{Seat, Shared};
 use zk_inboxes::{Inbox, Post, Senders};
 use zk_path::NoMemory;
+use zk_receipts::Receipt;
+use zk_runs::Event;
 
 /// What a server's thread is to do.
 #[derive(Drop)]

@@ -1,16 +1,14 @@
 ghost use Rattle.std.specs.Prelude.{◌≡◌, ◌++◌, ◌∷◌, [], true, false};
-ghost use Rattle.zk_servers.specs.Calls.{made};
+ghost use Rattle.zk_receipts.specs.Calls.{made};
 ghost use Rattle.zk_servers.specs.Turns.{DidTurns};
 
-use crate::board::sent_by;
-use crate::record::Receipt;
-use crate::seat::Seat;
-use crate::shared::{Routed, Shared};
 use std::alloc::Global;
 use std::sync::Wait;
 use std::sync::ledger::Ledger;
-use zk_ensemble::Event;
+use zk_boards::{Routed, Seat, Shared};
 use zk_inboxes::{Inbox, Senders};
+use zk_receipts::Receipt;
+use zk_runs::Event;
 
 /// What each thread passes before each of its turns.
 pub trait Gate {
@@ -120,7 +118,7 @@ pub fn send_on<R: Wait>(rt: &R, senders: &Senders, routed: Routed) -> Receipt
         receipt,
         addressees,
     } = routed;
-    let mut message = sent_by(&receipt).first;
+    let mut message = receipt.sent().first;
     for addressee in addressees {
         senders.send(rt, addressee, message);
         message = message.wrapping_add(1);

@@ -5,7 +5,7 @@ use std::alloc::Global;
 use zk_acl::{Ids, Text};
 use zk_front::{Ask, Clock, Reply, Service, ServiceFault, Told};
 use zk_path::{NoMemory, Path};
-use zk_prepare::Request;
+use zk_requests::Request;
 use zk_table::{Content, ReadCall, ReadReply, TxnResult};
 
 /// What a session asks. Nodes are open to all, and have no content.
@@ -16,6 +16,8 @@ pub enum Asking {
     /// An ephemeral node.
     CreateOwned(&'static str),
     Exists(&'static str),
+    /// Whether it exists, and to be told when that changes.
+    WatchExistence(&'static str),
     /// The children, and to be told when they change.
     WatchChildren(&'static str),
     Sync,
@@ -81,15 +83,19 @@ fn read(alloc: Global, session: i64, call: ReadCall, watch: bool) -> Ask {
     }
 }
 
+fn exists(alloc: Global, session: i64, path: &str, watch: bool) -> Result<Ask, NoMemory> {
+    let path = Path::read(alloc, path).ok().ok_or(NoMemory)?;
+    Ok(read(alloc, session, ReadCall::Exists { path }, watch))
+}
+
+/// What a session asks, as the service takes it.
 pub fn ask_of(alloc: Global, session: i64, asking: Asking) -> Result<Ask, NoMemory> {
     match asking {
         Asking::Open(timeout) => Ok(write(alloc, 0, Request::OpenSession { timeout })),
         Asking::Create(path) => Ok(write(alloc, session, create(alloc, path, 0)?)),
         Asking::CreateOwned(path) => Ok(write(alloc, session, create(alloc, path, 1)?)),
-        Asking::Exists(path) => {
-            let path = Path::read(alloc, path).ok().ok_or(NoMemory)?;
-            Ok(read(alloc, session, ReadCall::Exists { path }, false))
-        }
+        Asking::Exists(path) => exists(alloc, session, path, false),
+        Asking::WatchExistence(path) => exists(alloc, session, path, true),
         Asking::WatchChildren(path) => {
             let path = Path::read(alloc, path).ok().ok_or(NoMemory)?;
             Ok(read(alloc, session, ReadCall::GetChildren { path }, true))
@@ -146,8 +152,13 @@ fn spelled(alloc: Global, told: &Result<Told, ServiceFault>) -> Result<String, N
     Ok(text)
 }
 
-/// What a row is told.
-pub fn told_to<S: Service>(alloc: Global, service: &mut S, ask: Ask) -> Result<String, NoMemory> {
+/// Whether a service tells this, as text.
+pub fn is_told<S: Service>(
+    alloc: Global,
+    service: &mut S,
+    ask: Ask,
+    expected: &str,
+) -> Result<bool, NoMemory> {
     let told = service.ask(ask);
-    spelled(alloc, &told)
+    Ok(spelled(alloc, &told)?.as_str() == expected)
 }

@@ -5,7 +5,7 @@ ghost use Rattle.std.specs.Prelude.{◌≡◌, IfOk, length};
 use std::alloc::Global;
 use zk_acl::{Acl, Acls, Id, Ids, Text};
 use zk_path::NoMemory;
-use zk_prepare::{Call, Request};
+use zk_requests::{Call, Request};
 use zk_runs::Event;
 
 /// The session that the first call of the first epoch opens, by its own transaction.

@@ -1,9 +1,10 @@
 //! What servers take out of their inboxes.
 
-ghost use Rattle.std.specs.Prelude.{◌≡◌, IfOk, length, vec_len};
+ghost use Rattle.std.specs.Prelude.{◌≡◌, ◌+◌, ◌<◌, ◌^◌, IfOk, length};
 
 use crate::events::jobs_of_two;
 use crate::gate::Open;
+use crate::running::no_jobs;
 use std::alloc::Global;
 use std::marker::Brand;
 use std::sync::Wait;
@@ -14,7 +15,7 @@ use zk_runs::{EnsembleFault, Event};
 use zk_servers::{Inbox, Post, Run, Seat, Shared, Started, inboxes, run_servers};
 
 /// What servers were answered.
-#[derive(Debug, Drop)]
+#[derive(Clone, Copy, Debug)]
 struct Answered {
     receipts: usize,
     /// How many of these tell that no message has the number.
@@ -59,33 +60,29 @@ fn with_99_and_0<R: Wait>(rt: &R, alloc: Global) -> Result<Post, NoMemory>
     Ok(post)
 }
 
-fn no_jobs_of_one(alloc: Global) -> Result<Vec<Vec<Event>>, NoMemory>
-    ensures { IfOk result (λ jobs. length jobs.items ≡ 1) }
-{
-    let mut jobs = Vec::new(alloc);
-    jobs.reserve(1)?;
-    jobs.push_reserved(Vec::new(alloc));
-    Ok(jobs)
-}
-
-/// One server without jobs, whose inbox holds 99 and then 0.
-fn run_one<L: Ledger + Send + Sync, R: Threads + Wait + Sync>(
+/// What servers are answered that run so many turns, with these jobs and inboxes.
+fn run<L: Ledger + Send + Sync, R: Threads + Wait + Sync>(
     rt: &R,
     alloc: Global,
     blank: Blank,
+    servers: usize,
+    jobs: Vec<Vec<Event>>,
+    post: Post,
+    turns: u32,
 ) -> Result<Answered, NoMemory>
     requires name { blank.name ≡ L.name }
     requires parts { blank.parts ≡ L.parts }
-    requires enough { blank.parts ≡ 2 }
+    requires enough { blank.parts ≡ servers + 1 }
+    requires many { (0 < servers) × (servers < 2 ^ 32) }
+    requires jobs { length jobs.items ≡ servers }
+    requires inboxes { length post.inboxes.items ≡ servers }
 {
-    let jobs = no_jobs_of_one(alloc)?;
-    let post = with_99_and_0(rt, alloc)?;
     let Started {
         shared,
         seats,
         readers: _,
-    } = Shared::<L>::start(rt, alloc, blank, 1, 1, 1)?;
-    let ran = run_servers(rt, alloc, &shared, &Open, post, seats, jobs, 5);
+    } = Shared::<L>::start(rt, alloc, blank, servers, servers, 1)?;
+    let ran = run_servers(rt, alloc, &shared, &Open, post, seats, jobs, turns);
     close_answered(rt, alloc, shared, ran)
 }
 
@@ -109,35 +106,18 @@ fn with_second_dropped(alloc: Global) -> Result<Post, NoMemory>
     Ok(Post { inboxes, senders })
 }
 
-/// One server leads, and the other follows it and has lost its inbox.
-fn run_two<L: Ledger + Send + Sync, R: Threads + Wait + Sync>(
-    rt: &R,
-    alloc: Global,
-    blank: Blank,
-) -> Result<Answered, NoMemory>
-    requires name { blank.name ≡ L.name }
-    requires parts { blank.parts ≡ L.parts }
-    requires enough { blank.parts ≡ 3 }
-{
+/// One server without jobs, whose inbox holds 99 and then 0. The ledger is picked here.
+fn one_server<R: Threads + Wait + Sync>(rt: &R, alloc: Global) -> Result<Answered, NoMemory> {
+    let jobs = no_jobs(alloc, 1)?;
+    let post = with_99_and_0(rt, alloc)?;
+    run::<Brand, R>(rt, alloc, Blank::new(2), 1, jobs, post, 5)
+}
+
+/// One server leads, and the other follows it and has lost its inbox. The ledger is picked here.
+fn two_servers<R: Threads + Wait + Sync>(rt: &R, alloc: Global) -> Result<Answered, NoMemory> {
     let jobs = jobs_of_two(alloc)?;
     let post = with_second_dropped(alloc)?;
-    let Started {
-        shared,
-        seats,
-        readers: _,
-    } = Shared::<L>::start(rt, alloc, blank, 2, 2, 1)?;
-    let ran = run_servers(rt, alloc, &shared, &Open, post, seats, jobs, 2);
-    close_answered(rt, alloc, shared, ran)
-}
-
-/// The ledger is picked here.
-fn one_server<R: Threads + Wait + Sync>(rt: &R, alloc: Global) -> Result<Answered, NoMemory> {
-    run_one::<Brand, R>(rt, alloc, Blank::new(2))
-}
-
-/// The ledger is picked here.
-fn two_servers<R: Threads + Wait + Sync>(rt: &R, alloc: Global) -> Result<Answered, NoMemory> {
-    run_two::<Brand, R>(rt, alloc, Blank::new(3))
+    run::<Brand, R>(rt, alloc, Blank::new(3), 2, jobs, post, 2)
 }
 
 #[test]

@@ -8,6 +8,8 @@
 #[cfg(test)]
 mod asks;
 #[cfg(test)]
+mod call_rows;
+#[cfg(test)]
 mod closing_rows;
 #[cfg(test)]
 mod events;
@@ -15,10 +17,6 @@ mod events;
 mod gate;
 #[cfg(test)]
 mod inbox_rows;
-#[cfg(test)]
-mod outcome_rows;
-#[cfg(test)]
-mod reader_rows;
 #[cfg(test)]
 mod route_rows;
 #[cfg(test)]

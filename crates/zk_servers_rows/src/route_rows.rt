@@ -1,115 +1,12 @@
-//! Whom the messages of events are for, and which server each call was about, of servers that nobody reads past the lock.
+//! The inbox that each message of an event goes to.
 
-ghost use Rattle.std.specs.Prelude.{◌≡◌};
-
-use crate::events::{Happening, event_of};
 use std::alloc::Global;
-use std::marker::Brand;
 use std::sync::Wait;
-use std::sync::ledger::{Blank, Ledger};
 use std::test::Fail;
 use zab_runs::Moved;
 use zk_path::NoMemory;
 use zk_runs::Answer;
-use zk_servers::{Inbox, Post, Reader, Receipt, Routed, Seat, Shared, Started, inboxes, send_on};
-
-/// The first server comes to lead the second, and a session is opened.
-const BEGINNING: [Happening; 8] = [
-    Happening::Lead(1),
-    Happening::Follow(2, 1),
-    Happening::Arrive(1),
-    Happening::Arrive(2),
-    Happening::Arrive(3),
-    Happening::Arrive(4),
-    Happening::Arrive(5),
-    Happening::Open(1),
-];
-
-/// How many messages an event sent, and the server that the last of them is for.
-type Route = (usize, Option<usize>);
-
-/// What was seen of a beginning: the route of each event, the calls about servers 1, 2, 3 and 16, how
-/// many servers have a list of readers, and whether each list is empty.
-#[derive(Debug, Drop, PartialEq)]
-struct Seen {
-    routes: Vec<Route>,
-    called: [u64; 4],
-    servers: usize,
-    unread: bool,
-}
-
-fn route_of(routed: &Routed) -> Route {
-    let addressees = &routed.addressees;
-    (addressees.len(), addressees.last().copied())
-}
-
-fn call_all<L: Ledger, R: Wait>(
-    rt: &R,
-    alloc: Global,
-    shared: &Shared<L>,
-    seats: &mut [Seat<L>],
-) -> Result<Vec<Route>, Fail> {
-    let seat = seats.last_mut().ok_or(NoMemory)?;
-    let mut routes = Vec::new(alloc);
-    for happening in &BEGINNING {
-        let event = event_of(alloc, *happening)?;
-        let routed = shared.call_routed(rt, alloc, seat, event)?;
-        routes.push(route_of(&routed))?;
-    }
-    Ok(routes)
-}
-
-fn all_seen(
-    routes: Result<Vec<Route>, Fail>,
-    called: [u64; 4],
-    readers: &[Vec<Reader>],
-) -> Result<Seen, Fail> {
-    Ok(Seen {
-        routes: routes?,
-        called,
-        servers: readers.len(),
-        unread: readers.iter().all(|list| list.is_empty()),
-    })
-}
-
-fn run<L: Ledger, R: Wait>(rt: &R, alloc: Global, blank: Blank) -> Result<Seen, Fail>
-    requires name { blank.name ≡ L.name }
-    requires parts { blank.parts ≡ L.parts }
-    requires enough { blank.parts ≡ 2 }
-{
-    let Started {
-        shared,
-        mut seats,
-        readers,
-    } = Shared::<L>::start(rt, alloc, blank, 3, 1, 0)?;
-    let routes = call_all(rt, alloc, &shared, &mut seats);
-    let called = [1, 2, 3, 16].map(|server| shared.called(server));
-    all_seen(routes, called, &readers)
-}
-
-/// The ledger is picked here.
-fn routes<R: Wait>(rt: &R, alloc: Global) -> Result<Seen, Fail> {
-    run::<Brand, R>(rt, alloc, Blank::new(2))
-}
-
-#[test]
-fn messages_are_for_leader_and_follower_in_turn(rt: HostRuntime) -> Result<(), Fail> {
-    let seen = routes(&rt, rt.alloc())?;
-    let told = [
-        (0, None),
-        (1, Some(1)),
-        (1, Some(2)),
-        (1, Some(1)),
-        (1, Some(2)),
-        (1, Some(1)),
-        (1, Some(2)),
-        (1, Some(2)),
-    ];
-    assert_eq!(rt; seen.routes.as_slice(), told.as_slice());
-    assert_eq!(rt; seen.called, [5, 3, 0, 0]);
-    assert_eq!(rt; (seen.servers, seen.unread), (3, true));
-    Ok(())
-}
+use zk_servers::{Inbox, Post, Receipt, Routed, inboxes, send_on};
 
 /// An event that sent messages 5 and 6, for the second server and the first.
 fn of_two_messages(alloc: Global) -> Result<Routed, NoMemory> {

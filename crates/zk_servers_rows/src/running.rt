@@ -2,7 +2,7 @@
 
 ghost use Rattle.std.specs.Prelude.{◌≡◌, ◌+◌, ◌<◌, ◌^◌, IfOk, length};
 
-use crate::asks::{Row, Times, ask_of, told_to};
+use crate::asks::{Row, Times, ask_of, is_told};
 use crate::gate::Open;
 use std::alloc::Global;
 use std::marker::Brand;
@@ -16,15 +16,15 @@ use zk_runs::Event;
 use zk_servers::{Post, Receipt, Run, Seat, Senders, Shared, Started, inboxes, run_servers};
 
 /// What came of a script.
-#[derive(Debug, Drop)]
+#[derive(Clone, Copy, Debug)]
 pub struct Played {
-    /// The first row that was told something else, and what.
-    pub wrong: Option<(usize, String)>,
+    /// The first row that was told something else.
+    pub wrong: Option<usize>,
     /// Whether closing had all calls and receipts.
     pub whole: bool,
 }
 
-fn no_jobs(alloc: Global, servers: usize) -> Result<Vec<Vec<Event>>, NoMemory>
+pub fn no_jobs(alloc: Global, servers: usize) -> Result<Vec<Vec<Event>>, NoMemory>
     ensures { IfOk result (λ jobs. length jobs.items ≡ servers) }
 {
     let mut jobs = Vec::new(alloc);
@@ -38,22 +38,21 @@ fn no_jobs(alloc: Global, servers: usize) -> Result<Vec<Vec<Event>>, NoMemory>
 /// What a client was told, and its seat.
 #[derive(Drop)]
 struct Told<L: Ledger> {
-    wrong: Option<(usize, String)>,
+    wrong: Option<usize>,
     seat: Seat<L>,
     receipts: Vec<Receipt>,
 }
 
-/// The first row that is told something else, and what.
+/// The first row that is told something else.
 fn play<L: Ledger, R: Wait + time::Clock>(
     alloc: Global,
     remote: &mut Remote<'_, L, R, Times>,
     rows: &[Row],
-) -> Result<Option<(usize, String)>, NoMemory> {
+) -> Result<Option<usize>, NoMemory> {
     for (place, row) in rows.iter().enumerate() {
         let ask = ask_of(alloc, row.session, row.asking)?;
-        let text = told_to(alloc, remote, ask)?;
-        if text.as_str() != row.told {
-            return Ok(Some((place, text)));
+        if !is_told(alloc, remote, ask, row.told)? {
+            return Ok(Some(place));
         }
     }
     Ok(None)
@@ -126,7 +125,7 @@ fn posts(alloc: Global, servers: usize) -> Result<(Post, Senders, Senders), NoMe
 /// What closing is given, and what the client was told.
 #[derive(Drop)]
 struct Ended<L: Ledger> {
-    wrong: Option<(usize, String)>,
+    wrong: Option<usize>,
     seats: Vec<Seat<L>>,
     receipts: Vec<Receipt>,
 }

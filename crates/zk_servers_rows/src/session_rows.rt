@@ -128,3 +128,57 @@ fn session_that_is_due_is_expired(rt: HostRuntime) -> Result<(), Fail> {
     assert!(rt; is_right(&played), "{played:?}");
     Ok(())
 }
+
+/// The holder of a lock is heard of no more; one that waits for the lock has it once the holder is due, and not before.
+static LOCKED: [Row; 8] = [
+    Row {
+        session: 0,
+        asking: Asking::Open(30000),
+        told: "wrote 0000000100000001 0",
+    },
+    Row {
+        session: FIRST,
+        asking: Asking::CreateOwned("/lock"),
+        told: "wrote 0000000100000002 0 /lock",
+    },
+    Row {
+        session: 0,
+        asking: Asking::Open(40000),
+        told: "wrote 0000000100000003 0",
+    },
+    Row {
+        session: SECOND,
+        asking: Asking::CreateOwned("/lock"),
+        told: "wrote 0000000100000004 -110",
+    },
+    Row {
+        session: SECOND,
+        asking: Asking::WatchExistence("/lock"),
+        told: "found 0000000100000002 at 0000000100000004",
+    },
+    // the holder's close, and then this
+    Row {
+        session: SECOND,
+        asking: Asking::Create("/b"),
+        told: "Deleted /lock wrote 0000000100000006 0 /b",
+    },
+    Row {
+        session: SECOND,
+        asking: Asking::Exists("/lock"),
+        told: "refused -101 at 0000000100000006",
+    },
+    Row {
+        session: SECOND,
+        asking: Asking::CreateOwned("/lock"),
+        told: "wrote 0000000100000007 0 /lock",
+    },
+];
+
+static ONCE_DUE: [i64; 6] = [1000, 1000, 1000, 1000, 1000, 31_000];
+
+#[test]
+fn a_lock_is_free_once_its_holder_is_due(rt: HostRuntime) -> Result<(), Fail> {
+    let played = played_by_three(&rt, rt.alloc(), &ONCE_DUE, &LOCKED)?;
+    assert!(rt; is_right(&played), "{played:?}");
+    Ok(())
+}

@@ -9,7 +9,7 @@ use Rattle.zk_serving.specs.declared.fault.FrontFault.TheVariants as faults
 use Rattle.zk_connections.specs.declared.ask.Ask.{Ask}
 use Rattle.zk_serving.specs.declared.connection.Connection.{Connection}
 use Rattle.zk_serving.proofs.Reaches.{nothing_left, last_answered, last_not_answered, not_written}
-use Rattle.zk_log.specs.Devices.{AppendsSome}
+use Rattle.zk_journal.specs.Sinks.{AppendsSome}
 use Rattle.std.specs.String.{string_bytes}
 
 module _ {S : Type 0} (does : S → Ask → Answer → S → Type 0) where

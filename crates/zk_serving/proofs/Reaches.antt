@@ -5,7 +5,7 @@ use Rattle.std.specs.String.{string_bytes}
 use Rattle.std.proofs.KnownBytes.{Appends-trans}
 use Rattle.std.proofs.lemmas.List.{map-append}
 use Rattle.std.proofs.lemmas.List.Elements.{filter-append}
-use Rattle.zk_log.specs.Devices.{AppendsSome}
+use Rattle.zk_journal.specs.Sinks.{AppendsSome}
 use Rattle.zk_front_lines.specs.Lines.{Line, line, lines_in, IsUnended}
 use Rattle.zk_connections.specs.Connections.{fresh}
 use Rattle.zk_connections.specs.declared.standing.Standing.{Standing}

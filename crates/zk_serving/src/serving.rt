@@ -1,6 +1,7 @@
 ghost use Rattle.std.specs.Prelude.{◌≡◌, ◌+◌, ◌-◌, ◌<◌, ◌≤◌, ◌^◌, ◌==◌, ◌++◌, ◌∷◌, length, [], option_map, OnOk, IfOk, IfErr, Err};
 ghost use Rattle.std.specs.String.{string_bytes};
-ghost use Rattle.zk_log.specs.Devices.{AsksAtMost, reader_of, writer_of, reads_of, read_failures_of, write_failures_of, AppendsSome};
+ghost use Rattle.zk_journal.specs.Sinks.{writer_of, write_failures_of, AppendsSome};
+ghost use Rattle.zk_log.specs.Devices.{AsksAtMost, reader_of, reads_of, read_failures_of};
 ghost use Rattle.zk_serving.specs.Serving.{Serves, reads_failed, writes_failed};
 ghost use Rattle.zk_front_lines.specs.Lines.{IsSplit, IsUnended};
 ghost use Rattle.zk_serving.specs.Reaching.{Finishes, Goes, Stops, EndsLine, EndsNoLine, EndsAll, EndsEarly, Flushes, IsFresh, MayFlush, StopsInLine, Added, IsStop};

@@ -1,7 +1,7 @@
 use Rattle.std.proofs.Common.{◌≡◌, Ok}
 use Rattle.std.proofs.lemmas.Result.{IfOk-weaker}
 use Rattle.zab_runs.specs.Worlds.{profile_of, world, arrives, message_at}
-use Rattle.zab_world.specs.Notes.{fallen_by}
+use Rattle.zab_places.specs.Notes.{fallen_by}
 use Rattle.zab_world.proofs.Joinings.{joined_falls, steps_fall}
 use Rattle.zab_world.proofs.joining.advance.Goals as goal
 

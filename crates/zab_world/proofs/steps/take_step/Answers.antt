@@ -3,7 +3,7 @@ use Rattle.zab_runs.specs.declared.event.Event.TheVariants.{Crash}
 use Rattle.zab_runs.specs.Worlds.{World, Answer, profile_of, world, happens}
 use Rattle.zab_runs.specs.Movers.{mover}
 use Rattle.zab_runs.specs.Running.{is_running}
-use Rattle.zab_world.specs.Notes.{note_of}
+use Rattle.zab_places.specs.Notes.{note_of}
 use Rattle.zab_world.specs.Sayings.{sent}
 use Rattle.zab_world.proofs.Back.{leads_back, noted, is_it}
 use Rattle.zab_world.proofs.Living.{acted_by, happened, no_restart}

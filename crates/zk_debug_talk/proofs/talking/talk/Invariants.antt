@@ -1,6 +1,7 @@
 -- The lines so far were answered.
 use Rattle.std.proofs.Common.{◌≡◌, ◌-◌, ◌^◌}
-use Rattle.zk_log.specs.Devices.{reader_of, writer_of, reads_of, read_failures_of, write_failures_of}
+use Rattle.zk_journal.specs.Sinks.{writer_of, write_failures_of}
+use Rattle.zk_log.specs.Devices.{reader_of, reads_of, read_failures_of}
 use Rattle.zk_debug_talk.proofs.TalkLaws.{Reached}
 use Rattle.zk_debug_talk.proofs.talking.talk.Given as goal
 

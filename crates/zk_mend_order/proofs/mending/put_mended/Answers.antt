@@ -1,8 +1,8 @@
 use Rattle.std.proofs.Common.{ℕ, ℤ, List, Ok, FitsSigned, inl, ◌∙◌, subst, rules, w64}
 use Rattle.std.proofs.lemmas.Int.{to_z-of_z}
 use Rattle.std.specs.Io.KnownBytes.{Appends}
-use Rattle.zk_log.specs.Devices.{writer_of, AppendsSome}
-use Rattle.zk_log.specs.Logs.{log_of}
+use Rattle.zk_journal.specs.Sinks.{writer_of, AppendsSome}
+use Rattle.zk_journal.specs.Written.{log_of}
 use Rattle.zk_orders.specs.Telling.{Outputs}
 use Rattle.zk_mend_order.proofs.Written.{both_written}
 use Rattle.zk_mend_order.specs.Reports.{mend_report}

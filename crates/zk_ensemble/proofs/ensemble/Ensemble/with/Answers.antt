@@ -1,7 +1,7 @@
 use Rattle.std.proofs.Common.{◌≡◌, ℕ, List, length, replicate, None, sym, ap, ◌∙◌, arith}
 use Rattle.zab_runs.specs.Runs.{Sight}
 use Rattle.zab_runs.specs.Worlds.{new_world}
-use Rattle.zk_prepare.specs.declared.call.Call.{Call}
+use Rattle.zk_requests.specs.declared.call.Call.{Call}
 use Rattle.zk_runs.specs.Ensembles.{fresh, ensemble, new_ensemble}
 use Rattle.zk_ensemble.specs.Views.{below_by}
 use Rattle.zk_runs.proofs.Lists.{length_replicate}

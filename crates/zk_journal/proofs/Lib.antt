@@ -1,0 +1,5 @@
+-- Lemmas of this crate.
+pub mod EntryLaws
+pub mod JournalLaws
+pub mod SumLaws
+pub mod WritingLaws

@@ -1,5 +1,0 @@
-use Rattle.zk_jute.proofs.Fitting.{has_record}
-use Rattle.zk_jute.proofs.laws.short_transactions_have_records.Goals as goal
-
-pub returns : goal.returns
-returns c = has_record

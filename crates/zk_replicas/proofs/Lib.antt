@@ -1,0 +1,4 @@
+pub mod Keeping
+pub mod Lent
+pub mod Replicas
+pub mod Unwatched

@@ -1,0 +1,146 @@
+ghost use Rattle.std.specs.Prelude.{◌≡◌, IfOk};
+ghost use Rattle.zk_requests.specs.Requests.{closing_call};
+
+use std::alloc::Global;
+use std::marker::Model;
+use zk_acl::{Acls, Ids, Text};
+use zk_path::NoMemory;
+use zk_table::Content;
+
+/// What a client asks of the leader. A version of -1 matches any; flags are 0 plain, 1 ephemeral, 2 sequential, 3 both.
+///
+/// ZooKeeper Programmer's Guide, "ZNodes", "Ephemeral Nodes" and "Sequence Nodes".
+#[derive(Debug, Drop)]
+pub enum Request {
+    /// Makes a node. The path of a sequential one goes on with the number of its parent's creates.
+    Create {
+        path: Text,
+        content: Option<Content>,
+        acl: Acls,
+        flags: i32,
+    },
+    /// Removes a node that has no children.
+    Delete {
+        path: Text,
+        version: i32,
+    },
+    /// Sets a node's content.
+    SetData {
+        path: Text,
+        content: Option<Content>,
+        version: i32,
+    },
+    /// Sets a node's access control list; the version is that of the list.
+    SetAcl {
+        path: Text,
+        acl: Acls,
+        version: i32,
+    },
+    /// Several operations, each on the nodes after those before it; all are done or none.
+    Multi {
+        parts: Parts,
+    },
+    /// Opens a session with a timeout in milliseconds. The session that asks is not looked at.
+    OpenSession {
+        timeout: i32,
+    },
+    /// Closes the session that asks.
+    CloseSession,
+}
+
+/// A part of a multi, as it is asked for. The fields are those of [`Request`].
+#[derive(Debug, Drop)]
+pub enum Part {
+    Create {
+        path: Text,
+        content: Option<Content>,
+        acl: Acls,
+        flags: i32,
+    },
+    Delete {
+        path: Text,
+        version: i32,
+    },
+    SetData {
+        path: Text,
+        content: Option<Content>,
+        version: i32,
+    },
+    /// Asks that a node has a version.
+    Check {
+        path: Text,
+        version: i32,
+    },
+}
+
+/// The parts of a multi, seen as their list.
+#[derive(Debug, Drop)]
+pub struct Parts {
+    parts: Vec<Part>,
+}
+
+impl Model for Parts {
+    ghost use Rattle.std.specs.Prelude.{List};
+    ghost use Rattle.zk_requests.specs.declared.call.Part.{Part};
+
+    ghost Value = { List Part };
+
+    ghost view = { λ parts. parts.parts.items };
+}
+
+impl Parts {
+    /// These parts, without memory.
+    pub fn new(parts: Vec<Part>) -> Parts
+        ensures { result ≡ parts.items }
+    {
+        Parts { parts }
+    }
+
+    /// The parts, lent.
+    pub fn as_slice(&self) -> &[Part]
+        ensures { result.now ≡ self.now }
+    {
+        self.parts.as_slice()
+    }
+
+    /// The same parts once more.
+    pub fn copy(&self) -> Result<Parts, NoMemory>
+        ensures { IfOk result (λ copy. copy ≡ self.now) }
+    {
+        let mut parts = Vec::new(*self.parts.allocator());
+        for part in &self.parts {
+            parts.push(part.copy()?)?;
+        }
+        Ok(Parts { parts })
+    }
+}
+
+/// A request, and who asks.
+#[derive(Debug, Drop)]
+pub struct Call {
+    /// By which the call is told from every other.
+    pub tag: u64,
+    /// The session that asks.
+    pub session: i64,
+    /// Which request of that session it is.
+    pub cxid: i32,
+    /// The identities that the caller has proved.
+    pub auths: Ids,
+    /// Milliseconds.
+    pub now: i64,
+    pub request: Request,
+}
+
+/// The call that closes a session whose deadline has come. It takes no memory.
+pub fn closing_call(alloc: Global, tag: u64, session: i64, now: i64) -> Call
+    ensures { result ≡ closing_call tag session now }
+{
+    Call {
+        tag,
+        session,
+        cxid: 0,
+        auths: Ids::new(Vec::new(alloc)),
+        now,
+        request: Request::CloseSession,
+    }
+}

@@ -1,0 +1,23 @@
+//! The first refusal of a request is its answer.
+
+ghost use Rattle.std.specs.Prelude.{◌≡◌};
+ghost use Rattle.zk_requests.specs.declared.refusal.Refusal.TheVariants as refusals;
+
+use zk_path::NoMemory;
+
+/// Why a request is not prepared as it was asked for.
+#[derive(Clone, Copy, Debug)]
+pub(crate) enum Refusal {
+    /// A code of the protocol, which the transaction then carries.
+    Code(i32),
+    /// Memory was refused, and no transaction is made.
+    NoMemory,
+}
+
+impl From<NoMemory> for Refusal {
+    ghost from_gives = { λ _ refusal. refusal ≡ refusals.NoMemory };
+
+    fn from(_refused: NoMemory) -> Refusal {
+        Refusal::NoMemory
+    }
+}
