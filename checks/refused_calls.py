@@ -1,7 +1,7 @@
 #!/usr/bin/env python3
-"""Refuses each growth of memory in turn, from the first on until a run meets none, in each case of the proved program
-`zk_refusals`: calls that run scripts and debug scripts don't show. The program compares what such a call left with what it says
-that it leaves, and tells by its status where that differs.
+"""Refuses each growth of memory in turn, from the first on until a run meets none, in each case of `zk_refusal_rows`: calls that run
+scripts and debug scripts don't show. Each case is a test, which compares what such a call left with what it says that it leaves, and
+fails where that differs.
 
 usage: refused_calls.py [CASE ..]     these cases; all of them where none is named
 """
@@ -13,7 +13,8 @@ from concurrent.futures import ThreadPoolExecutor
 from pathlib import Path
 
 ROOT = Path(__file__).resolve().parent.parent
-PROGRAM = ROOT / "crates" / "zk_refusals" / "out" / "zk_refusals"
+CRATE = ROOT / "crates" / "zk_refusal_rows"
+TESTS = CRATE / "out" / "zk_refusal_rows_tests"
 CASES = ("apply", "undo", "make", "taken", "touch", "set", "fire", "put", "push", "step", "add", "serve")
 
 # More growths than any case meets.
@@ -24,28 +25,39 @@ class Wrong(Exception):
     """A run that ended otherwise than it may."""
 
 
+def how_it_ended(ran: subprocess.CompletedProcess) -> str | None:
+    """Whether the case's call was refused memory or done, or memory was refused elsewhere; None where the case ended otherwise."""
+    told = ran.stderr.decode(errors="replace").splitlines()
+    if ran.returncode == 0 and told in (["refused"], ["done"]):
+        return told[0]
+    # how a test ends that answers an error
+    if ran.returncode == 101 and told[:1] == ["Error: NoMemory"]:
+        return "elsewhere"
+    return None
+
+
 def growths(case: str, library: Path, room: Path) -> tuple[int, int]:
     """How many growths a case has, and at how many of them its call was refused."""
     refused = 0
     met = room / f"{case}.met"
     for number in range(1, ENOUGH):
         env = {**os.environ, "LD_PRELOAD": str(library), "REFUSE": str(number), "REFUSE_MET": str(met)}
-        ran = subprocess.run([PROGRAM, case], env=env, capture_output=True, check=False, timeout=60)
-        ended = (ran.returncode, ran.stdout)
-        if ended not in ((0, b"refused\n"), (0, b"done\n"), (1, b"")) or ran.stderr:
-            raise Wrong(f"{case}, growth {number}: status {ran.returncode}, {ran.stdout!r}, {ran.stderr!r}")
-        refused += ended == (0, b"refused\n")
+        ran = subprocess.run([TESTS, f"cases::{case}"], env=env, capture_output=True, check=False, timeout=60)
+        ended = how_it_ended(ran)
+        if ended is None:
+            raise Wrong(f"{case}, growth {number}: status {ran.returncode}, {ran.stderr!r}")
+        refused += ended == "refused"
         if met.read_text(encoding="utf-8") != "met\n":
-            if ended != (0, b"done\n"):
-                raise Wrong(f"{case}: {ran.stdout!r}, though nothing was refused")
+            if ended != "done":
+                raise Wrong(f"{case}: {ended}, though nothing was refused")
             return number - 1, refused
     raise Wrong(f"{case}: growths without end")
 
 
 def main() -> int:
     cases = sys.argv[1:] or CASES
-    if not PROGRAM.exists():
-        subprocess.run(["rt", "run", "--", "put"], cwd=ROOT / "crates" / "zk_refusals", check=True, stdout=subprocess.DEVNULL)
+    if not TESTS.exists():
+        subprocess.run(["rt", "test"], cwd=CRATE, check=True, stdout=subprocess.DEVNULL)
     with tempfile.TemporaryDirectory() as room:
         library = Path(room) / "refuse.so"
         subprocess.run(["cc", "-shared", "-fPIC", "-O2", "-o", library, ROOT / "checks" / "refuse.c", "-ldl"], check=True)

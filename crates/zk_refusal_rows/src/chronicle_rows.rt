@@ -2,9 +2,8 @@
 
 use crate::events::{FIRST, Happening, event_of, is_told};
 use std::alloc::Global;
-use zk_chronicle::Chronicle;
-use zk_receipts::CallFault;
 use zk_runs::Event;
+use zk_servers::{CallFault, Chronicle};
 
 /// A session is opened by two of three servers, and then events are refused, reads are told, and a server goes down. Each with
 /// its number, its answer and the last transaction of its server.
@@ -44,8 +43,8 @@ fn is_added(alloc: Global, chronicle: &mut Chronicle, event: Event, expected: &s
 /// The same of what happens.
 fn happens(alloc: Global, chronicle: &mut Chronicle, it: Happening, expected: &str) -> bool {
     match event_of(alloc, it) {
-        Some(event) => is_added(alloc, chronicle, event, expected),
-        None => false,
+        Ok(event) => is_added(alloc, chronicle, event, expected),
+        Err(_) => false,
     }
 }
 

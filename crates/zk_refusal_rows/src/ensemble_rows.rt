@@ -2,8 +2,8 @@
 
 use crate::events::{FIRST, Happening, event_of, is_told, question};
 use std::alloc::Global;
-use zk_chronicle::Ensemble;
 use zk_runs::{Event, Question};
+use zk_servers::Ensemble;
 
 /// A session is opened by two of three servers. Each event with the server that it is about, and with that server's last
 /// transaction after it.
@@ -36,8 +36,8 @@ fn is_about(ensemble: &mut Ensemble, event: Event, server: usize, last: i64) -> 
 fn happens(alloc: Global, ensemble: &mut Ensemble, it: (Happening, usize, i64)) -> bool {
     let (happening, server, last) = it;
     match event_of(alloc, happening) {
-        Some(event) => is_about(ensemble, event, server, last),
-        None => false,
+        Ok(event) => is_about(ensemble, event, server, last),
+        Err(_) => false,
     }
 }
 
@@ -68,8 +68,8 @@ fn is_answered(alloc: Global, ensemble: &Ensemble, question: &Question, expected
 /// Whether the session would be told this by a server.
 fn is_peeked(alloc: Global, ensemble: &Ensemble, server: usize, expected: &str) -> bool {
     match question(alloc, server, FIRST) {
-        Some(question) => is_answered(alloc, ensemble, &question, expected),
-        None => false,
+        Ok(question) => is_answered(alloc, ensemble, &question, expected),
+        Err(_) => false,
     }
 }
 
