@@ -24,7 +24,7 @@ HERE = os.path.dirname(os.path.abspath(__file__))
 ROOT = os.path.dirname(HERE)
 PARTS = ("src", "specs", "proofs")
 # The most memory that a check of one of these crates has been seen to take.
-NEED = 5_000_000_000
+NEED = 4_000_000_000
 
 
 class Edit:
