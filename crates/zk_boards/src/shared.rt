@@ -1,7 +1,7 @@
 ghost use Rattle.std.specs.Prelude.{◌^◌, All, length, map, ◌≡◌, ◌+◌, ◌<◌, ◌++◌, ◌∷◌, [], replicate, IfErr, IfOk, OnErr};
 ghost use Rattle.zk_receipts.specs.Calls.{made};
 ghost use Rattle.zk_receipts.specs.Closing.{IsRefusal, IsWhole};
-ghost use Rattle.zk_kept_views.specs.Catching.{AreOfOneView};
+ghost use Rattle.zk_views.specs.Catching.{AreOfOneView};
 
 use crate::board::Board;
 use crate::closing::compare;
@@ -14,11 +14,10 @@ use std::sync::ledger::{Blank, Ledger, Share};
 use std::sync::{Mutex, MutexGuard, Wait};
 use zk_chronicle::{Chronicle, Mark, Outcome};
 use zk_inboxes::pause;
-use zk_kept_views::{Viewed, views_of};
 use zk_path::NoMemory;
 use zk_receipts::{CallFault, CloseFault, Receipt};
 use zk_runs::Event;
-use zk_views::Reader;
+use zk_views::{Reader, Viewed, views_of};
 
 /// How often a thread tries the lock before it sleeps until it is free: for some hundred microseconds. An event takes a few, and a
 /// thread that sleeps asks the others to leave the lock to it, so that they come to sleep too.

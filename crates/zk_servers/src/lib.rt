@@ -18,7 +18,6 @@ pub use zk_boards::{
     Board, Chronicle, Ensemble, Mark, Outcome, Routed, Seat, Shared, Started, Unclosed, joined,
 };
 pub use zk_inboxes::{Inbox, Post, Senders, inboxes};
-pub use zk_kept_views::Kept;
 pub use zk_receipts::{CallFault, CloseFault, Made, Receipt, Record};
 pub use zk_runs::Event;
-pub use zk_views::{Pass, Reader, Seen, ViewFault};
+pub use zk_views::{Kept, Pass, Reader, Seen, ViewFault};

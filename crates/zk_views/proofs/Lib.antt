@@ -2,3 +2,4 @@ pub mod Prefixes
 pub mod Steps
 pub mod Trees
 pub mod Outcomes
+pub mod Pushes

@@ -1,7 +1,7 @@
 -- How a view catches up with what its server has delivered. Own.
 use Rattle.std.specs.Prelude.{◌≡◌, ◌⊎◌, ℕ, Bool, false, List, replicate}
 use Rattle.atomic_table.specs.Seated.{TableId}
-use Rattle.zk_kept_views.specs.declared.kept.Kept.{Kept}
+use Rattle.zk_views.specs.declared.kept.Kept.{Kept}
 use Rattle.zk_txn.specs.declared.txn.Txn.{Txn}
 use Rattle.zk_views.specs.Views.{IsPrefix, Publishing, Entering, unpublished, unentered}
 

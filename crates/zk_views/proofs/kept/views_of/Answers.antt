@@ -1,8 +1,8 @@
 use Rattle.std.proofs.Common.{rules, ◌≡◌, ℕ, All, map, sym, subst}
 use Rattle.std.specs.Prelude.{IfOk}
-use Rattle.zk_kept_views.specs.declared.kept.Viewed.{Viewed}
-use Rattle.zk_kept_views.specs.Catching.{AreOfOneView}
-use Rattle.zk_kept_views.proofs.kept.views_of.Goals as goal
+use Rattle.zk_views.specs.declared.kept.Viewed.{Viewed}
+use Rattle.zk_views.specs.Catching.{AreOfOneView}
+use Rattle.zk_views.proofs.kept.views_of.Goals as goal
 
 pub returns-then-readers-eq0-clause-readers : goal.returns-then-readers-eq0-clause-readers
 returns-then-readers-eq0-clause-readers g c =

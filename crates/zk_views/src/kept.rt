@@ -1,12 +1,13 @@
 ghost use Rattle.std.specs.Prelude.{◌≡◌, ◌≢◌, ◌<◌, ◌+◌, ◌-◌, ◌^◌, ℕ, All, false, length, map, IfOk, slice_index_or};
-ghost use Rattle.zk_kept_views.specs.Catching.{AreOfOneView, HasCaughtUp, IsUnpublished, MayCatchUp};
+ghost use Rattle.zk_views.specs.Catching.{AreOfOneView, HasCaughtUp, IsUnpublished, MayCatchUp};
 
+use crate::publisher::Publisher;
+use crate::reader::Reader;
 use std::alloc::Global;
 use std::mem::ManuallyDrop;
 use std::sync::Wait;
 use zk_path::NoMemory;
 use zk_txn::Txn;
-use zk_views::{Publisher, Reader};
 
 /// The view of a server, and whether it is late: whether memory was refused to the last try to publish.
 #[derive(Drop)]

@@ -1,6 +1,6 @@
 use Rattle.std.proofs.Common.{◌≡◌, ◌≤◌, All, length, map}
-use Rattle.zk_kept_views.specs.Catching.{IsUnpublished, AreOfOneView}
-use Rattle.zk_kept_views.proofs.kept.read_views.Given as goal
+use Rattle.zk_views.specs.Catching.{IsUnpublished, AreOfOneView}
+use Rattle.zk_views.proofs.kept.read_views.Given as goal
 
 abbrev pub invariant-loop : goal.invariant-loop
 invariant-loop g l =

@@ -1,9 +1,9 @@
 use Rattle.std.proofs.Common.{rules, ◌≡◌, ◌++◌, ◌∷◌, [], All, List, Vec, Global, map, sym, ap, subst, ◌∙◌}
 use Rattle.std.proofs.lemmas.List.{map-append}
-use Rattle.zk_kept_views.specs.declared.kept.Kept.{Kept}
-use Rattle.zk_kept_views.specs.Catching.{IsUnpublished, AreOfOneView}
-use Rattle.zk_kept_views.proofs.Pushes.{all_push}
-use Rattle.zk_kept_views.proofs.kept.read_views.Goals as goal
+use Rattle.zk_views.specs.declared.kept.Kept.{Kept}
+use Rattle.zk_views.specs.Catching.{IsUnpublished, AreOfOneView}
+use Rattle.zk_views.proofs.Pushes.{all_push}
+use Rattle.zk_views.proofs.kept.read_views.Goals as goal
 use Rattle.zk_views.specs.declared.reader.Reader.{Reader}
 use Rattle.zk_views.specs.Views.{Entering}
 
