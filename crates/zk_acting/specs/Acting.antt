@@ -7,9 +7,9 @@ use Rattle.zk_orders.specs.Assembling.{Assembles}
 use Rattle.zk_orders.specs.Debugs.{Debugs}
 use Rattle.zk_orders.specs.Showing.{report_of}
 use Rattle.zk_orders.specs.Telling.{TellsLog}
-use Rattle.zk_mend_order.specs.Mends.{MendsLog}
-use Rattle.zk_debug_talk.specs.Holding.{HoldsSession}
-use Rattle.zk_run_order.specs.Running.{RunsText}
+use Rattle.zk_acting.specs.Mends.{MendsLog}
+use Rattle.zk_debug_session.specs.Holding.{HoldsSession}
+use Rattle.zk_acting.specs.Running.{RunsText}
 use Rattle.zk_command_line.specs.declared.command.Order.{Order}
 use Rattle.zk_command_line.specs.declared.command.Order.TheVariants as orders
 use Rattle.zk_orders.specs.declared.reporting.Report.TheVariants as reports

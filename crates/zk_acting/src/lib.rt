@@ -1,53 +1,16 @@
-//! What each order of the tools does, over readers and writers: every order but `serve`.
+//! What each order of the program `zk` does, over any readers and writers: every order but `serve`. The orders `mend` and `run`
+//! stand here, too.
+//!
+//! Those that look at logs stand below, in `zk_orders` and `zk_debug_session`, and need nothing of newer servers and no ensemble.
 #![tactic(auto)]
 
-ghost use Rattle.std.specs.Prelude.{◌+◌, ◌-◌, ◌<◌, ◌^◌};
-ghost use Rattle.zk_acting.specs.Acting.{Acts};
-ghost use Rattle.zk_journal.specs.Sinks.{write_failures_of};
-ghost use Rattle.zk_log.specs.Devices.{reads_of, read_failures_of};
+mod acting;
+mod fault_lines;
+mod mending;
+mod report;
+mod running;
 
-use std::alloc::Global;
-use std::io::{Read, Write};
-use zk_command_line::Order;
-use zk_debug_talk::hold_session;
-use zk_log::{Sink, Source};
-use zk_mend_order::mend_log;
-use zk_orders::{Report, asm, debug, tell_log};
-use zk_path::NoMemory;
-use zk_run_order::run;
-
-/// Does what an order asks for, and answers the exit status: 0, or 1 for a refused input or a failed output, with one
-/// line on `faults`.
-///
-/// `file` is the log, for [`Order::Asm`] the listing, and for [`Order::Run`] the script. `script` is the script of
-/// [`Order::Debug`], or the lines of [`Order::Session`]; the others leave it. `report` is what [`Order::Mend`] tells of the log
-/// that it writes to `output`; the others leave it.
-pub fn act<F: Read, S: Read, O: Write, R: Write, E: Write>(
-    alloc: Global,
-    order: &Order,
-    file: &mut Source<F>,
-    script: &mut Source<S>,
-    output: &mut Sink<O>,
-    report: &mut Sink<R>,
-    faults: &mut Sink<E>,
-) -> Result<u8, NoMemory>
-    requires reads { reads_of file.old + 1048576 < 2 ^ 64 }
-    requires read_failures { read_failures_of file.old < 2 ^ 64 - 1 }
-    requires script_reads { reads_of script.old + 1048576 < 2 ^ 64 }
-    requires script_failures { read_failures_of script.old < 2 ^ 64 - 1 }
-    requires output { write_failures_of output.old < 2 ^ 64 - 1 }
-    requires report { write_failures_of report.old < 2 ^ 64 - 1 }
-    requires faults { write_failures_of faults.old < 2 ^ 64 - 1 }
-    ensures { Acts F.remaining S.remaining O.contents R.contents E.contents order.now file.old file.new
-        script.old script.new output.old output.new report.old report.new faults.old faults.new result }
-{
-    match order {
-        Order::Show { upto } => tell_log(alloc, Report::Tree { upto: *upto }, file, output, faults),
-        Order::List => tell_log(alloc, Report::Listing, file, output, faults),
-        Order::Asm => asm(alloc, file, output, faults),
-        Order::Mend => mend_log(alloc, file, output, report, faults),
-        Order::Debug => debug(alloc, file, script, output, faults),
-        Order::Session { prompts } => hold_session(alloc, *prompts, file, script, output, faults),
-        Order::Run => run(alloc, file, output, faults),
-    }
-}
+pub use acting::act;
+pub use mending::mend_log;
+pub use report::mend_report;
+pub use running::run;

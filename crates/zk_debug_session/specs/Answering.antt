@@ -5,8 +5,8 @@ use Rattle.zk_debug.specs.Debugging.{Debugging, state_at}
 use Rattle.zk_debug_script.specs.Answers.{Answers, seen_by}
 use Rattle.zk_debug_script.specs.Commands.{Says, SaysNothing}
 use Rattle.zk_debug_script.specs.declared.command.Command.{Command}
-use Rattle.zk_debug_views.specs.Diffs.{diff_text}
-use Rattle.zk_debug_views.specs.Lists.{list_text}
+use Rattle.zk_debug_session.specs.Diffs.{diff_text}
+use Rattle.zk_debug_session.specs.Lists.{list_text}
 use Rattle.zk_debug_session.specs.Texts.{told_line, told_bytes, help_text}
 use Rattle.zk_debug_session.specs.Words.{own_from}
 use Rattle.zk_debug_session.specs.declared.own.Own.{Own}

@@ -1,5 +1,12 @@
+pub mod Lists
+pub mod Diffs
 pub mod Words
 pub mod Texts
 pub mod Answering
-pub mod Hearing
+pub mod HearingBytes
 pub mod Prompts
+pub mod Lines
+pub mod HearingLines
+pub mod Talking
+pub mod Holding
+pub mod Laws

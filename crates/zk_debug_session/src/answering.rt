@@ -3,17 +3,18 @@ ghost use Rattle.std.specs.Prelude.{◌≡◌, ◌++◌, Some, IfOk, OnOk};
 ghost use Rattle.std.specs.String.{string_bytes};
 ghost use Rattle.zk_debug.specs.Debugging.{state_at};
 ghost use Rattle.zk_debug_script.specs.Answers.{seen_by};
-ghost use Rattle.zk_debug_views.specs.Diffs.{diff_text};
+ghost use Rattle.zk_debug_session.specs.Diffs.{diff_text};
 ghost use Rattle.zk_debug_session.specs.Answering.{Appends, ObeysInto, other_answer, own_answer, turn_after};
 ghost use Rattle.zk_debug_session.specs.Texts.{told_line};
 ghost use Rattle.zk_debug_session.specs.Words.{own_from};
 
+use crate::diff::spell_diff;
+use crate::list::spell_list;
 use crate::own::Own;
 use crate::reading::own_of;
 use crate::session::{Session, Turn};
 use crate::texts::{expected_of, help};
 use zk_debug_script::{Command, CommandFault, read_command, run_command};
-use zk_debug_views::{spell_diff, spell_list};
 use zk_path::NoMemory;
 
 /// Appends what is answered to one line, without its newline, and tells whether another is heard.

@@ -1,0 +1,72 @@
+//! The order `mend`: a log of 3.4 is written, and what is reported of it.
+ghost use Rattle.std.specs.Prelude.{◌≡◌, ◌+◌, ◌-◌, ◌<◌, ◌^◌, Ok};
+ghost use Rattle.std.specs.String.{string_bytes};
+ghost use Rattle.zk_journal.specs.Sinks.{write_failures_of};
+ghost use Rattle.zk_log.specs.Devices.{reads_of, read_failures_of};
+ghost use Rattle.zk_journal.specs.Written.{log_of};
+ghost use Rattle.zk_acting.specs.Mends.{MendsLog, OutputsBoth};
+ghost use Rattle.zk_acting.specs.Reports.{mend_report};
+
+use crate::fault_lines::tell_mend_fault;
+use crate::report::mend_report;
+use std::alloc::Global;
+use std::io::{Read, Write};
+use std::mem::forget;
+use zk_log::{LogFault, Sink, Source, write_log};
+use zk_mending::{MendFault, Mended, mend};
+use zk_orders::{TURNS, put_answers, tell};
+use zk_path::NoMemory;
+
+/// Mends the log of a newer server: writes the log of 3.4 with the same transactions, once the whole log was read, and then
+/// reports what that changed. Answers the exit status.
+pub fn mend_log<F: Read, O: Write, R: Write, E: Write>(
+    alloc: Global,
+    file: &mut Source<F>,
+    output: &mut Sink<O>,
+    report: &mut Sink<R>,
+    faults: &mut Sink<E>,
+) -> Result<u8, NoMemory>
+    requires reads { reads_of file.old + 1048576 < 2 ^ 64 }
+    requires read_failures { read_failures_of file.old < 2 ^ 64 - 1 }
+    requires output { write_failures_of output.old < 2 ^ 64 - 1 }
+    requires report { write_failures_of report.old < 2 ^ 64 - 1 }
+    requires faults { write_failures_of faults.old < 2 ^ 64 - 1 }
+    ensures { MendsLog F.remaining O.contents R.contents E.contents file.old file.new
+        output.old output.new report.old report.new faults.old faults.new result }
+{
+    match mend(alloc, file, TURNS) {
+        Ok(mended) => {
+            let status = put_mended(alloc, &mended, output, report, faults);
+            // The program ends with this: to give the memory back piece by piece would cost as much as to write the log.
+            forget(mended);
+            status
+        }
+        Err(MendFault::Log(LogFault::NoMemory)) => Err(NoMemory),
+        Err(fault) => tell_mend_fault(alloc, fault, faults),
+    }
+}
+
+/// Writes a mended log, and then the report of it. Answers the exit status.
+fn put_mended<O: Write, R: Write, E: Write>(
+    alloc: Global,
+    mended: &Mended,
+    output: &mut Sink<O>,
+    report: &mut Sink<R>,
+    faults: &mut Sink<E>,
+) -> Result<u8, NoMemory>
+    requires output { write_failures_of output.old < 2 ^ 64 - 1 }
+    requires report { write_failures_of report.old < 2 ^ 64 - 1 }
+    requires faults { write_failures_of faults.old < 2 ^ 64 - 1 }
+    ensures { OutputsBoth O.contents R.contents E.contents (log_of mended.now.dbid mended.now.journal)
+        (mend_report mended.now.told mended.now.ending) output.old output.new report.old report.new
+        faults.old faults.new result }
+{
+    let text = mend_report(alloc, mended)?;
+    match write_log(output, mended.dbid, &mended.journal) {
+        Ok(()) => Ok(put_answers(text.as_str(), report, faults)),
+        Err(_) => {
+            tell(faults, "zk: write\n");
+            Ok(1)
+        }
+    }
+}

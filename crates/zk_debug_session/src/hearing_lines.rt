@@ -1,0 +1,48 @@
+//! How a line is heard.
+ghost use Rattle.std.specs.Prelude.{◌≡◌, ◌-◌, ◌<◌, ◌^◌, IfOk};
+ghost use Rattle.zk_log.specs.Devices.{reader_of, reads_of, read_failures_of};
+ghost use Rattle.zk_debug_session.specs.HearingLines.{HeardAtEnd, Hears, ReadsSo};
+
+use crate::hearing_bytes::next_byte;
+use crate::line::Line;
+use crate::session::TalkFault;
+use std::io::Read;
+use zk_log::Source;
+
+/// What was heard.
+#[derive(Clone, Copy, Debug, PartialEq, Eq)]
+pub(crate) enum Heard {
+    /// A line.
+    Line,
+    /// The end of the input.
+    End,
+}
+
+/// Hears a line up to its newline, or up to the end of the input, and no byte behind it.
+pub(crate) fn hear_line<L: Read>(lines: &mut Source<L>, line: &mut Line) -> Result<Heard, TalkFault>
+    requires { read_failures_of lines.old < 2 ^ 64 - 1 }
+    ensures heard { Hears (L.remaining (reader_of lines.old)) (L.remaining (reader_of lines.new)) line.new result }
+    ensures so { ReadsSo lines.old result lines.new }
+    ensures more { IfOk result (λ heard. reads_of lines.old < reads_of lines.new) }
+    ensures room { IfOk result (λ heard. reads_of lines.old < 2 ^ 64 - 1) }
+{
+    line.begin();
+    'bytes: while lines.reads() < u64::MAX {
+        match next_byte(lines)? {
+            None => return Ok(heard_at_end(line)),
+            Some(b'\n') => return Ok(Heard::Line),
+            Some(byte) => line.push(byte)?,
+        }
+    }
+    Err(TalkFault::Read)
+}
+
+/// What was heard where the input ends: its last line may have no newline.
+fn heard_at_end(line: &Line) -> Heard
+    ensures { HeardAtEnd line.now result }
+{
+    if line.is_long || !line.bytes.is_empty() {
+        return Heard::Line;
+    }
+    Heard::End
+}

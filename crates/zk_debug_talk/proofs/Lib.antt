@@ -1,5 +1,0 @@
-pub mod BytesLaws
-pub mod LineLaws
-pub mod TurnLaws
-pub mod TalkLaws
-pub mod ScriptLaws

@@ -1,5 +1,0 @@
-pub mod Lines
-pub mod Hearing
-pub mod Talking
-pub mod Holding
-pub mod Laws

@@ -1,2 +1,0 @@
-pub mod DiffLaws
-pub mod ListLaws

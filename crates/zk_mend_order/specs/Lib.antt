@@ -1,4 +1,0 @@
--- What the contracts of this crate cite.
-pub mod FaultLines
-pub mod Mends
-pub mod Reports
