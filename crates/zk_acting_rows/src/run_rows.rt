@@ -4,13 +4,12 @@ use zab_broadcast::Caught;
 use zab_epoch::{Quorums, Weighted};
 use zab_runs::Moved;
 use zk_acl::{Acls, Stat};
-use zk_first_line::read_servers;
 use zk_machine::{ChangeKind, Machine};
 use zk_path::{NoMemory, Path};
 use zk_request_lines::{push_refusal, push_reply};
 use zk_run_script::{
     Ensemble, ScriptFault, push_answers, push_counted_tree, push_events, push_listing, push_syncs,
-    push_told, read_command, run_command, run_script,
+    push_told, read_command, read_servers, run_command, run_script,
 };
 use zk_runs::{Answer, Answered, EnsembleFault};
 use zk_table::{Op, PartResults, ReadReply, Txn, TxnResult};

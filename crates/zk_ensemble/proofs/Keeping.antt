@@ -19,9 +19,9 @@ use Rattle.zk_headline_laws.proofs.Headlines.{headline}
 use Rattle.zk_headline_laws.specs.Consequences.{FitEvents}
 use Rattle.zk_headline_laws.specs.Headline.{Shows}
 use Rattle.zk_requests.specs.declared.call.Call.{Call}
-use Rattle.zk_primary.specs.Entries.{entry_zxid}
 use Rattle.zk_replicas.specs.declared.kept.Kept.{Kept}
 use Rattle.zk_replicas.specs.Keeping.{IsOver, MayServe, IsShownBy, EachKept, WasKept, WasShown}
+use Rattle.zk_runs.specs.Entries.{entry_zxid}
 use Rattle.zk_runs.specs.declared.event.Event.{Event}
 use Rattle.zk_runs.specs.declared.event.Event.TheVariants as events
 use Rattle.zk_runs.specs.declared.event.Question.{Question}

@@ -22,7 +22,7 @@ use Rattle.zab_runs.specs.Worlds as zab
 use Rattle.zab_runs.specs.Worlds.{World, Profile, is_server, server_at, running, if_up, if_down, restarts}
 use Rattle.zk_requests.specs.declared.call.Call.{Call}
 use Rattle.zab_epoch.specs.Entries.{txns_of}
-use Rattle.zk_primary.specs.Entries.{entry_zxid}
+use Rattle.zk_runs.specs.Entries.{entry_zxid}
 use Rattle.zk_runs.specs.declared.answer.Answer.{Answer}
 use Rattle.zk_runs.specs.declared.event.Event.{Event}
 use Rattle.zk_runs.specs.declared.event.Event.TheVariants as events

@@ -14,10 +14,9 @@ use zab_world::{Caught, World, WorldFault};
 use zk_journal::Journal;
 use zk_machine::Machine;
 use zk_path::NoMemory;
-use zk_primary::Preparer;
 use zk_replicas::{Kept, Replica, find, look, peek};
 use zk_requests::Call;
-use zk_runs::{Answer, Answered, EnsembleFault, Event, Question};
+use zk_runs::{Answer, Answered, EnsembleFault, Event, Preparer, Question};
 use zk_watch::Fired;
 
 /// Servers with trees, and the messages between them, after some events. Servers are numbered from 1.

@@ -13,7 +13,7 @@ use std::alloc::Global;
 use std::sync::Wait;
 use std::sync::ledger::Ledger;
 use std::time;
-use zk_front_asks::Clock;
+use zk_front_local::Clock;
 use zk_servers::{Mark, Receipt, Seat, Senders, Shared};
 use zk_serving::{Ask, Service, ServiceFault, Told};
 

@@ -10,7 +10,7 @@ use crate::caller::{Caller, sent_by};
 use std::sync::Wait;
 use std::sync::ledger::Ledger;
 use zab_runs::Event as WorldEvent;
-use zk_front_asks::{HOME, service_fault_of};
+use zk_front_local::{HOME, service_fault_of};
 use zk_runs::{EnsembleFault, Event};
 use zk_serving::ServiceFault;
 

@@ -5,7 +5,7 @@ use std::sync::Wait;
 use std::sync::ledger::Ledger;
 use std::time::Duration;
 use std::{thread, time};
-use zk_front_asks::{HOME, Sought};
+use zk_front_local::{HOME, Sought};
 use zk_servers::{Mark, Outcome};
 use zk_serving::ServiceFault;
 

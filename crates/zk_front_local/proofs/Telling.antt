@@ -5,8 +5,8 @@ use Rattle.zk_connections.specs.declared.told.Reply.{Reply}
 use Rattle.zk_connections.specs.declared.told.ServiceFault.{ServiceFault}
 use Rattle.zk_connections.specs.declared.told.Told.{Told}
 use Rattle.zk_ensemble.specs.Views.{EnsembleView}
-use Rattle.zk_front_asks.specs.Asks.{session_of, event_of, sought_by, service_fault_of}
-use Rattle.zk_front_asks.specs.declared.sought.Sought.{Sought}
+use Rattle.zk_front_local.specs.Asks.{session_of, event_of, sought_by, service_fault_of}
+use Rattle.zk_front_local.specs.declared.sought.Sought.{Sought}
 use Rattle.zk_front_local.specs.Arriving.{Delivered, IsUndelivered}
 use Rattle.zk_front_local.specs.Happening.{Happens}
 use Rattle.zk_front_local.specs.Locals.{Asks, IsToldAll, MayReply, Settles, Tells, home_at, reply_by, untold}

@@ -10,9 +10,9 @@ use Rattle.zk_connections.specs.declared.told.ServiceFault.TheVariants as servic
 use Rattle.zk_connections.specs.declared.told.Told.{Told}
 use Rattle.zk_ensemble.specs.Outcomes.{answered_with, caught_with, news_of}
 use Rattle.zk_ensemble.specs.Views.{EnsembleView, answers_in, events_in, tree_in}
-use Rattle.zk_front_asks.specs.Asks.{session_of, event_of, next_tag, sought_by, wrote_by, looked_by, caught_by, service_fault_of}
-use Rattle.zk_front_asks.specs.declared.sought.Sought.{Sought}
-use Rattle.zk_front_asks.specs.declared.sought.Sought.TheVariants as seeks
+use Rattle.zk_front_local.specs.Asks.{session_of, event_of, next_tag, sought_by, wrote_by, looked_by, caught_by, service_fault_of}
+use Rattle.zk_front_local.specs.declared.sought.Sought.{Sought}
+use Rattle.zk_front_local.specs.declared.sought.Sought.TheVariants as seeks
 use Rattle.zk_machine.specs.declared.change.Change.{Change}
 use Rattle.zk_runs.specs.Ensembles as ensembles
 use Rattle.zk_runs.specs.Ensembles.{Shown, shown_at}

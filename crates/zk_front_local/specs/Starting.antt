@@ -6,7 +6,7 @@ use Rattle.zab_runs.specs.Worlds.{new_world}
 use Rattle.zk_connections.specs.declared.told.ServiceFault.{ServiceFault}
 use Rattle.zk_connections.specs.declared.told.ServiceFault.TheVariants as services
 use Rattle.zk_ensemble.specs.Views.{EnsembleView}
-use Rattle.zk_front_asks.specs.Asks.{service_fault_of}
+use Rattle.zk_front_local.specs.Asks.{service_fault_of}
 use Rattle.zk_runs.specs.Ensembles.{fresh}
 use Rattle.zk_runs.specs.declared.event.Event.{Event}
 use Rattle.zk_runs.specs.declared.event.Event.TheVariants as events

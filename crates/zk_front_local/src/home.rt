@@ -3,13 +3,15 @@
 ghost use Rattle.std.specs.Prelude.{◌≡◌, Ok, IfOk, OnOk, OnErr};
 ghost use Rattle.zk_front_local.specs.Locals.{Asks, IsNewHome, IsToldAll, Settles, Tells, mark_of, reply_by, untold};
 
+use crate::event::{HOME, event_of, session_of};
 use crate::happening::happen;
+use crate::reply::service_fault_of;
 use crate::servers::Servers;
+use crate::sought::{Sought, sought_by};
 use std::alloc::Global;
 use std::collections::BTreeMap;
 use zk_connections::{Ask, Events, Reply, ServiceFault, Told};
 use zk_ensemble::Answer;
-use zk_front_asks::{HOME, Sought, event_of, service_fault_of, session_of, sought_by};
 use zk_path::NoMemory;
 
 /// The ensemble, and behind how many of server 1's events each session was told last.

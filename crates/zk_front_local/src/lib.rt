@@ -1,15 +1,24 @@
 //! A service over an ensemble in this process: what is asked happens at server 1, which leads, and every message arrives before
-//! the next ask.
+//! the next ask. And what the services over ensembles share: what an ask of a connection makes happen at a server, what its answer
+//! is found by there, and how a refusal is told.
 //!
-//! Own; what an ask makes happen stands in `zk_front_asks`, and what an ensemble answers and fires in `zk_ensemble`.
+//! Own; what an ask is stands in `zk_connections`, what happens in an ensemble in `zk_runs`, and what an ensemble answers and fires
+//! in `zk_ensemble`.
 #![tactic(auto)]
 
+mod clock;
+mod event;
 mod happening;
 mod home;
 mod local;
+mod reply;
 mod servers;
+mod sought;
 mod start;
 
+pub use clock::Clock;
+pub use event::{HOME, event_of, next_tag, session_of};
 pub use local::Local;
-pub use zk_front_asks::Clock;
+pub use reply::{caught_by, looked_by, service_fault_of};
+pub use sought::{Sought, sought_by};
 pub use zk_serving::{Ask, Events, FrontFault, Reply, Service, ServiceFault, Told, serve_lines};

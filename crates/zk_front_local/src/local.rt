@@ -2,11 +2,12 @@ ghost use Rattle.std.specs.Prelude.{IfOk, IfErr};
 ghost use Rattle.zk_front_local.specs.Locals.{IsStarted};
 ghost use Rattle.zk_front_local.specs.Starting.{IsUnbegun};
 
+use crate::clock::Clock;
+use crate::event::next_tag;
 use crate::home::Home;
 use crate::start::start;
 use std::alloc::Global;
 use zk_connections::{Ask, ServiceFault, Told};
-use zk_front_asks::{Clock, next_tag};
 use zk_serving::Service;
 
 /// A service over an ensemble in this process: what is asked happens at server 1, which leads, and all messages arrive before

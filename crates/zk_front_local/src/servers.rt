@@ -1,17 +1,19 @@
 //! An ensemble whose messages arrive in order of number, each once, and what came of an ask there.
 
 ghost use Rattle.std.specs.Prelude.{◌≡◌, ◌<◌, ◌≤◌, ◌+◌, ◌^◌, length, true, false, OnOk, OnErr, IfErr};
-ghost use Rattle.zk_front_asks.specs.Asks.{caught_by, wrote_by};
+ghost use Rattle.zk_front_local.specs.Asks.{caught_by, wrote_by};
 ghost use Rattle.zk_front_local.specs.Arriving.{ArrivesNext, Delivered, LacksNext, IsUndelivered};
 ghost use Rattle.zk_front_local.specs.Locals.{MayReply, home_of, reply_by};
 ghost use Rattle.zk_ensemble.specs.Outcomes.{answered_with, caught_with};
 ghost use Rattle.zk_ensemble.specs.Views.{answers_in};
 ghost use Rattle.zab_runs.specs.Runs.{syncs_of};
 
+use crate::event::HOME;
 use crate::happening::{happen, is_lack};
+use crate::reply::{caught_by, looked_by};
+use crate::sought::Sought;
 use zk_connections::{Reply, ServiceFault};
 use zk_ensemble::{Answer, Ensemble, Event};
-use zk_front_asks::{HOME, Sought, caught_by, looked_by};
 use zk_path::NoMemory;
 
 /// The most messages that arrive at a time.

@@ -5,12 +5,13 @@ ghost use Rattle.zk_front_local.specs.Happening.{Ran};
 ghost use Rattle.zk_runs.specs.declared.event.Event.TheVariants as events;
 ghost use Rattle.zk_front_local.specs.Starting.{BrokeOff, IsBegun, IsUnbegun, Refused, beginning, followers, new_view};
 
+use crate::event::HOME;
 use crate::happening::happen;
+use crate::reply::service_fault_of;
 use crate::servers::Servers;
 use std::alloc::Global;
 use zk_connections::ServiceFault;
 use zk_ensemble::{Ensemble, Event};
-use zk_front_asks::{HOME, service_fault_of};
 use zk_requests::Call;
 
 /// A new ensemble of so many servers: server 1 leads, the others follow it, and all messages have arrived.

@@ -1,6 +1,6 @@
 //! The worked rows of the line front: clients' lines over memory, and what they are answered. The tests of `zk_front_lines`,
-//! `zk_connections`, `zk_serving`, `zk_front_asks` and `zk_front_local`, and no code of its own. Lines over loopback are sent to the
-//! program by `checks/serve.sh`.
+//! `zk_connections`, `zk_serving` and `zk_front_local`, and no code of its own. Lines over loopback are sent to the program by
+//! `checks/serve.sh`.
 //!
 //! They stand apart from the crates that they test, as those of `zk_rows` do, and for the same reason. Expected values come from
 //! the definitions of the protocol. What is large is let go by `drop`, and functions that may end early are lent it: the end of

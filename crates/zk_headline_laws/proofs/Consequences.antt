@@ -20,7 +20,7 @@ use Rattle.zk_prepared_laws.proofs.Refusing.{refused_only_as_error, multi_is_who
 use Rattle.zk_prepared_laws.proofs.Sessions.{sessions_of_calls}
 use Rattle.zk_prepared_laws.proofs.Standing.{owners_are_open}
 use Rattle.zab_epoch.specs.Entries.{txns_of}
-use Rattle.zk_primary.specs.Entries.{entry_zxid}
+use Rattle.zk_runs.specs.Entries.{entry_zxid}
 use Rattle.zk_runs.specs.declared.event.Event.{Event}
 use Rattle.zk_runs.specs.declared.event.Event.TheVariants as events
 use Rattle.zk_headline_laws.specs.Consequences.{FitsInWorld, FitEvents, HasConsequences}

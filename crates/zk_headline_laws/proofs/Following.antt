@@ -5,7 +5,7 @@ use Rattle.zab_move_laws.proofs.Telling.{all_append}
 use Rattle.zab_origin_laws.proofs.Origins.{tagged_once}
 use Rattle.zab_sync_laws.proofs.SyncRuns.{are_caught}
 use Rattle.zab_agreement_laws.proofs.AgreeRuns.{runs_agree}
-use Rattle.zk_primary.specs.Entries.{entry_zxid}
+use Rattle.zk_runs.specs.Entries.{entry_zxid}
 use Rattle.zk_runs.specs.declared.event.Event.{Event}
 use Rattle.zk_headline_laws.specs.Consequences.{FitsEvent, FitEvents}
 use Rattle.zk_runs.specs.Ensembles.{Ensemble, profile_by}

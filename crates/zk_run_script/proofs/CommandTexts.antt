@@ -26,7 +26,7 @@ use Rattle.zk_run_script.specs.declared.command.Command.TheVariants as commands
 use Rattle.zk_run_script.specs.declared.command.Report.{Report}
 use Rattle.zk_run_script.specs.declared.command.Report.TheVariants as reports
 use Rattle.zk_run_script.specs.Commands.{IsNumber, SpellsNumber, SpellsSubmit, SpellsExpire, SpellsRead, report_word, SpellsCommand, IsAmong, Says, SaysNothing, ReadsCommand}
-use Rattle.zk_run_script.specs.Reading.{two_at, SubmitFields, submit_at, submitted, ExpireFields, expire_at, expired, ReadFields, read_at, read_by, command_words, command_at, is_among, is_left_alone, among_result}
+use Rattle.zk_run_script.specs.CommandReading.{two_at, SubmitFields, submit_at, submitted, ExpireFields, expire_at, expired, ReadFields, read_at, read_by, command_words, command_at, is_among, is_left_alone, among_result}
 use Rattle.zk_run_script.proofs.Wholes.{whole_last, whole_next, next_is, last_is, begins, behind_whole, mapped_whole, IsTested, tested_is, tested_only, tested_none, untold}
 
 -- ---- fields

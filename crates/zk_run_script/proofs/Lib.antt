@@ -1,4 +1,6 @@
 pub mod Wholes
 pub mod CommandTexts
+pub mod Weights
+pub mod FirstLineTexts
 pub mod Kept
 pub mod PlaysLaws

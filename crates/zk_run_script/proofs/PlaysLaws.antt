@@ -5,7 +5,7 @@ use Rattle.zk_ensemble.specs.Views.{EnsembleView}
 use Rattle.zk_listing.specs.declared.fault.ListCause.{ListCause}
 use Rattle.zk_listing.specs.declared.fault.ListCause.TheVariants as causes
 use Rattle.zk_path.specs.declared.memory.NoMemory.{NoMemory}
-use Rattle.zk_first_line.specs.FirstLines.{SaysServers, ReadsServers}
+use Rattle.zk_run_script.specs.FirstLines.{SaysServers, ReadsServers}
 use Rattle.zk_run_script.specs.Commands.{Says, SaysNothing, ReadsCommand}
 use Rattle.zk_run_script.specs.declared.command.Command.{Command}
 use Rattle.zk_reports.specs.Lines.{lines_of}

@@ -1,6 +1,8 @@
 -- What the contracts of this crate cite.
 pub mod Answers
+pub mod CommandReading
 pub mod Commands
-pub mod Reading
+pub mod FirstLineReading
+pub mod FirstLines
 pub mod Playing
 pub mod Scripts

@@ -1,7 +1,7 @@
 -- What a run script is answered. This project's own.
 use Rattle.std.specs.Prelude.{◌≡◌, ◌+◌, ◌⊎◌, ℕ, List, [], ◌∷◌, ◌++◌, length, Result, Ok, Err, codes}
 use Rattle.zk_ensemble.specs.Views.{EnsembleView}
-use Rattle.zk_first_line.specs.FirstLines.{SaysServers}
+use Rattle.zk_run_script.specs.FirstLines.{SaysServers}
 use Rattle.zk_run_script.specs.Commands.{Says, SaysNothing}
 use Rattle.zk_run_script.specs.declared.command.Command.{Command}
 use Rattle.zk_reports.specs.Lines.{lines_of}

@@ -3,12 +3,12 @@ ghost use Rattle.std.specs.Prelude.{◌≡◌, ◌++◌, ◌≤◌};
 ghost use Rattle.std.specs.String.{string_bytes};
 ghost use Rattle.zk_run_script.specs.Scripts.{RunsScript, BeginsOrNot, Plays};
 
+use crate::command_reading::read_command;
+use crate::first_line_reading::read_servers;
 use crate::playing::run_command;
-use crate::reading::read_command;
 use std::alloc::Global;
 use zab_epoch::Weighted;
 use zk_ensemble::Ensemble;
-use zk_first_line::read_servers;
 use zk_listing::ListCause;
 use zk_reports::{ScriptFault, next_line};
 

@@ -16,7 +16,7 @@ use Rattle.zab_runs.specs.Worlds.{World, Profile, profile_of, new_world, is_serv
 use Rattle.zk_machine.specs.Changes.{changes_of}
 use Rattle.zk_requests.specs.declared.call.Call.{Call}
 use Rattle.zk_requests.specs.Requests.{is_open, closing_call}
-use Rattle.zk_primary.specs.Entries.{entry_of}
+use Rattle.zk_runs.specs.Entries.{entry_of}
 use Rattle.zk_runs.specs.declared.answer.Answer.{Answer}
 use Rattle.zk_runs.specs.declared.answer.Answer.TheVariants.{Moved as HasMoved, Looked}
 use Rattle.zk_runs.specs.declared.answer.Answered.{Answered}

@@ -1,5 +1,5 @@
 use Rattle.std.proofs.Common.{refl}
-use Rattle.zk_primary.specs.Entries.{entry_zxid}
+use Rattle.zk_runs.specs.Entries.{entry_zxid}
 use Rattle.zk_runs.specs.Ensembles.{profile_by}
 use Rattle.zk_headline_laws.proofs.Headlines.{headline}
 use Rattle.zk_headline_laws.proofs.laws.every_run_keeps_the_headline.Goals as goal

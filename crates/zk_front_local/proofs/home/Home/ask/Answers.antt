@@ -1,6 +1,6 @@
 use Rattle.std.proofs.Common.{◌≡◌, ℤ, w64, to_z, of_z, ap, subst, ◌∙◌}
 use Rattle.std.proofs.lemmas.Int.{to_z-of_z}
-use Rattle.zk_front_asks.specs.Asks.{event_of}
+use Rattle.zk_front_local.specs.Asks.{event_of}
 use Rattle.zk_front_local.specs.Locals.{Settles, home_at}
 use Rattle.zk_front_local.proofs.Telling.{asks_answered, asks_refused}
 use Rattle.zk_front_local.proofs.home.Home.ask.Goals as goal

@@ -14,9 +14,9 @@ use Rattle.zk_listing.specs.declared.fault.ListCause.TheVariants as causes
 use Rattle.zk_listing.proofs.Exact.{bind_some, first_is, second_is}
 use Rattle.zk_request_lines.specs.Reading.{number_at}
 use Rattle.zk_request_lines.proofs.Readings.{TakesBehind, by_word_takes, ReadsWhole, nothing_left}
-use Rattle.zk_first_line.specs.FirstLines.{field, SpellsWeights, SaysServers, ReadsServers}
-use Rattle.zk_first_line.specs.Reading.{servers_at, weights_of, counted_weights, first_at, are_right, are_right_alone}
-use Rattle.zk_first_line.proofs.Weights.{Fit, spaced_number, if_some, listed_takes, listed_again}
+use Rattle.zk_run_script.specs.FirstLines.{field, SpellsWeights, SaysServers, ReadsServers}
+use Rattle.zk_run_script.specs.FirstLineReading.{servers_at, weights_of, counted_weights, first_at, are_right, are_right_alone}
+use Rattle.zk_run_script.proofs.Weights.{Fit, spaced_number, if_some, listed_takes, listed_again}
 
 -- ---- the number of servers
 

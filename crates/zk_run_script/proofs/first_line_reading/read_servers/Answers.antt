@@ -1,6 +1,6 @@
 use Rattle.std.proofs.lemmas.Result.{err_from_is_err_and}
-use Rattle.zk_first_line.proofs.Texts.{unread, reads}
-use Rattle.zk_first_line.proofs.reading.read_servers.Goals as goal
+use Rattle.zk_run_script.proofs.FirstLineTexts.{unread, reads}
+use Rattle.zk_run_script.proofs.first_line_reading.read_servers.Goals as goal
 
 pub returns-in_err-weights : goal.returns-in_err-weights
 returns-in_err-weights c =

@@ -1,5 +1,5 @@
 use Rattle.zk_run_script.proofs.CommandTexts.{reads_command}
-use Rattle.zk_run_script.proofs.reading.read_command.Goals as goal
+use Rattle.zk_run_script.proofs.command_reading.read_command.Goals as goal
 
 pub returns : goal.returns
 returns c =

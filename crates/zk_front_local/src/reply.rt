@@ -1,7 +1,7 @@
 //! What is told for what was found, and for a refusal.
 
 ghost use Rattle.std.specs.Prelude.{◌≡◌};
-ghost use Rattle.zk_front_asks.specs.Asks.{caught_by, looked_by, service_fault_of};
+ghost use Rattle.zk_front_local.specs.Asks.{caught_by, looked_by, service_fault_of};
 
 use zk_connections::{Reply, ServiceFault};
 use zk_runs::{Answer, EnsembleFault};

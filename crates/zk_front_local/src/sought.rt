@@ -1,5 +1,5 @@
 ghost use Rattle.std.specs.Prelude.{◌≡◌};
-ghost use Rattle.zk_front_asks.specs.Asks.{sought_by};
+ghost use Rattle.zk_front_local.specs.Asks.{sought_by};
 
 use zk_connections::Ask;
 

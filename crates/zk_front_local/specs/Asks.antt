@@ -14,8 +14,8 @@ use Rattle.zk_runs.specs.declared.event.Event.{Event}
 use Rattle.zk_runs.specs.declared.event.Event.TheVariants as events
 use Rattle.zk_runs.specs.declared.fault.EnsembleFault.{EnsembleFault}
 use Rattle.zk_runs.specs.declared.fault.EnsembleFault.TheVariants as faults
-use Rattle.zk_front_asks.specs.declared.sought.Sought.{Sought}
-use Rattle.zk_front_asks.specs.declared.sought.Sought.TheVariants as seeks
+use Rattle.zk_front_local.specs.declared.sought.Sought.{Sought}
+use Rattle.zk_front_local.specs.declared.sought.Sought.TheVariants as seeks
 
 -- ---- what an ask makes happen
 

@@ -1,8 +1,8 @@
-//! The reader of the line.
+//! The reader of the first line.
 ghost use Rattle.std.specs.Prelude.{◌≡◌, ◌≢◌, ◌≤◌, true, false, IfOk, IfErr, Err};
 ghost use Rattle.zk_listing.specs.Reading.{Takes, many_at};
-ghost use Rattle.zk_first_line.specs.FirstLines.{ReadsServers};
-ghost use Rattle.zk_first_line.specs.Reading.{servers_at, weight_at, listed_at, weights_of, first_at, are_right_alone};
+ghost use Rattle.zk_run_script.specs.FirstLines.{ReadsServers};
+ghost use Rattle.zk_run_script.specs.FirstLineReading.{servers_at, weight_at, listed_at, weights_of, first_at, are_right_alone};
 
 use crate::server_weights::{MOST_SERVERS, ServerWeights};
 use std::alloc::Global;
@@ -36,7 +36,7 @@ fn weighted(alloc: Global, weights: &ServerWeights, left: &str) -> Result<Weight
     }
 }
 
-#[tactic(auto, unfolding(crate::specs::Reading::first_at))]
+#[tactic(auto, unfolding(crate::specs::FirstLineReading::first_at))]
 fn first(input: &mut &str) -> Result<ServerWeights, ListCause>
     ensures taken { Takes result input.new.now (first_at input.old.now) }
     ensures memory { IfErr result (λ cause. cause ≢ ListCause.NoMemory) }
@@ -48,7 +48,7 @@ fn first(input: &mut &str) -> Result<ServerWeights, ListCause>
     weights(count, input)
 }
 
-#[tactic(auto, unfolding(crate::specs::Reading::servers_at))]
+#[tactic(auto, unfolding(crate::specs::FirstLineReading::servers_at))]
 fn servers(input: &mut &str) -> Result<usize, ListCause>
     ensures taken { Takes result input.new.now (servers_at input.old.now) }
     ensures memory { IfErr result (λ cause. cause ≢ ListCause.NoMemory) }
@@ -72,7 +72,7 @@ fn weights(count: usize, input: &mut &str) -> Result<ServerWeights, ListCause>
 }
 
 /// The word for weights behind a space, and so many weights.
-#[tactic(auto, unfolding(crate::specs::Reading::listed_at))]
+#[tactic(auto, unfolding(crate::specs::FirstLineReading::listed_at))]
 fn listed(count: usize, input: &mut &str) -> Result<ServerWeights, ListCause>
     requires { count ≤ 15 }
     ensures taken { Takes result input.new.now (listed_at count input.old.now) }
@@ -99,7 +99,7 @@ fn each(count: usize, input: &mut &str) -> Result<ServerWeights, ListCause>
 }
 
 /// A weight behind a space.
-#[tactic(auto, unfolding(crate::specs::Reading::weight_at))]
+#[tactic(auto, unfolding(crate::specs::FirstLineReading::weight_at))]
 fn weight(input: &mut &str) -> Result<u32, ListCause>
     ensures taken { Takes result input.new.now (weight_at input.old.now) }
     ensures memory { IfErr result (λ cause. cause ≢ ListCause.NoMemory) }

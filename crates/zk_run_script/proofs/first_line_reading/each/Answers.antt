@@ -3,8 +3,8 @@ use Rattle.std.proofs.lemmas.List.{length-append}
 use Rattle.std.proofs.lemmas.Result.{err_from_is_err_and}
 use Rattle.zk_listing.specs.Reading.{many_at}
 use Rattle.zk_listing.proofs.Turns.{goes_on, ends, is_done}
-use Rattle.zk_first_line.specs.Reading.{weight_at}
-use Rattle.zk_first_line.proofs.reading.each.Goals as goal
+use Rattle.zk_run_script.specs.FirstLineReading.{weight_at}
+use Rattle.zk_run_script.proofs.first_line_reading.each.Goals as goal
 
 pub returns-in_err-weight-clause-taken : goal.returns-in_err-weight-clause-taken
 returns-in_err-weight-clause-taken c =

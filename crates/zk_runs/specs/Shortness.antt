@@ -9,7 +9,7 @@ use Rattle.zk_records.specs.Records.{record_of}
 use Rattle.zk_records.specs.Sizes.{size_of}
 use Rattle.zk_requests.specs.declared.call.Call.{Call}
 use Rattle.zk_requests.specs.Requests.{within_limit}
-use Rattle.zk_primary.specs.Entries.{entry_of}
+use Rattle.zk_runs.specs.Entries.{entry_of}
 use Rattle.zk_txn.specs.Codes.{bad_arguments}
 use Rattle.zk_txn.specs.declared.txn.Op.TheVariants as ops
 use Rattle.zk_txn.specs.declared.txn.Txn.{Txn}

@@ -11,8 +11,8 @@ use Rattle.zk_request_lines.specs.Reading.{by_word, number_at}
 use Rattle.zk_request_lines.proofs.FieldLaws.{many_takes, many_again}
 use Rattle.zk_request_lines.proofs.NumberLaws.{number_exact}
 use Rattle.zk_request_lines.proofs.Readings.{TakesBehind, by_word_takes}
-use Rattle.zk_first_line.specs.FirstLines.{field}
-use Rattle.zk_first_line.specs.Reading.{if_weight, weight_at, listed_at}
+use Rattle.zk_run_script.specs.FirstLines.{field}
+use Rattle.zk_run_script.specs.FirstLineReading.{if_weight, weight_at, listed_at}
 
 pub spaced_number : IsExact field (λ n. n < 2 ^ 64) (spaced number_at)
 spaced_number = exact_spaced decimal (λ n. n < 2 ^ 64) number_at number_exact

@@ -1,7 +1,7 @@
 ghost use Rattle.std.specs.Prelude.{refl};
 ghost use Rattle.zk_requests.specs.Requests.{closing_call};
-ghost use Rattle.zk_primary.specs.Entries.{Prepares, entry_of, entry_zxid};
-ghost use Rattle.zk_primary.specs.Shortness.{entry_is_short};
+ghost use Rattle.zk_runs.specs.Entries.{Prepares, entry_of, entry_zxid};
+ghost use Rattle.zk_runs.specs.Shortness.{entry_is_short};
 
 use std::alloc::Global;
 use zab_broadcast::Primary;

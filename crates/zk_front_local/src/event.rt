@@ -1,7 +1,7 @@
 //! What an ask makes happen.
 
 ghost use Rattle.std.specs.Prelude.{◌≡◌};
-ghost use Rattle.zk_front_asks.specs.Asks.{event_of, next_tag, session_of};
+ghost use Rattle.zk_front_local.specs.Asks.{event_of, next_tag, session_of};
 
 use zk_connections::Ask;
 use zk_requests::Call;

@@ -1,8 +1,8 @@
 -- The weights so far stand in front of those that are still read.
 use Rattle.std.proofs.Common.{◌≡◌, ◌-◌, length}
 use Rattle.zk_listing.specs.Reading.{many_at, behind}
-use Rattle.zk_first_line.specs.Reading.{weight_at}
-use Rattle.zk_first_line.proofs.reading.each.Given as goal
+use Rattle.zk_run_script.specs.FirstLineReading.{weight_at}
+use Rattle.zk_run_script.proofs.first_line_reading.each.Given as goal
 
 abbrev pub invariant-loop : goal.invariant-loop
 invariant-loop l =

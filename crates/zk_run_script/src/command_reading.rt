@@ -1,9 +1,9 @@
-//! The reader of one line.
+//! The reader of a line that says a command.
 ghost use Rattle.std.specs.Prelude.{◌≡◌, ◌≢◌, IfErr};
 ghost use Rattle.zk_listing.specs.Reading.{Takes, spaced, mapped};
 ghost use Rattle.zk_request_lines.specs.Reading.{number_at};
 ghost use Rattle.zk_run_script.specs.Commands.{ReadsCommand};
-ghost use Rattle.zk_run_script.specs.Reading.{two_at, submit_at, expire_at, read_at, submitted, expired, read_by, reported_at, command_at, is_among, among_result};
+ghost use Rattle.zk_run_script.specs.CommandReading.{two_at, submit_at, expire_at, read_at, submitted, expired, read_by, reported_at, command_at, is_among, among_result};
 ghost use Rattle.zk_run_script.specs.declared.command.Command.TheVariants as commands;
 ghost use Rattle.zk_runs.specs.declared.event.Event.TheVariants as events;
 ghost use Rattle.zab_runs.specs.declared.event.Event.TheVariants.{Follow as WorldFollow, Sync as WorldSync};
@@ -49,7 +49,7 @@ fn is_among(servers: usize, command: &Command) -> bool
     }
 }
 
-#[tactic(auto, unfolding(crate::specs::Reading::command_at))]
+#[tactic(auto, unfolding(crate::specs::CommandReading::command_at))]
 fn command(alloc: Global, input: &mut &str) -> Result<Command, ListCause>
     ensures { Takes result input.new.now (command_at input.old.now) }
 {
@@ -96,7 +96,7 @@ fn follow(input: &mut &str) -> Result<Command, ListCause>
     Ok(happens(WorldEvent::Follow { server, leader }))
 }
 
-#[tactic(auto, unfolding(crate::specs::Reading::submit_at))]
+#[tactic(auto, unfolding(crate::specs::CommandReading::submit_at))]
 fn submit(alloc: Global, input: &mut &str) -> Result<Command, ListCause>
     ensures { Takes result input.new.now (mapped submitted submit_at input.old.now) }
 {
@@ -118,7 +118,7 @@ fn submit(alloc: Global, input: &mut &str) -> Result<Command, ListCause>
     Ok(happens(WorldEvent::Submit { server, call }))
 }
 
-#[tactic(auto, unfolding(crate::specs::Reading::expire_at))]
+#[tactic(auto, unfolding(crate::specs::CommandReading::expire_at))]
 fn expire(input: &mut &str) -> Result<Command, ListCause>
     ensures { Takes result input.new.now (mapped expired expire_at input.old.now) }
 {
@@ -142,7 +142,7 @@ fn sync(input: &mut &str) -> Result<Command, ListCause>
     Ok(happens(WorldEvent::Sync { server, tag }))
 }
 
-#[tactic(auto, unfolding(crate::specs::Reading::read_at))]
+#[tactic(auto, unfolding(crate::specs::CommandReading::read_at))]
 fn read(alloc: Global, input: &mut &str) -> Result<Command, ListCause>
     ensures { Takes result input.new.now (mapped read_by read_at input.old.now) }
 {
