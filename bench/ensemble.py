@@ -2,11 +2,11 @@
 """Measures what an event of an ensemble costs, beside applying what its servers deliver; what ten times the calls cost; and
 what a follower costs that joins its leader again and lacks ten entries of many.
 
-usage: bench/ensemble.py     in a checkout where `rt ci`, or `rt run` in crates/zk_load, has left the proved program
+usage: bench/ensemble.py     in a checkout where `rt ci`, or `rt test` in crates/zk_load_rows, has left the proved test program
 
-The program runs five servers under 2,000 calls, waits, and then applies what the last leader has delivered to as many machines as
+The load `ensemble` runs five servers under 2,000 calls, waits, and then applies what the last leader has delivered to as many machines as
 it is told; at its end it frees what the servers hold, which no server does while it runs. What the calls took is read while the
-program waits. The least of several runs counts; what the machines cost is taken from a run with a hundred of them. What it costs to
+load waits. The least of several runs counts; what the machines cost is taken from a run with a hundred of them. What it costs to
 join again is taken from runs in which that happens a thousand times, behind 2,000 and 100,000 calls, each beside a run with as many
 calls in which nobody joins again.
 """
@@ -16,7 +16,7 @@ import sys
 import time
 
 HERE = os.path.dirname(os.path.abspath(__file__))
-LOAD = os.path.join(HERE, "..", "crates", "zk_load", "out", "zk_load")
+TESTS = os.path.join(HERE, "..", "crates", "zk_load_rows", "out", "zk_load_rows_tests")
 CALLS = 2000
 SERVERS = 5
 MACHINES = 100
@@ -36,12 +36,13 @@ def taken(pid):
 
 def run(calls, machines=0, joins=0):
     """The CPU seconds up to the end of the calls, those of the whole run, its events, and its steps of machines."""
-    words = [str(it) for it in (calls, machines, joins)]
-    child = subprocess.Popen([LOAD, "ensemble", *words], stdin=subprocess.PIPE, stdout=subprocess.PIPE)
-    told = [child.stdout.readline().decode().split()]
+    words = "%d %d %d" % (calls, machines, joins)
+    child = subprocess.Popen([TESTS, "loads::ensemble"], env={**os.environ, "ZK_LOAD": words},
+                             stdin=subprocess.PIPE, stdout=subprocess.DEVNULL, stderr=subprocess.PIPE)
+    told = [child.stderr.readline().decode().split()]
     seconds = taken(child.pid)
     child.stdin.close()
-    told += [line.split() for line in child.stdout.read().decode().splitlines()]
+    told += [line.split() for line in child.stderr.read().decode().splitlines()]
     _, status, usage = os.wait4(child.pid, 0)
     # between the first line and the last, one for each server
     if status or len(told) != SERVERS + 2 or int(told[0][0]) != calls:

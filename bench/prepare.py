@@ -1,9 +1,9 @@
 #!/usr/bin/env python3
 """Measures what a request costs that a leader prepares and takes, while its tree grows.
 
-usage: bench/prepare.py     in a checkout where `rt ci`, or `rt run` in crates/zk_load, has left the proved program
+usage: bench/prepare.py     in a checkout where `rt ci`, or `rt test` in crates/zk_load_rows, has left the proved test program
 
-The program is run with 50,000 creates and as many sets, and with 100,000; the second half is what the longer run takes
+The load `prepare` is run with 50,000 creates and as many sets, and with 100,000; the second half is what the longer run takes
 beyond the shorter one. The least of several runs counts.
 """
 import os
@@ -11,15 +11,16 @@ import subprocess
 import sys
 
 HERE = os.path.dirname(os.path.abspath(__file__))
-LOAD = os.path.join(HERE, "..", "crates", "zk_load", "out", "zk_load")
+TESTS = os.path.join(HERE, "..", "crates", "zk_load_rows", "out", "zk_load_rows_tests")
 HALF = 50000
 TURNS = 5
 
 
 def seconds(count):
     """The CPU seconds of a run."""
-    child = subprocess.Popen([LOAD, "prepare", str(count)], stdout=subprocess.PIPE)
-    told = child.stdout.read().decode()
+    env = {**os.environ, "ZK_LOAD": str(count)}
+    child = subprocess.Popen([TESTS, "loads::prepare"], env=env, stdout=subprocess.DEVNULL, stderr=subprocess.PIPE)
+    told = child.stderr.read().decode()
     _, status, usage = os.wait4(child.pid, 0)
     if status or told != "%d creates and as many sets, 0 refused\n" % count:
         sys.exit("%d: status %d, %r" % (count, os.waitstatus_to_exitcode(status), told))

@@ -2,7 +2,7 @@
 """Measures how many reads a second the readers of one server's view answer together, beside a thread that calls; and what a publish
 costs beside applying its transactions.
 
-usage: bench/readers.py     in a checkout where `rt ci`, or `rt run` in crates/zk_load, has left the proved program
+usage: bench/readers.py     in a checkout where `rt ci`, or `rt test` in crates/zk_load_rows, has left the proved test program
 
 The seconds of reads are those of a clock on the wall, less those of a run without reads; so nothing else may run on the machine.
 One core is the calling thread's, and as many others as there are readers are free, if the machine has them.
@@ -19,7 +19,7 @@ import sys
 import time
 
 HERE = os.path.dirname(os.path.abspath(__file__))
-LOAD = os.path.join(HERE, "..", "crates", "zk_load", "out", "zk_load")
+TESTS = os.path.join(HERE, "..", "crates", "zk_load_rows", "out", "zk_load_rows_tests")
 READERS = (1, 2, 4)
 READS = 1_000_000
 # nodes, transactions, how many times over
@@ -30,10 +30,11 @@ TURNS = 5
 
 def run(readers, reads, nodes=0, txns=0, at_once=1, views=0, machines=0):
     """The seconds by the clock, and the CPU seconds."""
-    words = [str(it) for it in (readers, reads, nodes, txns, at_once, views, machines)]
+    words = " ".join(str(it) for it in (readers, reads, nodes, txns, at_once, views, machines))
     before = time.monotonic()
-    child = subprocess.Popen([LOAD, "readers", *words], stdin=subprocess.DEVNULL, stdout=subprocess.PIPE)
-    told = child.stdout.read().decode().split()
+    child = subprocess.Popen([TESTS, "loads::readers"], env={**os.environ, "ZK_LOAD": words},
+                             stdin=subprocess.DEVNULL, stdout=subprocess.DEVNULL, stderr=subprocess.PIPE)
+    told = child.stderr.read().decode().split()
     _, status, usage = os.wait4(child.pid, 0)
     seconds = time.monotonic() - before
     if status or int(told[2]) != readers * reads or int(told[6]) != (nodes + txns) * views:

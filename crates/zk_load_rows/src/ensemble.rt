@@ -5,9 +5,9 @@
 //!
 //! Its numbers: [CALLS [MACHINES [JOINS]]]. So many calls are submitted; so many times a follower hears nothing of ten more, and
 //! then joins its leader again; and, once standard input has a line or ends, what the last leader has delivered is applied to so
-//! many machines.
+//! many machines. (Where nobody measures, it does not wait for that.)
 //!
-//! What it prints of 200 calls follows from the rules:
+//! What it tells of 200 calls follows from the rules:
 //!
 //! - An election begins with 12 events: 5 servers are started, one crashes, one leads, and 5 are told to follow it; what a server
 //!   can't do is refused. Then each of three followers sends three messages and is sent three: 18 events more.
@@ -19,8 +19,8 @@
 //! - One call is refused. It sets `node-0` of the first family, which is not there: the family's first call made the node above.
 
 use crate::machines::apply_to_all;
+use crate::telling::Telling;
 use crate::terms::{Load, SERVERS};
-use crate::words::number;
 use anyhow::{Result, bail};
 use zab_epoch::Entries;
 
@@ -28,25 +28,33 @@ const CALLS: usize = 200;
 
 const MACHINES: usize = 2;
 
-pub(crate) fn run(rt: &HostRuntime) -> Result<()> {
-    let calls = number(rt, 1, CALLS)?;
+pub(crate) fn run(rt: &HostRuntime, telling: &mut Telling) -> Result<()> {
     let mut load = Load::new(rt.alloc())?;
-    drive(rt, &mut load, calls)
+    drive(rt, telling, &mut load)
 }
 
 /// The calls, and what they left.
-fn drive(rt: &HostRuntime, load: &mut Load, calls: usize) -> Result<()> {
-    let machines = number(rt, 2, MACHINES)?;
-    let joins = number(rt, 3, 0)?;
+fn drive(rt: &HostRuntime, telling: &mut Telling, load: &mut Load) -> Result<()> {
+    let calls = telling.number(1, CALLS);
+    let machines = telling.number(2, MACHINES);
+    let joins = telling.number(3, 0);
     load.run(calls, joins)?;
-    println!(rt; "{calls} calls, {} events", load.events())?;
+    let line = format!(in rt.alloc(); "{calls} calls, {} events", load.events())?;
+    telling.tell(rt, line)?;
     // Whoever measures reads here what the calls took, before what they left is looked at and freed.
-    wait_for_line(rt)?;
-    tell_servers(rt, load)?;
+    if telling.is_measured() {
+        wait_for_line(rt)?;
+    }
+    tell_servers(rt, telling, load)?;
+    tell_steps(rt, telling, load, machines)
+}
+
+/// Applies what the last leader has delivered.
+fn tell_steps(rt: &HostRuntime, telling: &mut Telling, load: &Load, machines: usize) -> Result<()> {
     let delivered = load.delivered(load.leader());
     let steps = apply_to_all(rt.alloc(), delivered.txns(), machines)?;
-    println!(rt; "{machines} machines, {steps} steps")?;
-    Ok(())
+    let line = format!(in rt.alloc(); "{machines} machines, {steps} steps")?;
+    telling.tell(rt, line)
 }
 
 /// Waits for a line of standard input, or for its end.
@@ -57,11 +65,14 @@ fn wait_for_line(rt: &HostRuntime) -> Result<()> {
 }
 
 /// A line for each server: what it has delivered, and how much of that was refused.
-fn tell_servers(rt: &HostRuntime, load: &Load) -> Result<()> {
+fn tell_servers(rt: &HostRuntime, telling: &mut Telling, load: &Load) -> Result<()> {
     for server in 1..=SERVERS {
         let once = delivered_once(&load.delivered(server))?;
         let refused = load.refused(server);
-        println!(rt; "server {server}: {once} delivered once, {refused} of them refused")?;
+        let line = format!(in rt.alloc();
+            "server {server}: {once} delivered once, {refused} of them refused"
+        )?;
+        telling.tell(rt, line)?;
     }
     Ok(())
 }

@@ -9,8 +9,8 @@
 use crate::machines::apply_to_all;
 use crate::publishing::publish_to_all;
 use crate::reading::read_all;
+use crate::telling::Telling;
 use crate::txns::{Load, txns};
-use crate::words::number;
 use anyhow::Result;
 use std::sync::Wait;
 use std::thread::Threads;
@@ -29,29 +29,40 @@ const VIEWS: usize = 1;
 
 const MACHINES: usize = 2;
 
-pub(crate) fn run<R: Threads + Wait + Sync>(rt: &HostRuntime, threads: &R) -> Result<()> {
-    let readers = number(rt, 1, READERS)?;
-    let reads = number(rt, 2, READS)?;
+pub(crate) fn run<R: Threads + Wait + Sync>(
+    rt: &HostRuntime,
+    threads: &R,
+    telling: &mut Telling,
+) -> Result<()> {
+    let readers = telling.number(1, READERS);
+    let reads = telling.number(2, READS);
     let answered = read_all(threads, rt.alloc(), readers, reads)?;
-    println!(rt; "{readers} readers, {answered} answers")?;
-    let nodes = number(rt, 3, NODES)?;
-    let others = number(rt, 4, TXNS)?;
-    let at_once = number(rt, 5, AT_ONCE)?;
+    let line = format!(in rt.alloc(); "{readers} readers, {answered} answers")?;
+    telling.tell(rt, line)?;
+    let nodes = telling.number(3, NODES);
+    let others = telling.number(4, TXNS);
+    let at_once = telling.number(5, AT_ONCE);
     let load = Load {
         txns: txns(rt.alloc(), nodes, others)?,
         nodes,
         at_once,
     };
-    publish(rt, threads, &load)
+    publish(rt, threads, telling, &load)
 }
 
 /// Publishes the transactions of a load, and applies them.
-fn publish<R: Wait>(rt: &HostRuntime, threads: &R, load: &Load) -> Result<()> {
-    let views = number(rt, 6, VIEWS)?;
-    let machines = number(rt, 7, MACHINES)?;
+fn publish<R: Wait>(
+    rt: &HostRuntime,
+    threads: &R,
+    telling: &mut Telling,
+    load: &Load,
+) -> Result<()> {
+    let views = telling.number(6, VIEWS);
+    let machines = telling.number(7, MACHINES);
     let published = publish_to_all(threads, rt.alloc(), load, views)?;
-    println!(rt; "{views} views, {published} transactions published")?;
+    let line = format!(in rt.alloc(); "{views} views, {published} transactions published")?;
+    telling.tell(rt, line)?;
     apply_to_all(rt.alloc(), &load.txns, machines)?;
-    println!(rt; "{machines} machines")?;
-    Ok(())
+    let line = format!(in rt.alloc(); "{machines} machines")?;
+    telling.tell(rt, line)
 }

@@ -4,7 +4,7 @@
 //! Its number: [COUNT]. So many creates, and a set behind each.
 
 use crate::requests::{SESSION, TIMEOUT, call_of, content, open_to_all};
-use crate::words::number;
+use crate::telling::Telling;
 use anyhow::Result;
 use std::alloc::Global;
 use zk_acl::{Acls, Text};
@@ -18,11 +18,11 @@ const COUNT: usize = 1000;
 /// Nodes below each node that stands below the root.
 const FAMILY: usize = 100;
 
-pub(crate) fn run(rt: &HostRuntime) -> Result<()> {
-    let count = number(rt, 1, COUNT)?;
+pub(crate) fn run(rt: &HostRuntime, telling: &mut Telling) -> Result<()> {
+    let count = telling.number(1, COUNT);
     let refused = prepare_all(rt.alloc(), count)?;
-    println!(rt; "{count} creates and as many sets, {refused} refused")?;
-    Ok(())
+    let line = format!(in rt.alloc(); "{count} creates and as many sets, {refused} refused")?;
+    telling.tell(rt, line)
 }
 
 /// What each node is made with: the list that opens it to all, and a content.
