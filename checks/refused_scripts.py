@@ -15,7 +15,7 @@ import subprocess
 import sys
 import tempfile
 from collections import Counter
-from concurrent.futures import ThreadPoolExecutor
+from concurrent.futures import ProcessPoolExecutor
 from dataclasses import dataclass, field
 from pathlib import Path
 
@@ -29,6 +29,9 @@ EVENTS = DEADLY | {"lead", "crash", "restart"}
 
 # More growths than any script meets.
 ENOUGH = 100_000
+
+# A script's growths are refused by so many processes side by side.
+LANES = 4
 
 
 class Wrong(Exception):
@@ -70,12 +73,13 @@ def by_line(output: bytes) -> list[list[bytes]]:
 
 @dataclass
 class Played:
-    """A script that is played with each growth refused in turn."""
+    """A script that is played with growths refused in turn: of as many as there are lanes each one."""
 
     name: str
     lines: list[str]
     room: Path
     library: Path
+    lane: int
     whole: list[list[bytes]] = field(default_factory=list)
     # the rest, by the line that was refused and its answer
     expected: dict[tuple[int, bytes], list[list[bytes]]] = field(default_factory=dict)
@@ -132,10 +136,10 @@ class Played:
         self.seen[f"{kind} {told.split()[0].decode()}"] += 1
 
     def growths(self) -> int:
-        """Refuses each growth in turn. How many there are."""
+        """Refuses each growth of the lane in turn. How many there are."""
         self.whole = self.answers(self.lines)
         whole = b"".join(line + b"\n" for answer in self.whole for line in answer)
-        for number in range(1, ENOUGH):
+        for met, number in enumerate(range(self.lane, ENOUGH, LANES)):
             try:
                 status, output, errors = self.run(self.lines, number)
                 if status == 0 and not errors:
@@ -147,8 +151,13 @@ class Played:
             except Wrong as why:
                 raise Wrong(f"{self.name}, growth {number}: {why}") from why
             if (self.room / f"{self.name}.met").read_text(encoding="utf-8") != "met\n":
-                return number - 1
+                return met
         raise Wrong(f"{self.name}: growths without end")
+
+
+def played_through(it: Played) -> tuple[int, Counter]:
+    """How many growths a script meets, and what their refusals came to."""
+    return it.growths(), it.seen
 
 
 def main() -> int:
@@ -156,21 +165,26 @@ def main() -> int:
     with tempfile.TemporaryDirectory() as room:
         library = Path(room) / "refuse.so"
         subprocess.run(["cc", "-shared", "-fPIC", "-O2", "-o", library, ROOT / "checks" / "refuse.c", "-ldl"], check=True)
-        played = [
-            Played(name, with_restarts((SCRIPTS / f"{name}.script").read_text(encoding="utf-8").splitlines()), Path(room), library)
-            for name in names
-        ]
+        played = []
+        for lane in range(1, LANES + 1):
+            own = Path(room) / str(lane)
+            own.mkdir()
+            for name in names:
+                lines = with_restarts((SCRIPTS / f"{name}.script").read_text(encoding="utf-8").splitlines())
+                played.append(Played(name, lines, own, library, lane))
         # the longest first, so that no processor is left with it at the end
         played.sort(key=lambda it: -len(it.lines))
         try:
-            with ThreadPoolExecutor(max_workers=os.cpu_count()) as workers:
-                growths = sum(workers.map(Played.growths, played))
+            # (processes, since starting a run takes longer here than the run)
+            with ProcessPoolExecutor(max_workers=os.cpu_count()) as workers:
+                results = list(workers.map(played_through, played))
         except Wrong as why:
             print(f"refused_scripts: {why}")
             return 1
-    seen = sum((it.seen for it in played), Counter())
+    growths = sum(count for count, _ in results)
+    seen = sum((seen for _, seen in results), Counter())
     told = ", ".join(f"{what} {count}" for what, count in sorted(seen.items()))
-    print(f"refused_scripts: {len(played)} scripts, {growths} growths refused in turn: {told}")
+    print(f"refused_scripts: {len(names)} scripts, {growths} growths refused in turn: {told}")
     # what the scripts are to reach
     lacking = [it for it in ("arrive E9", "arrive E10", "follow E10", "submit E10", "sync E10", "read E9") if not seen[it]]
     if not sys.argv[1:] and lacking:

@@ -98,14 +98,19 @@ asks $'commit\nruok' 'err -8' 'imok'
 goes_away
 ends
 
+# letters COUNT: so many letters
+letters() {
+    head -c "$1" /dev/zero | tr '\0' y
+}
+
 # is_read BYTES ANSWER: a line of so many bytes, with its newline, is answered so, and the next one is answered
 is_read() {
     local front='create "/l" "' back="\" $open" content
-    printf -v content '%*s' $(($1 - ${#front} - ${#back} - 1)) ''
+    content=$(letters $(($1 - ${#front} - ${#back} - 1)))
     starts
     connects
     asks 'open 30000' 'ok 0000000100000001 30000'
-    asks "$front${content// /y}$back"$'\nruok' "$2" 'imok'
+    asks "$front$content$back"$'\nruok' "$2" 'imok'
     goes_away
     ends
 }
@@ -117,10 +122,9 @@ is_read 70000 'err -8'
 is_read 140000 'err -8'
 
 # a long line that is none, without a session
-printf -v long '%70000s' ''
 starts
 connects
-asks "${long// /x}"$'\nruok' 'err -8' 'imok'
+asks "$(letters 70000)"$'\nruok' 'err -8' 'imok'
 goes_away
 ends
 
