@@ -2,8 +2,7 @@
 //! and the lines in which clients ask; and no code of its own.
 //!
 //! What the program itself shows stands in `checks/rows`, `examples` and the scripts of `checks`: here are what no command
-//! shows, and each public call once. The rows stand apart from the crates that they test, as those of `zk_rows` do, and for the
-//! same reason.
+//! shows, and each public call once.
 #![tactic(auto)]
 
 #[cfg(test)]

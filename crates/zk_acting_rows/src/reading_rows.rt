@@ -1,8 +1,7 @@
 //! How much is read, and by which pieces: no order tells it but by giving up.
 use crate::trial::{NOTHING, Trial, is_so};
 use std::alloc::Global;
-use zk_command_line::Order;
-use zk_command_line::Order::{Asm, Run};
+use zk_command_line::Order::{self, Asm, Run};
 use zk_log::{DripIn, Source};
 use zk_orders::{TextFault, read_text};
 

@@ -2,7 +2,6 @@
 
 use crate::events::{FIRST, Happening, event_of, is_told, question};
 use std::alloc::Global;
-use zk_runs::{Event, Question};
 use zk_servers::Ensemble;
 
 /// A session is opened by two of three servers. Each event with the server that it is about, and with that server's last
@@ -24,21 +23,16 @@ static ABOUT: [(Happening, usize, i64); 13] = [
     (Happening::Arrive(99), 0, 0),
 ];
 
-/// Whether the event is about this server, which then stands there.
-fn is_about(ensemble: &mut Ensemble, event: Event, server: usize, last: i64) -> bool {
+/// Whether what happens is about this server, which then stands there.
+fn happens(alloc: Global, ensemble: &mut Ensemble, it: (Happening, usize, i64)) -> bool {
+    let (happening, server, last) = it;
+    let Ok(event) = event_of(alloc, happening) else {
+        return false;
+    };
     let about = ensemble.server_of(&event);
     let answer = ensemble.step(event);
     drop(answer);
     about == server && ensemble.last(server) == last
-}
-
-/// The same of what happens.
-fn happens(alloc: Global, ensemble: &mut Ensemble, it: (Happening, usize, i64)) -> bool {
-    let (happening, server, last) = it;
-    match event_of(alloc, happening) {
-        Ok(event) => is_about(ensemble, event, server, last),
-        Err(_) => false,
-    }
 }
 
 /// The place of an event that is about another server; none where all are as they are to be.
@@ -59,16 +53,13 @@ static PEEKED: [(usize, &str); 3] = [
     (4, "4 E2 0000000000000000"),
 ];
 
-/// Whether a question would be answered so.
-fn is_answered(alloc: Global, ensemble: &Ensemble, question: &Question, expected: &str) -> bool {
-    let answer = ensemble.peek(question);
-    is_told(alloc, question.server, &answer, 0, expected)
-}
-
 /// Whether the session would be told this by a server.
 fn is_peeked(alloc: Global, ensemble: &Ensemble, server: usize, expected: &str) -> bool {
     match question(alloc, server, FIRST) {
-        Ok(question) => is_answered(alloc, ensemble, &question, expected),
+        Ok(question) => {
+            let answer = ensemble.peek(&question);
+            is_told(alloc, question.server, &answer, 0, expected)
+        }
         Err(_) => false,
     }
 }
