@@ -23,8 +23,8 @@ from concurrent.futures import ThreadPoolExecutor
 HERE = os.path.dirname(os.path.abspath(__file__))
 ROOT = os.path.dirname(HERE)
 PARTS = ("src", "specs", "proofs")
-# The most memory that a check of one of these crates has been seen to take.
-NEED = 4_000_000_000
+# The memory that is left to each check: twice what one of these crates' has been seen to take.
+NEED = 3_000_000_000
 
 
 class Edit:
