@@ -13,12 +13,12 @@ use Rattle.zab_laws.specs.Prefixes.{IsPrefix}
 use Rattle.zab_laws.specs.Cores as laws
 use Rattle.zab_laws.proofs.PrefixLaws.{prefix_refl}
 use Rattle.zab_laws.proofs.Keeping.{grows_refl, keeps_crash}
-use Rattle.zab_move_laws.specs.Told.{laws_of, core_of, told_of, BodyFact, MessageFact, SentFact, Owes, OwesOf, Stands}
-use Rattle.zab_move_laws.proofs.Common.{by_test, stays}
-use Rattle.zab_move_laws.proofs.Telling.{all_append}
-use Rattle.zab_move_laws.proofs.Growing.{messages_grow, stands_after, stands_still}
-use Rattle.zab_move_laws.proofs.Hearing.{CarriesZxid, lead_owes, follow_owes, hears_c_epoch, hears_new_epoch, hears_ack_epoch, hears_new_leader, hears_ack_leader, hears_propose, hears_ack, hears_commit, hears_request, hears_sync_ask, hears_sync_tell, submit_owes, sync_owes}
-use Rattle.zab_tag_laws.proofs.TagFacts.{cases_eq, all_get, same_some}
+use Rattle.zab_rule_laws.specs.Told.{laws_of, core_of, told_of, BodyFact, MessageFact, SentFact, Owes, OwesOf, Stands}
+use Rattle.zab_rule_laws.proofs.Common.{by_test, stays}
+use Rattle.zab_rule_laws.proofs.Telling.{all_append}
+use Rattle.zab_rule_laws.proofs.Growing.{messages_grow, stands_after, stands_still}
+use Rattle.zab_rule_laws.proofs.Hearing.{CarriesZxid, lead_owes, follow_owes, hears_c_epoch, hears_new_epoch, hears_ack_epoch, hears_new_leader, hears_ack_leader, hears_propose, hears_ack, hears_commit, hears_request, hears_sync_ask, hears_sync_tell, submit_owes, sync_owes}
+use Rattle.zab_rule_laws.proofs.TagFacts.{cases_eq, all_get, same_some}
 use Rattle.zab_runs.specs.declared.event.Event.{Event}
 use Rattle.zab_runs.specs.declared.event.Event.TheVariants.{Lead, Follow, Arrive, Submit, Expire, Sync, Crash, Restart}
 use Rattle.zab_runs.specs.declared.fault.WorldFault.{WorldFault}

@@ -8,8 +8,8 @@ use Rattle.zab_laws.proofs.PrefixLaws.{prefix_refl, prefix_trans, prefix_take, r
 use Rattle.zab_laws.proofs.Facts.{rising}
 use Rattle.zab_laws.proofs.Extending.{agreed}
 use Rattle.zab_laws.proofs.Matching.{one_zxid}
-use Rattle.zab_move_laws.specs.Told.{laws_of}
-use Rattle.zab_move_laws.proofs.Hearing.{CarriesZxid}
+use Rattle.zab_rule_laws.specs.Told.{laws_of}
+use Rattle.zab_rule_laws.proofs.Hearing.{CarriesZxid}
 use Rattle.zab_runs.specs.declared.event.Event.{Event}
 use Rattle.zab_runs.specs.declared.event.Event.TheVariants.{Crash}
 use Rattle.zab_runs.specs.Standings.{Standing}

@@ -7,8 +7,8 @@ use Rattle.zab_epoch.specs.declared.message.Message.{Message}
 use Rattle.zab_broadcast.specs.declared.state.State.{State}
 use Rattle.zab_broadcast.specs.Calls.{Setting, is_taken}
 use Rattle.zab_broadcast.specs.Rules as rules
-use Rattle.zab_move_laws.proofs.Common.{by_test}
-use Rattle.zab_tag_laws.proofs.TagFacts.{cases_eq, all_append, all_get, same_some}
+use Rattle.zab_rule_laws.proofs.Common.{by_test}
+use Rattle.zab_rule_laws.proofs.TagFacts.{cases_eq, all_append, all_get, same_some}
 use Rattle.zab_runs.specs.declared.event.Event.{Event}
 use Rattle.zab_runs.specs.declared.event.Event.TheVariants.{Lead, Follow, Arrive, Submit, Expire, Sync, Crash, Restart}
 use Rattle.zab_runs.specs.declared.fault.WorldFault.{WorldFault}

@@ -9,8 +9,8 @@ use Rattle.zab_laws.proofs.PrefixLaws.{prefix_nil, prefix_trans, prefix_length, 
 use Rattle.zab_laws.proofs.Updates.{eq_other}
 use Rattle.zab_laws.proofs.Facts.{same_some, some_not_none, in_later}
 use Rattle.zab_laws.proofs.Matching.{IsMadeIn, made_in}
-use Rattle.zab_move_laws.specs.Told.{laws_of}
-use Rattle.zab_move_laws.proofs.Hearing.{CarriesZxid}
+use Rattle.zab_rule_laws.specs.Told.{laws_of}
+use Rattle.zab_rule_laws.proofs.Hearing.{CarriesZxid}
 use Rattle.zab_runs.specs.declared.event.Event.{Event}
 use Rattle.zab_runs.specs.Worlds.{Profile, new_world}
 use Rattle.zab_runs.specs.Runs.{after, delivered_after, history_of}

@@ -12,11 +12,11 @@ use Rattle.zab_laws.specs.Prefixes.{IsPrefix, last_key}
 use Rattle.zab_laws.specs.Cores as laws
 use Rattle.zab_laws.specs.Splicing as splicing
 use Rattle.zab_laws.proofs.Splicing.{kept_by, ends_below}
-use Rattle.zab_move_laws.specs.Told.{laws_of, zxid_key, core_of, BodyFact, MessageFact, Leads, Broadcasts, RoleFact, Stands}
-use Rattle.zab_move_laws.proofs.Electing.{last_same}
-use Rattle.zab_move_laws.proofs.Hearing.{CarriesZxid}
-use Rattle.zab_move_laws.proofs.Leading.{IsNumber, number_of}
-use Rattle.zab_move_laws.proofs.Splicing.{meant_is}
+use Rattle.zab_rule_laws.specs.Told.{laws_of, zxid_key, core_of, BodyFact, MessageFact, Leads, Broadcasts, RoleFact, Stands}
+use Rattle.zab_rule_laws.proofs.Electing.{last_same}
+use Rattle.zab_rule_laws.proofs.Hearing.{CarriesZxid}
+use Rattle.zab_rule_laws.proofs.Leading.{IsNumber, number_of}
+use Rattle.zab_rule_laws.proofs.Splicing.{meant_is}
 use Rattle.zab_runs.specs.declared.event.Event.{Event}
 use Rattle.zab_runs.specs.Worlds.{Profile}
 use Rattle.zab_runs.specs.Runs.{run}

@@ -8,9 +8,9 @@ use Rattle.zab_laws.specs.Cores as laws
 use Rattle.zab_laws.proofs.PrefixLaws.{prefix_refl, prefix_trans}
 use Rattle.zab_laws.proofs.Keeping.{grows_refl, grows_trans, told_grows, holds_self, holds_grows}
 use Rattle.zab_laws.proofs.Extending.{kept_start}
-use Rattle.zab_move_laws.specs.Told.{laws_of, Syncs, RoleFact, Stands}
-use Rattle.zab_move_laws.proofs.Growing.{of_leader_grows}
-use Rattle.zab_move_laws.proofs.Hearing.{CarriesZxid}
+use Rattle.zab_rule_laws.specs.Told.{laws_of, Syncs, RoleFact, Stands}
+use Rattle.zab_rule_laws.proofs.Growing.{of_leader_grows}
+use Rattle.zab_rule_laws.proofs.Hearing.{CarriesZxid}
 use Rattle.zab_runs.specs.declared.event.Event.{Event}
 use Rattle.zab_runs.specs.declared.event.Event.TheVariants.{Crash}
 use Rattle.zab_runs.specs.Standings.{Standing, new_server, new_servers}

@@ -1,6 +1,6 @@
 -- A log that was written, and the report of it.
 use Rattle.std.proofs.Common.{ℕ, zero, suc, List, inl, inr, Option, Ok}
-use Rattle.zk_journal.specs.declared.sink.Sink.{Sink}
+use Rattle.zk_records.specs.declared.sink.Sink.{Sink}
 use Rattle.zk_orders.specs.Telling.{Outputs}
 use Rattle.zk_orders.specs.Writing.{Wrote}
 use Rattle.zk_acting.specs.Mends.{OutputsBoth}

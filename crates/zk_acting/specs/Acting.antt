@@ -1,6 +1,6 @@
 -- What each order does.
 use Rattle.std.specs.Prelude.{◌≡◌, ℕ, List, Option, Result}
-use Rattle.zk_journal.specs.declared.sink.Sink.{Sink}
+use Rattle.zk_records.specs.declared.sink.Sink.{Sink}
 use Rattle.zk_log.specs.declared.source.Source.{Source}
 use Rattle.zk_path.specs.declared.memory.NoMemory.{NoMemory}
 use Rattle.zk_orders.specs.Assembling.{Assembles}

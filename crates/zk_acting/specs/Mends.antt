@@ -2,9 +2,9 @@
 -- second after it.
 use Rattle.std.specs.Prelude.{ℕ, zero, suc, ◌+◌, ◌≤◌, List, ◌⊎◌, Option, Result, Ok, Err, codes}
 use Rattle.zk_log.specs.Devices.{reader_of, reads_of}
-use Rattle.zk_journal.specs.Written.{log_of}
+use Rattle.zk_records.specs.Written.{log_of}
 use Rattle.zk_log.specs.declared.fault.LogFault.TheVariants as log_faults
-use Rattle.zk_journal.specs.declared.sink.Sink.{Sink}
+use Rattle.zk_records.specs.declared.sink.Sink.{Sink}
 use Rattle.zk_log.specs.declared.source.Source.{Source}
 use Rattle.zk_mending.specs.Mending.{Answers, Tells}
 use Rattle.zk_mending.specs.declared.fault.MendFault.{MendFault}

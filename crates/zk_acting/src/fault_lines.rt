@@ -1,7 +1,7 @@
 //! The line on standard error that tells why a log was not mended.
 ghost use Rattle.std.specs.Prelude.{◌≡◌, ◌-◌, ◌<◌, ◌^◌, IfOk};
 ghost use Rattle.std.specs.String.{string_bytes};
-ghost use Rattle.zk_journal.specs.Sinks.{write_failures_of};
+ghost use Rattle.zk_records.specs.Sinks.{write_failures_of};
 ghost use Rattle.zk_acting.specs.FaultLines.{line_of_mend_fault, place_line};
 ghost use Rattle.zk_orders.specs.Telling.{TellsFault};
 

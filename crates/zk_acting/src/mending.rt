@@ -1,9 +1,9 @@
 //! The order `mend`: a log of 3.4 is written, and what is reported of it.
 ghost use Rattle.std.specs.Prelude.{◌≡◌, ◌+◌, ◌-◌, ◌<◌, ◌^◌, Ok};
 ghost use Rattle.std.specs.String.{string_bytes};
-ghost use Rattle.zk_journal.specs.Sinks.{write_failures_of};
+ghost use Rattle.zk_records.specs.Sinks.{write_failures_of};
 ghost use Rattle.zk_log.specs.Devices.{reads_of, read_failures_of};
-ghost use Rattle.zk_journal.specs.Written.{log_of};
+ghost use Rattle.zk_records.specs.Written.{log_of};
 ghost use Rattle.zk_acting.specs.Mends.{MendsLog, OutputsBoth};
 ghost use Rattle.zk_acting.specs.Reports.{mend_report};
 

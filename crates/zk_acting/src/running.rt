@@ -1,6 +1,6 @@
 //! The order `run`: a script is read whole, and what an ensemble answers to its lines is written.
 ghost use Rattle.std.specs.Prelude.{◌≡◌, ◌+◌, ◌-◌, ◌<◌, ◌^◌};
-ghost use Rattle.zk_journal.specs.Sinks.{write_failures_of};
+ghost use Rattle.zk_records.specs.Sinks.{write_failures_of};
 ghost use Rattle.zk_log.specs.Devices.{reads_of, read_failures_of};
 ghost use Rattle.zk_acting.specs.Running.{RunsText, RunsWhole};
 

@@ -1,6 +1,7 @@
 //! The lines of faults, also of those to which no input leads.
 use std::alloc::Global;
 use std::fmt::Display;
+use zab_runs::WorldFault;
 use zk_debug::DebugFault;
 use zk_jute::JuteFault;
 use zk_listing::{ListCause, ListFault};
@@ -9,6 +10,7 @@ use zk_mending::MendFault;
 use zk_orders::{AsmFault, asm_line, log_line};
 use zk_path::NoMemory;
 use zk_reports::{ScriptFault, script_line};
+use zk_runs::EnsembleFault;
 
 static LOG_FAULTS: [LogFault; 8] = [
     LogFault::Header,
@@ -61,6 +63,33 @@ static DEBUG_FAULTS: [(DebugFault, &str); 6] = [
     (DebugFault::Full, "zk: B6\n"),
 ];
 
+/// Each fault of a world, with its number.
+static WORLD_FAULTS: [(WorldFault, &str); 9] = [
+    (WorldFault::NoServer, "zk: Z1\n"),
+    (WorldFault::NoMessage, "zk: Z2\n"),
+    (WorldFault::Down, "zk: Z3\n"),
+    (WorldFault::NotDown, "zk: Z4\n"),
+    (WorldFault::NotServing, "zk: Z5\n"),
+    (WorldFault::DuplicateCall, "zk: Z6\n"),
+    (WorldFault::EpochFull, "zk: Z7\n"),
+    (WorldFault::NoMemory, "zk: Z8\n"),
+    (WorldFault::Died(3), "zk: Z9 3\n"),
+];
+
+/// Each fault of an ensemble, with its number.
+static ENSEMBLE_FAULTS: [(EnsembleFault, &str); 10] = [
+    (EnsembleFault::Behind { seen: 2, at: 1 }, "zk: E1\n"),
+    (EnsembleFault::NoServer, "zk: E2\n"),
+    (EnsembleFault::NoMessage, "zk: E3\n"),
+    (EnsembleFault::Down, "zk: E4\n"),
+    (EnsembleFault::NotDown, "zk: E5\n"),
+    (EnsembleFault::NotServing, "zk: E6\n"),
+    (EnsembleFault::DuplicateCall, "zk: E7\n"),
+    (EnsembleFault::EpochFull, "zk: E8\n"),
+    (EnsembleFault::NoMemory, "zk: E9\n"),
+    (EnsembleFault::Died(3), "zk: E10 3\n"),
+];
+
 /// Whether a line is a fault's text behind the program's name.
 fn is_line(alloc: Global, fault: &impl Display, line: &str) -> bool {
     matches!(format!(in alloc; "zk: {fault}\n"), Ok(text) if text.as_str() == line)
@@ -101,6 +130,12 @@ fn refusals_have_lines(rt: HostRuntime) {
         assert!(rt; is_line(rt.alloc(), fault, line), "{line}");
     }
     for (fault, line) in &DEBUG_FAULTS {
+        assert!(rt; is_line(rt.alloc(), fault, line), "{line}");
+    }
+    for (fault, line) in &WORLD_FAULTS {
+        assert!(rt; is_line(rt.alloc(), fault, line), "{line}");
+    }
+    for (fault, line) in &ENSEMBLE_FAULTS {
         assert!(rt; is_line(rt.alloc(), fault, line), "{line}");
     }
 }

@@ -1,12 +1,10 @@
-//! The worked rows of what is asked of `zk` by lines: command lines, what the orders do over devices, run scripts, debug scripts
-//! and the lines in which clients ask; and no code of its own.
+//! The worked rows of what is asked of `zk` by lines: command lines, what the orders do over devices, run scripts and debug
+//! scripts, and how faults are told; and no code of its own.
 //!
 //! What the program itself shows stands in `checks/rows`, `examples` and the scripts of `checks`: here are what no command
 //! shows, and each public call once.
 #![tactic(auto)]
 
-#[cfg(test)]
-mod asked;
 #[cfg(test)]
 mod command_rows;
 #[cfg(test)]
@@ -16,9 +14,9 @@ mod fault_rows;
 #[cfg(test)]
 mod reading_rows;
 #[cfg(test)]
-mod request_rows;
-#[cfg(test)]
 mod run_rows;
+#[cfg(test)]
+mod shown_rows;
 #[cfg(test)]
 mod trial;
 #[cfg(test)]

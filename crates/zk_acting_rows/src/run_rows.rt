@@ -38,10 +38,16 @@ fn scripts_are_answered_up_to_a_malformed_line(rt: HostRuntime) {
     }
 }
 
-/// Whether a line says a command among two servers that an ensemble answers so.
-fn is_answered(alloc: Global, ensemble: &mut Ensemble, line: &str, expected: &str) -> bool {
+/// Whether a line says a command among so many servers that their ensemble answers so.
+pub fn is_answered(
+    alloc: Global,
+    servers: usize,
+    ensemble: &mut Ensemble,
+    line: &str,
+    expected: &str,
+) -> bool {
     let mut answer = String::new(alloc);
-    match read_command(alloc, 2, line) {
+    match read_command(alloc, servers, line) {
         Ok(command) => {
             run_command(ensemble, command, &mut answer).is_ok() && answer.as_str() == expected
         }
@@ -52,7 +58,7 @@ fn is_answered(alloc: Global, ensemble: &mut Ensemble, line: &str, expected: &st
 /// The same of a new ensemble.
 fn is_answered_at_first(alloc: Global, line: &str, expected: &str) -> bool {
     match Ensemble::new(alloc, 2) {
-        Ok(mut ensemble) => is_answered(alloc, &mut ensemble, line, expected),
+        Ok(mut ensemble) => is_answered(alloc, 2, &mut ensemble, line, expected),
         Err(_) => false,
     }
 }

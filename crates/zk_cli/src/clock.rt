@@ -2,7 +2,7 @@
 
 use std::time;
 use std::time::{SystemTime, UNIX_EPOCH};
-use zk_serve_order::Clock;
+use zk_front::Clock;
 
 /// The system's clock, in milliseconds since 1970.
 #[derive(Drop)]

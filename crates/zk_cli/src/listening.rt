@@ -4,6 +4,7 @@ ghost use Rattle.std.specs.Prelude.{◌≤◌};
 
 use crate::clock::SystemClock;
 use crate::refuse;
+use crate::serving::serve;
 use std::net::{Ipv4Addr, Net, SocketAddr, TcpListener, TcpStream};
 use std::sync::Wait;
 use std::thread::Threads;
@@ -11,7 +12,6 @@ use std::{io, time};
 use zk_command_line::Serving;
 use zk_log::Sink;
 use zk_path::NoMemory;
-use zk_serve_order::serve;
 
 /// Listens on a port of this machine, and serves the connections. Answers the exit status.
 pub(crate) fn listen<

@@ -1,8 +1,14 @@
-//! The program `zk`: a look at transaction logs of ZooKeeper, and runs of its servers.
+//! The program `zk`: a look at transaction logs of ZooKeeper, and runs of its servers. It reads the command line and opens files
+//! and ports. The orders are those of `zk_acting`, but for `serve`, which stands here: it alone needs threads and sockets.
 #![tactic(auto)]
 
+mod accepting;
 mod clock;
+mod doors;
 mod listening;
+mod port;
+mod servers;
+mod serving;
 
 use listening::listen;
 use std::io::{IsTerminal, Read, Write};

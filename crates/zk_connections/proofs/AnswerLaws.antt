@@ -2,7 +2,7 @@
 use Rattle.std.proofs.Common.{◌≡◌, ℕ, List, [], ◌∷◌, ◌++◌, Bool, true, false, Option, Some, None, ap, append_assoc, append-nil, codes}
 use Rattle.std.specs.Option.{is_some}
 use Rattle.zk_connections.specs.Answers.{answer_line}
-use Rattle.zk_front_lines.specs.Appending.{or_nothing}
+use Rattle.zk_connections.specs.Appending.{or_nothing}
 
 pub fitting : (answer : Option (List ℕ)) (page : List ℕ) → true ≡ is_some answer → (page ++ or_nothing answer) ++ 10 ∷ [] ≡ page ++ answer_line answer
 fitting None page fits = cc

@@ -3,8 +3,8 @@ use Rattle.std.proofs.Common.{◌≡◌, ℕ, ℤ, List, Option, None, Result, O
 use Rattle.zk_connections.specs.Connections.{obeyed, taken_by, taken_in_session}
 use Rattle.zk_connections.specs.declared.ask.Deed.{Deed}
 use Rattle.zk_connections.specs.declared.session.Session.{Session}
-use Rattle.zk_front_lines.specs.Sayings.{said_in}
-use Rattle.zk_front_lines.specs.declared.saying.Said.{Said}
+use Rattle.zk_connections.specs.Sayings.{said_in}
+use Rattle.zk_connections.specs.declared.saying.Said.{Said}
 use Rattle.zk_requests.specs.declared.call.Part.{Part}
 
 abbrev with_parts : Session → Option (List Part) → Session

@@ -1,4 +1,4 @@
--- What is written for what was told. This project's own; how each answer is spelled stands in `zk_front_lines`.
+-- What is written for what was told. This project's own; how each answer is spelled stands in `Tellings`.
 use Rattle.std.specs.Prelude.{ℕ, List, [], ◌∷◌, ◌++◌, Option, Some, None, codes}
 use Rattle.std.specs.List.{flat_map}
 use Rattle.zk_connections.specs.declared.ask.Saying.{Saying}
@@ -6,8 +6,8 @@ use Rattle.zk_connections.specs.declared.ask.Saying.TheVariants as sayings
 use Rattle.zk_connections.specs.declared.told.Reply.{Reply}
 use Rattle.zk_connections.specs.declared.told.Reply.TheVariants as answers
 use Rattle.zk_connections.specs.declared.told.Told.{Told}
-use Rattle.zk_front_lines.specs.declared.wish.Wish.{Wish}
-use Rattle.zk_front_lines.specs.Tellings.{event_text, wrote_text, looked_text, caught_text}
+use Rattle.zk_connections.specs.declared.wish.Wish.{Wish}
+use Rattle.zk_connections.specs.Tellings.{event_text, wrote_text, looked_text, caught_text}
 use Rattle.zk_machine.specs.declared.change.Change.{Change}
 use Rattle.zk_request_lines.specs.ReplyLines.{refusal_text}
 

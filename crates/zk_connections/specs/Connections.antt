@@ -16,14 +16,14 @@ use Rattle.zk_connections.specs.declared.told.ServiceFault.{ServiceFault}
 use Rattle.zk_connections.specs.declared.told.ServiceFault.TheVariants as faults
 use Rattle.zk_connections.specs.declared.told.Told.{Told}
 use Rattle.zk_connections.specs.Answers.{told_lines, reply_text}
-use Rattle.zk_front_lines.specs.declared.saying.Said.{Said}
-use Rattle.zk_front_lines.specs.declared.saying.Said.TheVariants as saids
-use Rattle.zk_front_lines.specs.declared.saying.SaidInMulti.{SaidInMulti}
-use Rattle.zk_front_lines.specs.declared.saying.SaidInMulti.TheVariants as insides
-use Rattle.zk_front_lines.specs.declared.wish.Wish.{Wish}
-use Rattle.zk_front_lines.specs.declared.wish.Wish.TheVariants as wishes
-use Rattle.zk_front_lines.specs.Sayings.{said_in, said_in_multi}
-use Rattle.zk_front_lines.specs.Tellings.{wish_of_request, wish_of_call}
+use Rattle.zk_connections.specs.declared.saying.Said.{Said}
+use Rattle.zk_connections.specs.declared.saying.Said.TheVariants as saids
+use Rattle.zk_connections.specs.declared.saying.SaidInMulti.{SaidInMulti}
+use Rattle.zk_connections.specs.declared.saying.SaidInMulti.TheVariants as insides
+use Rattle.zk_connections.specs.declared.wish.Wish.{Wish}
+use Rattle.zk_connections.specs.declared.wish.Wish.TheVariants as wishes
+use Rattle.zk_connections.specs.Sayings.{said_in, said_in_multi}
+use Rattle.zk_connections.specs.Tellings.{wish_of_request, wish_of_call}
 use Rattle.zk_requests.specs.declared.call.Part.{Part}
 use Rattle.zk_requests.specs.declared.call.Request.{Request}
 use Rattle.zk_requests.specs.declared.call.Request.TheVariants as requests

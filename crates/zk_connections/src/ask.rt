@@ -1,5 +1,5 @@
+use crate::Wish;
 use zk_acl::Ids;
-use zk_front_lines::Wish;
 use zk_requests::Request;
 use zk_txn::ReadCall;
 

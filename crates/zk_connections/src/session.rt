@@ -1,13 +1,13 @@
 ghost use Rattle.std.specs.Prelude.{◌≡◌, pos, IfOk, option_map};
 ghost use Rattle.zk_connections.specs.Connections.{opened, next_cxid, writing, looking, gathered, obeyed, taken_in_session};
-ghost use Rattle.zk_front_lines.specs.declared.saying.Said.TheVariants as saids;
-ghost use Rattle.zk_front_lines.specs.declared.saying.SaidInMulti.TheVariants as insides;
+ghost use Rattle.zk_connections.specs.declared.saying.Said.TheVariants as saids;
+ghost use Rattle.zk_connections.specs.declared.saying.SaidInMulti.TheVariants as insides;
 
 use crate::ask::{Ask, Deed, Saying};
 use crate::lists::{Gathered, Identities};
+use crate::{Said, SaidInMulti, Wish, meaning_in_multi, meaning_of};
 use std::alloc::Global;
 use zk_acl::Id;
-use zk_front_lines::{Said, SaidInMulti, Wish, meaning_in_multi, meaning_of};
 use zk_path::NoMemory;
 use zk_requests::{Part, Request};
 use zk_txn::ReadCall;

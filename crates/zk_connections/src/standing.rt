@@ -1,15 +1,15 @@
 ghost use Rattle.std.specs.Prelude.{◌≡◌, Ok, OnOk, IfOk, option_map};
 ghost use Rattle.std.specs.String.{string_bytes};
 ghost use Rattle.zk_connections.specs.Connections.{fresh, doing, deed_alone, gone_on, seeing, when_told, session_after, IsTold};
-ghost use Rattle.zk_front_lines.specs.declared.saying.Said.TheVariants as saids;
+ghost use Rattle.zk_connections.specs.declared.saying.Said.TheVariants as saids;
 
 use crate::ask::{Ask, Deed, Saying};
 use crate::session::Session;
 use crate::telling::{push_answer, push_events};
 use crate::told::{Reply, ServiceFault, Told};
+use crate::{Said, Wish, meaning_of};
 use std::alloc::Global;
 use zk_acl::Ids;
-use zk_front_lines::{Said, Wish, meaning_of};
 use zk_path::NoMemory;
 use zk_requests::Request;
 use zk_txn::TxnResult;

@@ -5,11 +5,11 @@ ghost use Rattle.std.specs.String.{string_bytes};
 ghost use Rattle.std.specs.List.{flat_map};
 ghost use Rattle.std.specs.Option.{is_some};
 ghost use Rattle.zk_connections.specs.Answers.{said_line, event_line, reply_text, answer_line};
-ghost use Rattle.zk_front_lines.specs.Appending.{Tells};
+ghost use Rattle.zk_connections.specs.Appending.{Tells};
 
 use crate::ask::Saying;
 use crate::told::Reply;
-use zk_front_lines::{Wish, push_caught, push_event, push_looked, push_wrote};
+use crate::{Wish, push_caught, push_event, push_looked, push_wrote};
 use zk_machine::Change;
 use zk_path::NoMemory;
 use zk_request_lines::push_refusal;

@@ -4,7 +4,7 @@ use Rattle.std.specs.Prelude.{int_le, option_map, unwrap_or}
 use Rattle.std.proofs.lemmas.Int.{ints}
 use Rattle.std.specs.FinMap.{FinMap}
 use Rattle.std.specs.Ordering.{nat_cmp}
-use Rattle.zk_journal.specs.Written.{Rises}
+use Rattle.zk_records.specs.Written.{Rises}
 use Rattle.zk_machine.specs.declared.change.Change.{Change}
 use Rattle.zk_machine.specs.Changes.{changes_of}
 use Rattle.zk_txn.specs.declared.result.TxnResult.{TxnResult}

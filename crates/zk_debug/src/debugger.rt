@@ -1,7 +1,7 @@
 ghost use Rattle.std.specs.Prelude.{◌≡◌, ◌+◌, ◌<◌, ◌≤◌, ℤ, true, false, length, take, IfOk, IfErr, OnOk, OnErr, IsTrue};
 ghost use Rattle.std.specs.FinMap as finite;
 ghost use Rattle.std.specs.Option.{option_copied};
-ghost use Rattle.zk_journal.specs.Written.{Rises};
+ghost use Rattle.zk_records.specs.Written.{Rises};
 ghost use Rattle.zk_debug.specs.declared.fault.DebugFault.TheVariants as faults;
 ghost use Rattle.zk_debug.specs.Debugging.{state_at, machine_at, result_at, zxid_at, hit_at, moved, broken, up_to, Moves, IsRunTo, IsRunBackTo, RefusesOn, RefusesBack, RefusesAny, RefusesSet};
 

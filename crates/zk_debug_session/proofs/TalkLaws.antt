@@ -1,9 +1,9 @@
 -- A session, one turn behind the other.
 use Rattle.std.proofs.Common.{◌≡◌, ◌∙◌, ◌+◌, ℕ, List, [], ◌∷◌, ◌++◌, Bool, Option, Result, Ok, Err, refl, sym, ap, subst, inl, inr, append_assoc, append-nil}
 use Rattle.std.specs.Io.KnownBytes.{Appends}
-use Rattle.zk_journal.specs.Sinks.{write_failures_of}
+use Rattle.zk_records.specs.Sinks.{write_failures_of}
 use Rattle.zk_log.specs.Devices.{read_failures_of}
-use Rattle.zk_journal.specs.declared.sink.Sink.{Sink}
+use Rattle.zk_records.specs.declared.sink.Sink.{Sink}
 use Rattle.zk_log.specs.declared.source.Source.{Source}
 use Rattle.zk_debug_session.specs.Prompts.{prompt_text}
 use Rattle.zk_debug_session.specs.declared.session.Session.{Session}

@@ -1,8 +1,8 @@
 -- A turn, by how far it came.
 use Rattle.std.proofs.Common.{◌≡◌, ◌∙◌, ℕ, List, [], ◌∷◌, ◌++◌, Bool, Option, Some, None, Result, Ok, Err, refl, sym, ap, subst, inl, inr, append_assoc, append-nil}
 use Rattle.std.specs.Io.KnownBytes.{Appends, Consumes, IsAtEnd}
-use Rattle.zk_journal.specs.Sinks.{writer_of}
-use Rattle.zk_journal.specs.declared.sink.Sink.{Sink}
+use Rattle.zk_records.specs.Sinks.{writer_of}
+use Rattle.zk_records.specs.declared.sink.Sink.{Sink}
 use Rattle.zk_orders.specs.Writing.{Wrote}
 use Rattle.zk_debug_session.specs.Prompts.{prompt_text, Puts}
 use Rattle.zk_debug_session.specs.declared.session.Session.{Session}

@@ -1,11 +1,11 @@
 -- What the order `debug` writes where it is given no script: a session over a log. This project's own.
 use Rattle.std.specs.Prelude.{◌≡◌, ◌⊎◌, ℕ, List, Bool, Option, Result, Ok, Err, IsErr, codes}
-use Rattle.zk_journal.specs.Sinks.{writer_of}
+use Rattle.zk_records.specs.Sinks.{writer_of}
 use Rattle.zk_log.specs.Devices.{reader_of}
 use Rattle.zk_log.specs.declared.fault.LogFault.{LogFault}
 use Rattle.zk_log.specs.declared.fault.LogFault.TheVariants as log_faults
 use Rattle.zk_log.specs.declared.loaded.Loaded.{Loaded}
-use Rattle.zk_journal.specs.declared.sink.Sink.{Sink}
+use Rattle.zk_records.specs.declared.sink.Sink.{Sink}
 use Rattle.zk_log.specs.declared.source.Source.{Source}
 use Rattle.zk_path.specs.declared.memory.NoMemory.{NoMemory}
 use Rattle.zk_txn.specs.declared.txn.Txn.{Txn}

@@ -2,7 +2,7 @@
 use Rattle.std.specs.Prelude.{ℕ, List, [], ◌∷◌, ◌++◌, Bool, true, false, Option, Result, Ok, Err, codes}
 use Rattle.std.specs.Fmt.{decimal}
 use Rattle.zk_debug.specs.Debugging.{Debugging, zxid_at}
-use Rattle.zk_journal.specs.declared.sink.Sink.{Sink}
+use Rattle.zk_records.specs.declared.sink.Sink.{Sink}
 use Rattle.zk_orders.specs.Writing.{LeavesSink, Wrote, BrokeOff}
 use Rattle.zk_spelling.specs.Spelling.{id_digits}
 use Rattle.zk_debug_session.specs.declared.session.TalkFault.{TalkFault}

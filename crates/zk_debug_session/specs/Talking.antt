@@ -1,8 +1,8 @@
 -- What a session with a debugger writes, line by line. This project's own.
 use Rattle.std.specs.Prelude.{◌≡◌, ◌<◌, ◌≤◌, ◌+◌, ◌⊎◌, ℕ, List, [], ◌∷◌, ◌++◌, Bool, length, Option, Result, Ok, Err, codes}
 use Rattle.std.specs.Io.KnownBytes.{Appends, Consumes, IsAtEnd}
-use Rattle.zk_journal.specs.Sinks.{write_failures_of}
-use Rattle.zk_journal.specs.declared.sink.Sink.{Sink}
+use Rattle.zk_records.specs.Sinks.{write_failures_of}
+use Rattle.zk_records.specs.declared.sink.Sink.{Sink}
 use Rattle.zk_debug_session.specs.Answering.{AnswersLine}
 use Rattle.zk_debug_session.specs.Prompts.{prompt_text}
 use Rattle.zk_debug_session.specs.declared.session.Session.{Session}

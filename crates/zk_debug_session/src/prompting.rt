@@ -1,7 +1,7 @@
 //! The prompt of a session.
 ghost use Rattle.std.specs.Prelude.{◌≡◌, ◌-◌, ◌<◌, ◌^◌, ◌++◌, true, OnOk};
 ghost use Rattle.std.specs.String.{string_bytes};
-ghost use Rattle.zk_journal.specs.Sinks.{write_failures_of};
+ghost use Rattle.zk_records.specs.Sinks.{write_failures_of};
 ghost use Rattle.zk_debug_session.specs.Prompts.{Puts, prompt_text};
 
 use crate::session::{Session, TalkFault};

@@ -1,7 +1,7 @@
 //! A session, line by line.
 ghost use Rattle.std.specs.Prelude.{◌≡◌, ◌-◌, ◌<◌, ◌^◌, ℕ, List, IfOk, Ok};
 ghost use Rattle.std.specs.String.{string_bytes};
-ghost use Rattle.zk_journal.specs.Sinks.{writer_of, write_failures_of};
+ghost use Rattle.zk_records.specs.Sinks.{writer_of, write_failures_of};
 ghost use Rattle.zk_log.specs.Devices.{reader_of, reads_of, read_failures_of};
 ghost use Rattle.zk_debug_session.specs.declared.session.Turn.TheVariants as turns;
 ghost use Rattle.zk_debug_session.specs.HearingLines.{ReadsSo};

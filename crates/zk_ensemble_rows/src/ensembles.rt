@@ -2,7 +2,7 @@
 
 use crate::copy_rows::is_told_as_copied;
 use crate::events::{Look, event_of, read_of};
-use crate::happenings::{Said, Sends, body_of, moved_by};
+use crate::happenings::{Sends, moved_by};
 use std::alloc::Global;
 use zab_epoch::{WeightFault, Weighted};
 use zab_runs::Moved;
@@ -33,8 +33,6 @@ pub enum Part {
     Reads(&'static [Look]),
     /// What has come of a tag, and of a session's events.
     Comes(Ask, Told),
-    /// What a message says.
-    Says(usize, Said),
 }
 
 /// The event, by a copy of it.
@@ -171,7 +169,6 @@ fn takes(alloc: Global, ensemble: &mut Ensemble, part: &Part) -> bool {
         Part::All(script) => all_send(alloc, ensemble, script),
         Part::Reads(looks) => all_are_told(alloc, ensemble, looks),
         Part::Comes(ask, told) => { comes(ensemble, ask, told) && comes_apart(ensemble, ask, told) }
-        Part::Says(number, expected) => body_of(ensemble.messages(), *number) == Some(*expected),
     }
 }
 

@@ -6,8 +6,8 @@ use Rattle.zk_connections.specs.declared.ask.Ask.{Ask}
 use Rattle.zk_connections.specs.declared.ask.Ask.TheVariants as asks
 use Rattle.zk_connections.specs.declared.told.ServiceFault.{ServiceFault}
 use Rattle.zk_connections.specs.declared.told.Told.{Told}
-use Rattle.zk_front_local.specs.Asks.{event_of, sought_by}
-use Rattle.zk_front_local.specs.declared.sought.Sought.{Sought}
+use Rattle.zk_serving.specs.Asks.{event_of, sought_by}
+use Rattle.zk_serving.specs.declared.sought.Sought.{Sought}
 use Rattle.zk_prepare.specs.Deadlines.{DeadlineMap, expired_at}
 use Rattle.zk_runs.specs.declared.event.Event.{Event}
 use Rattle.zk_front.specs.Calling.{Calling, Calls, CallsOne, CallsSome, IsGiven}

@@ -7,9 +7,9 @@ use Rattle.zk_connections.specs.declared.told.Reply.{Reply}
 use Rattle.zk_connections.specs.declared.told.Reply.TheVariants as replies
 use Rattle.zk_connections.specs.declared.told.ServiceFault.{ServiceFault}
 use Rattle.zk_connections.specs.declared.told.Told.{Told}
-use Rattle.zk_front_local.specs.Asks.{event_of, sought_by}
-use Rattle.zk_front_local.specs.declared.sought.Sought.{Sought}
-use Rattle.zk_front_local.specs.declared.sought.Sought.TheVariants as seeks
+use Rattle.zk_serving.specs.Asks.{event_of, sought_by}
+use Rattle.zk_serving.specs.declared.sought.Sought.{Sought}
+use Rattle.zk_serving.specs.declared.sought.Sought.TheVariants as seeks
 use Rattle.zk_prepare.specs.Deadlines.{DeadlineMap, expired_at}
 use Rattle.zk_runs.specs.declared.answer.Answer.TheVariants.{Looked}
 use Rattle.zk_runs.specs.declared.event.Event.{Event}

@@ -3,8 +3,8 @@
 ghost use Rattle.std.specs.Prelude.{◌≡◌, ◌+◌, ◌∷◌, [], length, IfOk, OnOk, OnErr};
 ghost use Rattle.zk_front.specs.Calling.{Calls, CallsSome};
 ghost use Rattle.zk_front.specs.Remotes.{IsTold, events_for, expiries, expiry};
-ghost use Rattle.zk_front_local.specs.Asks.{event_of, sought_by};
-ghost use Rattle.zk_front_local.specs.declared.sought.Sought.TheVariants as seeks;
+ghost use Rattle.zk_serving.specs.Asks.{event_of, sought_by};
+ghost use Rattle.zk_serving.specs.declared.sought.Sought.TheVariants as seeks;
 ghost use Rattle.zk_prepare.specs.Deadlines.{expired_at};
 
 use crate::caller::Caller;
@@ -13,11 +13,13 @@ use crate::turn::{Turn, turn_of};
 use std::sync::Wait;
 use std::sync::ledger::Ledger;
 use std::time;
-use zk_front_local::{HOME, Sought, caught_by, event_of, service_fault_of, session_of, sought_by};
 use zk_prepare::clamp;
 use zk_runs::{Answered, Event};
 use zk_servers::{Mark, Outcome};
-use zk_serving::{Ask, Events, Reply, ServiceFault, Told};
+use zk_serving::{
+    Ask, Events, HOME, Reply, ServiceFault, Sought, Told, caught_by, event_of, service_fault_of,
+    session_of, sought_by,
+};
 
 /// What asks: the calls, the sessions that are kept, and how far the server's answers and syncs were looked at.
 #[derive(Drop)]

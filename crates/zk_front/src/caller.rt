@@ -9,10 +9,9 @@ use std::alloc::Global;
 use std::marker::Model;
 use std::sync::Wait;
 use std::sync::ledger::Ledger;
-use zk_front_local::{looked_by, service_fault_of};
 use zk_runs::{Answer, EnsembleFault, Event};
 use zk_servers::{CallFault, Receipt, Seat, Senders, Shared, send_on};
-use zk_serving::{Reply, ServiceFault};
+use zk_serving::{Reply, ServiceFault, looked_by, service_fault_of};
 
 /// Calls by a seat, and keeps a receipt for each call.
 #[derive(Drop)]

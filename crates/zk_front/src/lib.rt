@@ -13,9 +13,8 @@ mod turn;
 mod waiting;
 
 pub use remote::{Remote, Unstarted};
-pub use zk_front_local::{
-    Clock, HOME, Local, Sought, caught_by, event_of, looked_by, next_tag, service_fault_of,
-    session_of, sought_by,
-};
 pub use zk_servers as servers;
-pub use zk_serving::{Ask, Events, FrontFault, Reply, Service, ServiceFault, Told, serve_lines};
+pub use zk_serving::{
+    Ask, Clock, Events, FrontFault, HOME, Local, Reply, Service, ServiceFault, Sought, Told,
+    caught_by, event_of, looked_by, next_tag, serve_lines, service_fault_of, session_of, sought_by,
+};

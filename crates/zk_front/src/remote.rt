@@ -13,9 +13,8 @@ use std::alloc::Global;
 use std::sync::Wait;
 use std::sync::ledger::Ledger;
 use std::time;
-use zk_front_local::Clock;
 use zk_servers::{Mark, Receipt, Seat, Senders, Shared};
-use zk_serving::{Ask, Service, ServiceFault, Told};
+use zk_serving::{Ask, Clock, Service, ServiceFault, Told};
 
 /// A service over servers that run as threads: each ask is made at server 1, by calls of a seat. It keeps a receipt for each call.
 ///

@@ -10,9 +10,8 @@ use crate::caller::{Caller, sent_by};
 use std::sync::Wait;
 use std::sync::ledger::Ledger;
 use zab_runs::Event as WorldEvent;
-use zk_front_local::{HOME, service_fault_of};
 use zk_runs::{EnsembleFault, Event};
-use zk_serving::ServiceFault;
+use zk_serving::{HOME, ServiceFault, service_fault_of};
 
 /// How many messages arrive at most until the servers are ready.
 const MOST_ARRIVALS: usize = 1_048_576;

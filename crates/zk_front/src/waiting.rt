@@ -5,9 +5,8 @@ use std::sync::Wait;
 use std::sync::ledger::Ledger;
 use std::time::Duration;
 use std::{thread, time};
-use zk_front_local::{HOME, Sought};
 use zk_servers::{Mark, Outcome};
-use zk_serving::ServiceFault;
+use zk_serving::{HOME, ServiceFault, Sought};
 
 /// How often it is looked whether something has happened.
 const MOST_LOOKS: u32 = 1_048_576;

@@ -4,13 +4,13 @@ use crate::session_rows::path_of;
 use std::alloc::Global;
 use std::test::Fail;
 use zk_acl::Ids;
-use zk_front_local::{
-    Ask, HOME, Reply, ServiceFault, Sought, caught_by, event_of, looked_by, next_tag,
-    service_fault_of, session_of, sought_by,
-};
 use zk_path::Path;
 use zk_requests::Request;
 use zk_runs::{Answer, EnsembleFault, Event};
+use zk_serving::{
+    Ask, HOME, Reply, ServiceFault, Sought, caught_by, event_of, looked_by, next_tag,
+    service_fault_of, session_of, sought_by,
+};
 use zk_table::{ReadCall, ReadReply};
 
 fn closing(alloc: Global) -> Ask {

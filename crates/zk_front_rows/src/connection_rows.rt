@@ -4,11 +4,10 @@ use crate::kind_rows::applied;
 use crate::session_rows::path_of;
 use std::alloc::Global;
 use std::test::Fail;
-use zk_connections::{Deed, Saying, Standing, push_saying};
-use zk_front_lines::Wish;
-use zk_front_local::{Events, Reply, ServiceFault, Told};
+use zk_connections::{Deed, Saying, Standing, Wish, push_saying};
 use zk_machine::{Change, ChangeKind};
 use zk_path::{NoMemory, Path};
+use zk_serving::{Events, Reply, ServiceFault, Told};
 
 /// What a line is answered at once; one that asks has no such answer.
 fn said_by(deed: &Deed) -> Option<Saying> {

@@ -2,8 +2,8 @@
 //! client has seen.
 
 use std::alloc::Global;
-use zk_front_local::{Ask, Events, FrontFault, Reply, Service, ServiceFault, Told, serve_lines};
 use zk_log::{DripIn, DripOut, Sink, Source};
+use zk_serving::{Ask, Events, FrontFault, Reply, Service, ServiceFault, Told, serve_lines};
 use zk_table::{PartResults, ReadReply, TxnResult};
 
 /// What the service replies.

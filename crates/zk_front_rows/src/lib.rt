@@ -1,5 +1,5 @@
-//! The worked rows of the line front: clients' lines over memory, and what they are answered. The tests of `zk_front_lines`,
-//! `zk_connections`, `zk_serving` and `zk_front_local`, and no code of its own. Lines over loopback are sent to the program by
+//! The worked rows of the line front: the lines in which clients ask, lines over memory, and what they are answered. The tests
+//! of `zk_request_lines`, `zk_connections` and `zk_serving`, and no code of its own. Lines over loopback are sent to the program by
 //! `checks/serve.sh`.
 //!
 //! They stand apart from the crates that they test, as those of `zk_rows` do, and for the same reason. Expected values come from
@@ -10,6 +10,8 @@
 #[cfg(test)]
 mod ask_rows;
 #[cfg(test)]
+mod asked;
+#[cfg(test)]
 mod connection_rows;
 #[cfg(test)]
 mod kind_rows;
@@ -17,5 +19,7 @@ mod kind_rows;
 mod line_rows;
 #[cfg(test)]
 mod memory_rows;
+#[cfg(test)]
+mod request_rows;
 #[cfg(test)]
 mod session_rows;

@@ -4,7 +4,7 @@ use crate::kind_rows::applied;
 use crate::session_rows::path_of;
 use std::alloc::Global;
 use std::test::Fail;
-use zk_front_lines::{
+use zk_connections::{
     Pending, Said, SaidInMulti, Wish, meaning_in_multi, meaning_of, push_caught, push_event,
     push_looked, push_wrote, split_line, text_of,
 };

@@ -1,8 +1,8 @@
 //! The front over memory and over an ensemble of three servers, by a clock that stands at 1000.
 
 use std::alloc::Global;
-use zk_front_local::{Clock, FrontFault, Local, serve_lines};
 use zk_log::{DripIn, DripOut, Sink, Source};
+use zk_serving::{Clock, FrontFault, Local, serve_lines};
 
 /// A clock that stands.
 #[derive(Drop)]

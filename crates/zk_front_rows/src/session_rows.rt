@@ -4,9 +4,9 @@ use crate::memory_rows::Still;
 use std::alloc::Global;
 use std::test::Fail;
 use zk_acl::{Acl, Acls, Id, Ids, Text};
-use zk_front_local::{Ask, Local, Reply, Service, ServiceFault, Told};
 use zk_path::{NoMemory, Path};
 use zk_requests::Request;
+use zk_serving::{Ask, Local, Reply, Service, ServiceFault, Told};
 use zk_table::ReadCall;
 
 /// The sessions of the first two transactions.

@@ -5,7 +5,7 @@ use Rattle.std.proofs.lemmas.List.{append-nil, append_assoc}
 use Rattle.zab_epoch.specs.declared.history.Entry.{Entry}
 use Rattle.zab_quorums.specs.Quorums.{IsQuorumSystem}
 use Rattle.zab_laws.specs.Prefixes.{IsPrefix}
-use Rattle.zab_move_laws.proofs.Hearing.{CarriesZxid}
+use Rattle.zab_rule_laws.proofs.Hearing.{CarriesZxid}
 use Rattle.zab_agreement_laws.proofs.Deliveries.{no_deliveries_first, others_stay}
 use Rattle.zab_runs.specs.declared.event.Event.{Event as WorldEvent}
 use Rattle.zab_runs.specs.declared.fault.WorldFault.{WorldFault}
@@ -16,7 +16,7 @@ use Rattle.zab_runs.specs.Runs.{delivered_of, delivered_list}
 use Rattle.zab_runs.specs.Standings.{Standing}
 use Rattle.zab_runs.specs.Worlds as worlds
 use Rattle.zab_runs.specs.Worlds.{World, Profile, if_up, running, server_at}
-use Rattle.zab_tag_laws.proofs.TagFacts.{cases_eq}
+use Rattle.zab_rule_laws.proofs.TagFacts.{cases_eq}
 use Rattle.zk_machine.specs.Changes.{changes_of}
 use Rattle.zk_requests.specs.declared.call.Call.{Call}
 use Rattle.zab_epoch.specs.Entries.{txns_of}

@@ -1,9 +1,9 @@
 -- One ensemble follows another in a run.
 use Rattle.std.proofs.Common.{◌≡◌, ℕ, Bool, List, ◌++◌, refl}
 use Rattle.zab_quorums.specs.Quorums.{IsQuorumSystem}
-use Rattle.zab_move_laws.proofs.Telling.{all_append}
-use Rattle.zab_origin_laws.proofs.Origins.{tagged_once}
-use Rattle.zab_sync_laws.proofs.SyncRuns.{are_caught}
+use Rattle.zab_rule_laws.proofs.Telling.{all_append}
+use Rattle.zab_call_laws.proofs.Origins.{tagged_once}
+use Rattle.zab_call_laws.proofs.SyncRuns.{are_caught}
 use Rattle.zab_agreement_laws.proofs.AgreeRuns.{runs_agree}
 use Rattle.zk_runs.specs.Entries.{entry_zxid}
 use Rattle.zk_runs.specs.declared.event.Event.{Event}

@@ -7,10 +7,10 @@ use Rattle.zab_epoch.specs.declared.history.Entry.{Entry}
 use Rattle.zab_quorums.specs.Quorums.{IsQuorumSystem}
 use Rattle.zab_laws.specs.Prefixes.{IsPrefix, Rises}
 use Rattle.zab_laws.proofs.PrefixLaws.{prefix_refl, rises_front, prefix_take}
-use Rattle.zab_move_laws.proofs.Hearing.{CarriesZxid}
-use Rattle.zab_tag_laws.proofs.TagCalls.{CarriesTag}
+use Rattle.zab_rule_laws.proofs.Hearing.{CarriesZxid}
+use Rattle.zab_rule_laws.proofs.TagCalls.{CarriesTag}
 use Rattle.zab_runs.specs.declared.fault.WorldFault.{WorldFault}
-use Rattle.zab_origin_laws.proofs.Origins.{come_from_calls}
+use Rattle.zab_call_laws.proofs.Origins.{come_from_calls}
 use Rattle.zab_agreement_laws.specs.Origins.{IsOrigin}
 use Rattle.zab_runs.specs.Runs as zab
 use Rattle.zab_runs.specs.Standings.{Standing}

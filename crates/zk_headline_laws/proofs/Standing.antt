@@ -3,7 +3,7 @@ use Rattle.std.proofs.Common.{◌≡◌, ℕ, inl, inr, Bool, true, false, cond,
 use Rattle.zab_epoch.specs.declared.history.Entry.{Entry}
 use Rattle.zab_quorums.specs.Quorums.{IsQuorumSystem}
 use Rattle.zab_laws.specs.Prefixes.{IsPrefix}
-use Rattle.zab_move_laws.proofs.Hearing.{CarriesZxid}
+use Rattle.zab_rule_laws.proofs.Hearing.{CarriesZxid}
 use Rattle.zab_runs.specs.declared.event.Event.{Event as WorldEvent}
 use Rattle.zab_runs.specs.declared.fault.WorldFault.{WorldFault}
 use Rattle.zab_runs.specs.Movers.{mover}
@@ -17,7 +17,7 @@ use Rattle.zab_agreement_laws.proofs.AgreeEvents.{happens_keeps}
 use Rattle.zab_agreement_laws.proofs.Deliveries.{no_deliveries_first, others_keep, down_after_crash, down_has_nothing}
 use Rattle.zab_runs.proofs.RunLaws as zab_laws
 use Rattle.zab_agreement_laws.proofs.WholeRuns.{whole, shares_of}
-use Rattle.zab_tag_laws.proofs.TagFacts.{cases_eq}
+use Rattle.zab_rule_laws.proofs.TagFacts.{cases_eq}
 use Rattle.zk_requests.specs.declared.call.Call.{Call}
 use Rattle.zk_runs.specs.declared.event.Event.{Event}
 use Rattle.zk_runs.specs.declared.event.Event.TheVariants as events

@@ -4,8 +4,9 @@ use crate::calls::call;
 use anyhow::{Result, bail};
 use std::alloc::Global;
 use zab_epoch::Entries;
-use zk_ensemble::{Ensemble, EnsembleFault, Event};
 use zk_path::NoMemory;
+use zk_runs::{EnsembleFault, Event};
+use zk_servers::Ensemble;
 
 pub(crate) const SERVERS: usize = 5;
 

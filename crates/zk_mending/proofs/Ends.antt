@@ -1,10 +1,10 @@
 -- How a walk over the entries ends, and what the reader tells.
 use Rattle.std.proofs.Common.{◌≡◌, ℕ, ◌+◌, ◌<◌, ◌≤◌, List, ◌++◌, length, drop, Option, None, Some, Err, ap, ◌∙◌, arith, length-append}
 use Rattle.std.specs.Io.KnownBytes.{prepend_known}
-use Rattle.zk_journal.proofs.EntryLaws.{length-framed}
+use Rattle.zk_records.proofs.EntryLaws.{length-framed}
 use Rattle.zk_log.proofs.Framing.{states}
 use Rattle.zk_log.specs.Cutting.{IsEntry}
-use Rattle.zk_journal.specs.Written.{framed, most_bytes}
+use Rattle.zk_records.specs.Written.{framed, most_bytes}
 use Rattle.zk_log.specs.Logs.{has_head, stated_length}
 use Rattle.zk_log.specs.declared.fault.LogFault.TheVariants as log_faults
 use Rattle.zk_mending.proofs.Walks.{length-newer_entry}

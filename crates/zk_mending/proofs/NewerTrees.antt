@@ -11,7 +11,7 @@ use Rattle.std.specs.Ordering.{int_eq}
 use Rattle.std.specs.Str.{bytes_eq}
 use Rattle.zk_records.specs.Records.{record_of}
 use Rattle.zk_records.specs.Sizes.{size_of}
-use Rattle.zk_journal.specs.Written.{most_bytes}
+use Rattle.zk_records.specs.Written.{most_bytes}
 use Rattle.zk_log.specs.declared.fault.LogFault.TheVariants as log_faults
 use Rattle.zk_newer.specs.Newer.{listed_in, tells_why}
 use Rattle.zk_newer.specs.declared.newer.Form.{Form}

@@ -8,8 +8,8 @@ use Rattle.std.specs.Prelude.{count_by, int_le, nat_lt}
 use Rattle.zk_digest.specs.Digests.{tree_digest}
 use Rattle.zk_records.specs.Records.{record_of}
 use Rattle.zk_records.specs.Sizes.{capped, size_of}
-use Rattle.zk_journal.specs.Checksum.{adler_of}
-use Rattle.zk_journal.specs.Written.{framed, entry_of, most_bytes, HasEntry, Rises}
+use Rattle.zk_records.specs.Checksum.{adler_of}
+use Rattle.zk_records.specs.Written.{framed, entry_of, most_bytes, HasEntry, Rises}
 use Rattle.zk_log.specs.Logs.{Ends, IsLogOf}
 use Rattle.zk_log.specs.declared.loaded.Ending.{Ending}
 use Rattle.zk_newer.proofs.Standing.{old_ones_stand}

@@ -8,8 +8,8 @@ use Rattle.std.specs.List.{flat_map}
 use Rattle.zk_records.specs.Records.{long}
 use Rattle.zk_log.proofs.OnlyLaws.{IsSame, one_record, like_stop}
 use Rattle.zk_log.proofs.Verdicts.{rank, verdict_on, stops_verdict, stands_entry}
-use Rattle.zk_journal.specs.Checksum.{adler_of, sum_one, sum_two}
-use Rattle.zk_journal.specs.Written.{header_of}
+use Rattle.zk_records.specs.Checksum.{adler_of, sum_one, sum_two}
+use Rattle.zk_records.specs.Written.{header_of}
 use Rattle.zk_log.specs.Logs.{HasNoHeader, Stands, Ends}
 use Rattle.zk_log.specs.declared.fault.LogFault.TheVariants as log_faults
 use Rattle.zk_log.specs.declared.loaded.Ending.{Ending}

@@ -1,7 +1,7 @@
 -- What is known of a record that may come next, or is refused.
 use Rattle.std.proofs.Common.{◌≡◌, ◌≢◌, ℕ, ℤ, Bool, true, false, not, cond, List, Option, None, Some, Result, Ok, Err, IfErr, refl, sym, subst}
 use Rattle.zk_log.proofs.Framing.{entry_stands}
-use Rattle.zk_journal.specs.Checksum.{adler_of}
+use Rattle.zk_records.specs.Checksum.{adler_of}
 use Rattle.zk_log.specs.Cutting.{IsEntry}
 use Rattle.zk_log.specs.Logs.{Stands}
 use Rattle.zk_log.specs.declared.fault.LogFault.TheVariants as log_faults

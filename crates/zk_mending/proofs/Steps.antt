@@ -2,7 +2,7 @@
 use Rattle.std.proofs.Common.{◌≡◌, ℕ, ◌+◌, ℤ, pos, Bool, false, List, [], ◌∷◌, ◌++◌, length, refl, sym, ap, ◌∙◌, subst, arith}
 use Rattle.zk_digest.specs.Digests.{Owners, tree_digest}
 use Rattle.zk_digest.specs.Following.{IsDigestOf, owners_after}
-use Rattle.zk_journal.specs.Written.{last_of}
+use Rattle.zk_records.specs.Written.{last_of}
 use Rattle.zk_newer.specs.Changes.{owners_of}
 use Rattle.zk_newer.specs.Newer.{newer_record}
 use Rattle.zk_newer.specs.declared.newer.Newer.{Newer}

@@ -5,11 +5,11 @@ use Rattle.std.proofs.lemmas.List.{drop-append-le}
 use Rattle.std.specs.Io.KnownBytes.{Keeps, Consumes, IsAtEnd, prepend_known}
 use Rattle.std.specs.List.{flat_map}
 use Rattle.zk_log.proofs.Carried.{part_ends}
-use Rattle.zk_journal.proofs.EntryLaws.{length-framed}
-use Rattle.zk_journal.specs.Checksum.{adler_of}
+use Rattle.zk_records.proofs.EntryLaws.{length-framed}
+use Rattle.zk_records.specs.Checksum.{adler_of}
 use Rattle.zk_log.specs.Cutting.{IsEntry}
 use Rattle.zk_log.specs.Loading.{ending_of_part}
-use Rattle.zk_journal.specs.Written.{framed, most_bytes}
+use Rattle.zk_records.specs.Written.{framed, most_bytes}
 use Rattle.zk_log.specs.Logs.{Ends, IsPart}
 use Rattle.zk_log.specs.declared.fault.LogFault.TheVariants as log_faults
 use Rattle.zk_log.specs.declared.loaded.Ending.{Ending}

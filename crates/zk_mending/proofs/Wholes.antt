@@ -3,7 +3,7 @@ use Rattle.std.proofs.Common.{◌≡◌, ℕ, ◌+◌, ℤ, List, ◌++◌, Opti
 use Rattle.std.specs.Io.KnownBytes.{Consumes}
 use Rattle.zk_log.specs.Devices.{reads_of, read_failures_of}
 use Rattle.zk_log.specs.Loading.{Heads, HeaderTells}
-use Rattle.zk_journal.specs.Written.{header_of}
+use Rattle.zk_records.specs.Written.{header_of}
 use Rattle.zk_log.specs.declared.fault.LogFault.{LogFault}
 use Rattle.zk_log.specs.declared.fault.LogFault.TheVariants as log_faults
 use Rattle.zk_log.specs.declared.loaded.Ending.{Ending}

@@ -2,7 +2,7 @@
 use Rattle.std.specs.Prelude.{◌≡◌, ℕ, ◌+◌, ℤ, List, ◌++◌, Option, None, Some, Result, Ok, Err, FitsSigned}
 use Rattle.std.specs.Int.{w64}
 use Rattle.zk_log.specs.Devices.{reads_of, read_failures_of}
-use Rattle.zk_journal.specs.Written.{header_of}
+use Rattle.zk_records.specs.Written.{header_of}
 use Rattle.zk_log.specs.Logs.{HasNoHeader}
 use Rattle.zk_log.specs.declared.fault.LogFault.TheVariants as log_faults
 use Rattle.zk_log.specs.declared.source.Source.{Source}

@@ -9,8 +9,8 @@ use Rattle.zk_digest.specs.Digests.{Owners, tree_digest}
 use Rattle.zk_digest.specs.Following.{no_owners, owners_after}
 use Rattle.zk_records.specs.Records.{record_of}
 use Rattle.zk_records.specs.Sizes.{size_of}
-use Rattle.zk_journal.specs.Checksum.{adler_of}
-use Rattle.zk_journal.specs.Written.{framed, most_bytes}
+use Rattle.zk_records.specs.Checksum.{adler_of}
+use Rattle.zk_records.specs.Written.{framed, most_bytes}
 use Rattle.zk_log.specs.Logs.{has_head, stated_length, Ends, Stands}
 use Rattle.zk_log.specs.declared.fault.LogFault.TheVariants as log_faults
 use Rattle.zk_log.specs.declared.loaded.Ending.{Ending}

@@ -3,9 +3,9 @@ use Rattle.std.specs.Prelude.{◌≡◌, ℕ, ◌≤◌, pos, false, List, [], �
 use Rattle.std.specs.Io.KnownBytes.{Consumes}
 use Rattle.std.specs.List.{flat_map}
 use Rattle.zk_digest.specs.Following.{IsDigestOf}
-use Rattle.zk_journal.specs.Checksum.{adler_of}
+use Rattle.zk_records.specs.Checksum.{adler_of}
 use Rattle.zk_log.specs.Cutting.{IsEntry}
-use Rattle.zk_journal.specs.Written.{last_of}
+use Rattle.zk_records.specs.Written.{last_of}
 use Rattle.zk_log.specs.declared.fault.LogFault.TheVariants as log_faults
 use Rattle.zk_log.specs.declared.loaded.Ending.{Ending}
 use Rattle.zk_newer.specs.Newer.{IsSpelled}

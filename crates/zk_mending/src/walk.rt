@@ -5,7 +5,7 @@ ghost use Rattle.zk_digest.specs.Digests.{Owners as ServerOwners};
 ghost use Rattle.zk_digest.specs.Following.{IsDigestOf, owners_after};
 ghost use Rattle.zk_records.specs.Records.{record_of};
 ghost use Rattle.zk_records.specs.Sizes.{size_of};
-ghost use Rattle.zk_journal.specs.Written.{last_of};
+ghost use Rattle.zk_records.specs.Written.{last_of};
 ghost use Rattle.zk_newer.specs.Changes.{owners_of};
 ghost use Rattle.zk_newer.specs.Newer.{newer_record, tells_why};
 ghost use Rattle.zk_table.specs.Steps.{step};

@@ -4,8 +4,8 @@ use Rattle.std.proofs.KnownBytes.{Appends-nil, Appends-trans}
 use Rattle.std.proofs.lemmas.List.{drop_more, take_more}
 use Rattle.std.proofs.lemmas.List.Concat.{flat_map-append}
 use Rattle.std.specs.List.{flat_map}
-use Rattle.zk_journal.specs.Sinks.{writer_of}
-use Rattle.zk_journal.specs.declared.sink.Sink.{Sink}
+use Rattle.zk_records.specs.Sinks.{writer_of}
+use Rattle.zk_records.specs.declared.sink.Sink.{Sink}
 use Rattle.zk_orders.specs.declared.lines.LineFault.{LineFault}
 use Rattle.zk_orders.specs.declared.lines.LineFault.TheVariants as faults
 use Rattle.zk_orders.specs.Writing.{Wrote, BrokeOff, WrotePart, Writes}

@@ -3,7 +3,7 @@ use Rattle.std.proofs.Common.{◌≡◌, ℕ, ◌+◌, ◌<◌, ◌≤◌, List,
 use Rattle.std.proofs.lemmas.List.{take_more, take_all}
 use Rattle.std.proofs.lemmas.List.Concat.{flat_map-append}
 use Rattle.std.specs.List.{flat_map}
-use Rattle.zk_journal.specs.declared.sink.Sink.{Sink}
+use Rattle.zk_records.specs.declared.sink.Sink.{Sink}
 use Rattle.zk_orders.proofs.LinesLaws.{wrote_nothing, wrote_more, broke_off_later, broke_off_earlier}
 use Rattle.zk_orders.specs.Writing.{Wrote, BrokeOff, WrotePart}
 

@@ -2,14 +2,14 @@
 use Rattle.std.proofs.Common.{◌≡◌, ℕ, ℤ, ◌+◌, ◌≤◌, List, [], ◌++◌, Option, None, Some, Result, Ok, Err, inl, refl, sym, ap, ◌∙◌, subst, arith}
 use Rattle.std.proofs.KnownBytes.{Keeps-refl}
 use Rattle.std.proofs.lemmas.Bool.{false≢true}
-use Rattle.zk_journal.specs.Sinks.{writer_of}
+use Rattle.zk_records.specs.Sinks.{writer_of}
 use Rattle.zk_log.specs.Devices.{reader_of, reads_of}
 use Rattle.zk_log.specs.Loading.{Answers, MeetsEnd, ReadsSparingly, Tells}
 use Rattle.zk_log.specs.Taking.{TakesLog, loaded_of}
 use Rattle.zk_log.specs.declared.fault.LogFault.{LogFault}
 use Rattle.zk_log.specs.declared.fault.LogFault.TheVariants as log_faults
 use Rattle.zk_log.specs.declared.loaded.Loaded.{Loaded}
-use Rattle.zk_journal.specs.declared.sink.Sink.{Sink}
+use Rattle.zk_records.specs.declared.sink.Sink.{Sink}
 use Rattle.zk_log.specs.declared.source.Source.{Source}
 use Rattle.zk_log.specs.declared.taking.Head.{Head}
 use Rattle.zk_path.specs.declared.memory.NoMemory.{NoMemory}

@@ -1,6 +1,6 @@
 -- What is written of the answers to a script.
 use Rattle.std.specs.Prelude.{ℕ, zero, suc, List, ◌⊎◌, Option, Result, Ok, Err, IsOk, codes}
-use Rattle.zk_journal.specs.declared.sink.Sink.{Sink}
+use Rattle.zk_records.specs.declared.sink.Sink.{Sink}
 use Rattle.zk_path.specs.declared.memory.NoMemory.{NoMemory}
 use Rattle.zk_reports.specs.Lines.{line_of_script_fault}
 use Rattle.zk_reports.specs.declared.fault.ScriptFault.{ScriptFault}

@@ -7,7 +7,7 @@ use Rattle.zk_log.specs.Devices.{reader_of, reads_of}
 use Rattle.zk_log.specs.declared.fault.LogFault.{LogFault}
 use Rattle.zk_log.specs.declared.fault.LogFault.TheVariants as log_faults
 use Rattle.zk_log.specs.declared.loaded.Loaded.{Loaded}
-use Rattle.zk_journal.specs.declared.sink.Sink.{Sink}
+use Rattle.zk_records.specs.declared.sink.Sink.{Sink}
 use Rattle.zk_log.specs.declared.source.Source.{Source}
 use Rattle.zk_path.specs.declared.memory.NoMemory.{NoMemory}
 use Rattle.zk_debug_script.specs.Scripts.{RunsScript}

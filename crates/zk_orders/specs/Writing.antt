@@ -1,8 +1,8 @@
 -- What writing a text line by line does to a Sink, whose writer may hold known bytes.
 use Rattle.std.specs.Prelude.{◌≡◌, ℕ, ◌+◌, List, ◌++◌, Option, Result, Ok, Err}
 use Rattle.std.specs.Io.KnownBytes.{Keeps, Appends}
-use Rattle.zk_journal.specs.Sinks.{writer_of, write_failures_of, AppendsSome}
-use Rattle.zk_journal.specs.declared.sink.Sink.{Sink}
+use Rattle.zk_records.specs.Sinks.{writer_of, write_failures_of, AppendsSome}
+use Rattle.zk_records.specs.declared.sink.Sink.{Sink}
 use Rattle.zk_orders.specs.declared.lines.LineFault.{LineFault}
 use Rattle.zk_orders.specs.declared.lines.LineFault.TheVariants as faults
 

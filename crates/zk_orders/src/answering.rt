@@ -1,6 +1,6 @@
 //! What is written of the answers to a script.
 ghost use Rattle.std.specs.Prelude.{◌-◌, ◌<◌, ◌^◌, Ok};
-ghost use Rattle.zk_journal.specs.Sinks.{write_failures_of};
+ghost use Rattle.zk_records.specs.Sinks.{write_failures_of};
 ghost use Rattle.zk_orders.specs.Answering.{OutputsAndTells};
 ghost use Rattle.zk_orders.specs.Telling.{Outputs};
 ghost use Rattle.zk_reports.specs.Lines.{line_of_script_fault};

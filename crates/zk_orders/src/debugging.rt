@@ -1,6 +1,6 @@
 ghost use Rattle.std.specs.Prelude.{◌+◌, ◌-◌, ◌<◌, ◌^◌};
 ghost use Rattle.std.specs.String.{string_bytes};
-ghost use Rattle.zk_journal.specs.Sinks.{write_failures_of};
+ghost use Rattle.zk_records.specs.Sinks.{write_failures_of};
 ghost use Rattle.zk_log.specs.Devices.{reads_of, read_failures_of};
 ghost use Rattle.zk_orders.specs.Debugs.{Debugs, ReadsScript, Runs, RunsFromStart};
 

@@ -1,7 +1,7 @@
 ghost use Rattle.std.specs.Prelude.{◌-◌, ◌<◌, ◌^◌};
 ghost use Rattle.zk_orders.specs.Writing.{Writes};
 ghost use Rattle.zk_spelling.specs.Listings.{listing_of};
-ghost use Rattle.zk_journal.specs.Sinks.{write_failures_of};
+ghost use Rattle.zk_records.specs.Sinks.{write_failures_of};
 
 use crate::lines::{LineFault, PAGE};
 use std::alloc::Global;

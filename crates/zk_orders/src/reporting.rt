@@ -2,7 +2,7 @@ ghost use Rattle.std.specs.Prelude.{◌+◌, ◌-◌, ◌<◌, ◌^◌};
 ghost use Rattle.zk_orders.specs.Showing.{report_of, show_report};
 ghost use Rattle.zk_orders.specs.Telling.{TellsLog, TellsWriting};
 ghost use Rattle.zk_spelling.specs.Listings.{listing_of};
-ghost use Rattle.zk_journal.specs.Sinks.{write_failures_of};
+ghost use Rattle.zk_records.specs.Sinks.{write_failures_of};
 ghost use Rattle.zk_log.specs.Devices.{reads_of, read_failures_of};
 
 use crate::lines::LineFault;

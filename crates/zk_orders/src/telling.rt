@@ -1,7 +1,7 @@
 ghost use Rattle.std.specs.Prelude.{◌-◌, ◌<◌, ◌^◌};
 ghost use Rattle.zk_orders.specs.FaultLines.{line_of_log_fault, line_of_asm_fault};
 ghost use Rattle.zk_orders.specs.Telling.{Told, TellsFault};
-ghost use Rattle.zk_journal.specs.Sinks.{write_failures_of};
+ghost use Rattle.zk_records.specs.Sinks.{write_failures_of};
 
 use crate::asm_fault::AsmFault;
 use crate::fault_lines::{asm_line, log_line, placeless_asm_line, placeless_log_line};

@@ -1,3 +1,7 @@
+pub mod EntryLaws
 pub mod Fitting
 pub mod Joined
+pub mod JournalLaws
 pub mod Lengths
+pub mod SumLaws
+pub mod WritingLaws

@@ -1,5 +1,9 @@
 pub use Rattle.zk_path.specs.Paths
+pub mod Checksum
+pub mod Journals
 pub mod Laws
 pub mod Ranges
 pub mod Records
+pub mod Sinks
 pub mod Sizes
+pub mod Written

@@ -9,8 +9,8 @@ use std::marker::Brand;
 use std::sync::Wait;
 use std::sync::ledger::{Blank, Ledger};
 use std::test::Fail;
+use zk_front::servers::{Mark, Pass, Reader, Receipt, Routed, Seat, Shared, Started, ViewFault};
 use zk_path::{NoMemory, Path};
-use zk_servers::{Mark, Pass, Reader, Receipt, Routed, Seat, Shared, Started, ViewFault};
 use zk_table::{ReadCall, ReadReply};
 
 /// The transaction that opens the first session, and the one that makes `/q`.

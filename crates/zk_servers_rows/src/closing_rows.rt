@@ -9,9 +9,11 @@ use std::marker::Brand;
 use std::sync::Wait;
 use std::sync::ledger::{Blank, Ledger};
 use std::thread::Threads;
+use zk_front::servers::{
+    CloseFault, Receipt, Run, Seat, Shared, Started, Unclosed, inboxes, run_servers,
+};
 use zk_path::NoMemory;
 use zk_runs::Answer;
-use zk_servers::{CloseFault, Receipt, Run, Seat, Shared, Started, Unclosed, inboxes, run_servers};
 
 /// What came of two servers that each had one job.
 #[derive(Debug, Drop)]

@@ -2,7 +2,7 @@
 
 use std::sync::atomic::{AtomicBool, Ordering};
 use std::thread;
-use zk_servers::Gate;
+use zk_front::servers::Gate;
 
 /// Holds each of two servers until the other has entered.
 #[derive(Drop)]

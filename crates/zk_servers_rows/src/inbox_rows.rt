@@ -10,9 +10,9 @@ use std::marker::Brand;
 use std::sync::Wait;
 use std::sync::ledger::{Blank, Ledger};
 use std::thread::Threads;
+use zk_front::servers::{Inbox, Post, Run, Seat, Shared, Started, inboxes, run_servers};
 use zk_path::NoMemory;
 use zk_runs::{EnsembleFault, Event};
-use zk_servers::{Inbox, Post, Run, Seat, Shared, Started, inboxes, run_servers};
 
 /// What servers were answered.
 #[derive(Clone, Copy, Debug)]

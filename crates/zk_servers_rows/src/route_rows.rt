@@ -4,9 +4,9 @@ use std::alloc::Global;
 use std::sync::Wait;
 use std::test::Fail;
 use zab_runs::Moved;
+use zk_front::servers::{Inbox, Post, Receipt, Routed, inboxes, send_on};
 use zk_path::NoMemory;
 use zk_runs::Answer;
-use zk_servers::{Inbox, Post, Receipt, Routed, inboxes, send_on};
 
 /// An event that sent messages 5 and 6, for the second server and the first.
 fn of_two_messages(alloc: Global) -> Result<Routed, NoMemory> {

@@ -11,9 +11,9 @@ use std::sync::ledger::{Blank, Ledger};
 use std::thread::Threads;
 use std::{thread, time};
 use zk_front::Remote;
+use zk_front::servers::{Post, Receipt, Run, Seat, Senders, Shared, Started, inboxes, run_servers};
 use zk_path::NoMemory;
 use zk_runs::Event;
-use zk_servers::{Post, Receipt, Run, Seat, Senders, Shared, Started, inboxes, run_servers};
 
 /// What came of a script.
 #[derive(Clone, Copy, Debug)]

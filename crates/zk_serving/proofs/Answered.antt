@@ -7,9 +7,9 @@ use Rattle.zk_connections.specs.declared.ask.Deed.{Deed}
 use Rattle.zk_connections.specs.declared.ask.Deed.TheVariants as deeds
 use Rattle.zk_connections.specs.declared.ask.Saying.{Saying}
 use Rattle.zk_connections.specs.declared.standing.Standing.{Standing}
-use Rattle.zk_front_lines.specs.Lines.{Line, read_line}
-use Rattle.zk_front_lines.specs.Sayings.{text_in}
-use Rattle.zk_front_lines.specs.declared.wish.Wish.{Wish}
+use Rattle.zk_connections.specs.Lines.{Line, read_line}
+use Rattle.zk_connections.specs.Sayings.{text_in}
+use Rattle.zk_connections.specs.declared.wish.Wish.{Wish}
 use Rattle.zk_serving.specs.Fronts.{Answer, front, line_doing}
 use Rattle.zk_serving.specs.Reaching.{Answers, AnswersNot}
 use Rattle.zk_serving.proofs.FrontLaws.{at_once, when_asked, asked_at_least, told_by}

@@ -2,14 +2,14 @@
 use Rattle.std.proofs.Common.{◌≡◌, ℕ, ◌<◌, List, [], false, length, Option, Result, Ok, Err, OnOk, sym, ap, subst, ◌∙◌}
 use Rattle.std.specs.Prelude.{IfErr}
 use Rattle.zk_serving.specs.Fronts.{Answer}
-use Rattle.zk_front_lines.specs.Pendings.{Holds}
+use Rattle.zk_connections.specs.Pendings.{Holds}
 use Rattle.zk_serving.specs.Reaching.{EndsLine, EndsNoLine, EndsAll, EndsEarly, Ended, Finishes}
 use Rattle.zk_serving.specs.declared.fault.FrontFault.{FrontFault}
 use Rattle.zk_serving.specs.declared.fault.FrontFault.TheVariants as faults
 use Rattle.zk_connections.specs.declared.ask.Ask.{Ask}
 use Rattle.zk_serving.specs.declared.connection.Connection.{Connection}
 use Rattle.zk_serving.proofs.Reaches.{nothing_left, last_answered, last_not_answered, not_written}
-use Rattle.zk_journal.specs.Sinks.{AppendsSome}
+use Rattle.zk_records.specs.Sinks.{AppendsSome}
 use Rattle.std.specs.String.{string_bytes}
 
 module _ {S : Type 0} (does : S → Ask → Answer → S → Type 0) where

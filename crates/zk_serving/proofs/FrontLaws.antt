@@ -6,8 +6,8 @@ use Rattle.zk_connections.specs.declared.ask.Ask.{Ask}
 use Rattle.zk_connections.specs.declared.ask.Deed.TheVariants as deeds
 use Rattle.zk_connections.specs.declared.ask.Saying.{Saying}
 use Rattle.zk_connections.specs.declared.standing.Standing.{Standing}
-use Rattle.zk_front_lines.specs.Lines.{Line}
-use Rattle.zk_front_lines.specs.declared.wish.Wish.{Wish}
+use Rattle.zk_connections.specs.Lines.{Line}
+use Rattle.zk_connections.specs.declared.wish.Wish.{Wish}
 use Rattle.zk_serving.specs.Fronts.{Answer, Output, joined, front, line_doing, after_told}
 use Rattle.zk_serving.specs.Serving.{Exchange, Follows, Begins}
 

@@ -1,7 +1,9 @@
 -- Lemmas of this crate.
-pub mod FrontLaws
 pub mod Answered
-pub mod Reaches
 pub mod Ending
-pub mod Taking
+pub mod FrontLaws
 pub mod Pieces
+pub mod Reaches
+pub mod Running
+pub mod Taking
+pub mod Telling

@@ -5,7 +5,7 @@ use Rattle.std.specs.List.{filter}
 use Rattle.std.specs.Io.KnownBytes.{Consumes, Keeps, IsAtEnd}
 use Rattle.std.specs.String.{string_bytes}
 use Rattle.std.proofs.lemmas.List.Elements.{filter-append}
-use Rattle.zk_front_lines.specs.Lines.{Line, lines_in, ended_in, IsUnended}
+use Rattle.zk_connections.specs.Lines.{Line, lines_in, ended_in, IsUnended}
 use Rattle.zk_connections.specs.Connections.{fresh}
 use Rattle.zk_connections.specs.declared.standing.Standing.{Standing}
 use Rattle.zk_serving.specs.Fronts.{Answer, front}
@@ -15,7 +15,7 @@ use Rattle.zk_serving.specs.declared.fault.FrontFault.{FrontFault}
 use Rattle.zk_serving.specs.declared.fault.FrontFault.TheVariants as faults
 use Rattle.zk_connections.specs.declared.ask.Ask.{Ask}
 use Rattle.zk_serving.specs.declared.connection.Connection.{Connection}
-use Rattle.zk_front_lines.proofs.LineLaws.{last_line, no_line}
+use Rattle.zk_connections.proofs.LineLaws.{last_line, no_line}
 use Rattle.zk_serving.proofs.Reaches.{lines_to_end, no_more, appends_nothing, whole_by}
 
 -- ---- reads

@@ -5,19 +5,19 @@ use Rattle.std.specs.String.{string_bytes}
 use Rattle.std.proofs.KnownBytes.{Appends-trans}
 use Rattle.std.proofs.lemmas.List.{map-append}
 use Rattle.std.proofs.lemmas.List.Elements.{filter-append}
-use Rattle.zk_journal.specs.Sinks.{AppendsSome}
-use Rattle.zk_front_lines.specs.Lines.{Line, line, lines_in, IsUnended}
+use Rattle.zk_records.specs.Sinks.{AppendsSome}
+use Rattle.zk_connections.specs.Lines.{Line, line, lines_in, IsUnended}
 use Rattle.zk_connections.specs.Connections.{fresh}
 use Rattle.zk_connections.specs.declared.standing.Standing.{Standing}
 use Rattle.zk_serving.specs.Fronts.{Answer, Output, joined, front}
 use Rattle.zk_serving.specs.Serving.{Exchange, asked_in, told_in, Begins, IsWhole}
-use Rattle.zk_front_lines.specs.Pendings.{Holds}
+use Rattle.zk_connections.specs.Pendings.{Holds}
 use Rattle.zk_serving.specs.Reaching.{Answers, AnswersNot, Reached, Stopped, Ended, EndsLine, Flushes, AtEnd}
 use Rattle.zk_serving.specs.declared.fault.FrontFault.{FrontFault}
 use Rattle.zk_serving.specs.declared.fault.FrontFault.TheVariants as faults
 use Rattle.zk_connections.specs.declared.ask.Ask.{Ask}
 use Rattle.zk_serving.specs.declared.connection.Connection.{Connection}
-use Rattle.zk_front_lines.proofs.LineLaws.{one_line, last_line, no_line, unended_more}
+use Rattle.zk_connections.proofs.LineLaws.{one_line, last_line, no_line, unended_more}
 use Rattle.zk_serving.proofs.FrontLaws.{joined_joined, follows_more}
 
 told_more : (xs ys : List Exchange) (told : List Answer) → told_in (xs ++ ys) ++ told ≡ told_in xs ++ (told_in ys ++ told)

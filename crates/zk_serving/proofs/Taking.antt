@@ -2,9 +2,9 @@
 use Rattle.std.proofs.Common.{◌≡◌, inl, inr, ℕ, List, [], ◌∷◌, ◌++◌, true, Option, Result, Ok, Err, OnOk, sym, subst, ◌∙◌, append_assoc, append-nil}
 use Rattle.std.specs.Prelude.{IfErr}
 use Rattle.std.specs.String.{string_bytes}
-use Rattle.zk_journal.specs.Sinks.{AppendsSome}
+use Rattle.zk_records.specs.Sinks.{AppendsSome}
 use Rattle.zk_serving.specs.Fronts.{Answer}
-use Rattle.zk_front_lines.specs.Lines.{IsUnended}
+use Rattle.zk_connections.specs.Lines.{IsUnended}
 use Rattle.zk_serving.specs.Reaching.{Reached, Stopped, EndsLine, EndsNoLine, Flushes, MayFlush, Goes, Stops, StopsInLine, Added}
 use Rattle.zk_serving.specs.declared.fault.FrontFault.{FrontFault}
 use Rattle.zk_serving.specs.declared.fault.FrontFault.TheVariants as faults

@@ -8,8 +8,8 @@ use Rattle.zk_connections.specs.declared.ask.Deed.TheVariants as deeds
 use Rattle.zk_connections.specs.declared.standing.Standing.{Standing}
 use Rattle.zk_connections.specs.declared.told.ServiceFault.{ServiceFault}
 use Rattle.zk_connections.specs.declared.told.Told.{Told}
-use Rattle.zk_front_lines.specs.Lines.{Line, read_line}
-use Rattle.zk_front_lines.specs.Sayings.{text_in}
+use Rattle.zk_connections.specs.Lines.{Line, read_line}
+use Rattle.zk_connections.specs.Sayings.{text_in}
 
 -- what the service answers to an ask
 abbrev pub Answer : Type 0

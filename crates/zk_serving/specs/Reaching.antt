@@ -3,12 +3,12 @@ use Rattle.std.specs.Prelude.{◌≡◌, ◌⊎◌, ℕ, ◌+◌, List, [], ◌�
 use Rattle.std.specs.List.{filter}
 use Rattle.std.specs.Io.KnownBytes.{Appends}
 use Rattle.std.specs.String.{string_bytes}
-use Rattle.zk_front_lines.specs.Lines.{Line, line, lines_in, IsUnended}
+use Rattle.zk_connections.specs.Lines.{Line, line, lines_in, IsUnended}
 use Rattle.zk_connections.specs.Connections.{fresh}
 use Rattle.zk_connections.specs.declared.standing.Standing.{Standing}
 use Rattle.zk_serving.specs.Fronts.{Answer, joined, front}
 use Rattle.zk_serving.specs.Serving.{Exchange, asked_in, told_in, Follows, Begins, IsServed}
-use Rattle.zk_front_lines.specs.Pendings.{Holds}
+use Rattle.zk_connections.specs.Pendings.{Holds}
 use Rattle.zk_serving.specs.declared.fault.FrontFault.{FrontFault}
 use Rattle.zk_serving.specs.declared.fault.FrontFault.TheVariants as faults
 use Rattle.zk_connections.specs.declared.ask.Ask.{Ask}

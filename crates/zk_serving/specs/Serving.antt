@@ -1,7 +1,7 @@
 -- What serving leaves: what was asked, what was told, what was read and what was written.
 use Rattle.std.specs.Prelude.{◌≡◌, ℕ, ◌+◌, List, [], ◌∷◌, ◌++◌, length, map, Option, Result, Ok, Err, IfOk}
 use Rattle.std.specs.Io.KnownBytes.{Consumes, Appends, IsAtEnd}
-use Rattle.zk_front_lines.specs.Lines.{Line, lines_in, ended_in}
+use Rattle.zk_connections.specs.Lines.{Line, lines_in, ended_in}
 use Rattle.zk_connections.specs.Connections.{fresh}
 use Rattle.zk_serving.specs.Fronts.{Answer, Output, joined, front, asks_of, bytes_told}
 use Rattle.zk_connections.specs.declared.ask.Ask.{Ask}

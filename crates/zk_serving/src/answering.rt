@@ -1,12 +1,11 @@
 ghost use Rattle.std.specs.Prelude.{◌≡◌, option_map, OnOk, OnErr};
 ghost use Rattle.std.specs.String.{string_bytes};
-ghost use Rattle.zk_front_lines.specs.Lines.{Line, read_line};
+ghost use Rattle.zk_connections.specs.Lines.{Line, read_line};
 ghost use Rattle.zk_serving.specs.Reaching.{Answers, AnswersNot};
 
 use crate::service::Service;
 use std::alloc::Global;
-use zk_connections::{Deed, Standing, push_saying};
-use zk_front_lines::text_of;
+use zk_connections::{Deed, Standing, push_saying, text_of};
 use zk_path::NoMemory;
 
 /// Answers a line, on the page: at once, or with what the service tells.

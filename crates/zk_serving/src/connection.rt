@@ -1,6 +1,6 @@
 ghost use Rattle.std.specs.Prelude.{◌≡◌, ◌-◌, ◌<◌, ◌^◌, OnOk, IfErr};
 ghost use Rattle.std.specs.String.{string_bytes};
-ghost use Rattle.zk_journal.specs.Sinks.{writer_of, write_failures_of, AppendsSome};
+ghost use Rattle.zk_records.specs.Sinks.{writer_of, write_failures_of, AppendsSome};
 ghost use Rattle.zk_serving.specs.Reaching.{Added, Flushes, IsFresh, MayFlush};
 ghost use Rattle.zk_serving.specs.Serving.{writes_failed};
 ghost use Rattle.zk_serving.specs.declared.fault.FrontFault.TheVariants as faults;
@@ -8,8 +8,7 @@ ghost use Rattle.zk_serving.specs.declared.fault.FrontFault.TheVariants as fault
 use crate::fault::FrontFault;
 use std::alloc::Global;
 use std::io::Write;
-use zk_connections::Standing;
-use zk_front_lines::Pending;
+use zk_connections::{Pending, Standing};
 use zk_log::Sink;
 use zk_path::NoMemory;
 

@@ -1,9 +1,9 @@
 ghost use Rattle.std.specs.Prelude.{◌≡◌, ◌+◌, ◌-◌, ◌<◌, ◌≤◌, ◌^◌, ◌==◌, ◌++◌, ◌∷◌, length, [], option_map, OnOk, IfOk, IfErr, Err};
 ghost use Rattle.std.specs.String.{string_bytes};
-ghost use Rattle.zk_journal.specs.Sinks.{writer_of, write_failures_of, AppendsSome};
+ghost use Rattle.zk_records.specs.Sinks.{writer_of, write_failures_of, AppendsSome};
 ghost use Rattle.zk_log.specs.Devices.{AsksAtMost, reader_of, reads_of, read_failures_of};
 ghost use Rattle.zk_serving.specs.Serving.{Serves, reads_failed, writes_failed};
-ghost use Rattle.zk_front_lines.specs.Lines.{IsSplit, IsUnended};
+ghost use Rattle.zk_connections.specs.Lines.{IsSplit, IsUnended};
 ghost use Rattle.zk_serving.specs.Reaching.{Finishes, Goes, Stops, EndsLine, EndsNoLine, EndsAll, EndsEarly, Flushes, IsFresh, MayFlush, StopsInLine, Added, IsStop};
 ghost use Rattle.zk_serving.specs.declared.fault.FrontFault.TheVariants as faults;
 
@@ -13,7 +13,7 @@ use crate::fault::FrontFault;
 use crate::service::Service;
 use std::alloc::{AllocError, Global};
 use std::io::{Read, Write};
-use zk_front_lines::split_line;
+use zk_connections::split_line;
 use zk_log::{Sink, Source};
 
 /// The most bytes of a read.

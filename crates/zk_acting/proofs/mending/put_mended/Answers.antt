@@ -1,8 +1,8 @@
 use Rattle.std.proofs.Common.{ℕ, ℤ, List, Ok, FitsSigned, inl, ◌∙◌, subst, rules, w64}
 use Rattle.std.proofs.lemmas.Int.{to_z-of_z}
 use Rattle.std.specs.Io.KnownBytes.{Appends}
-use Rattle.zk_journal.specs.Sinks.{writer_of, AppendsSome}
-use Rattle.zk_journal.specs.Written.{log_of}
+use Rattle.zk_records.specs.Sinks.{writer_of, AppendsSome}
+use Rattle.zk_records.specs.Written.{log_of}
 use Rattle.zk_orders.specs.Telling.{Outputs}
 use Rattle.zk_acting.proofs.Written.{both_written}
 use Rattle.zk_acting.specs.Reports.{mend_report}

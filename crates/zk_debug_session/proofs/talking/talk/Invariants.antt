@@ -1,6 +1,6 @@
 -- The lines so far were answered.
 use Rattle.std.proofs.Common.{◌≡◌, ◌-◌, ◌^◌}
-use Rattle.zk_journal.specs.Sinks.{writer_of, write_failures_of}
+use Rattle.zk_records.specs.Sinks.{writer_of, write_failures_of}
 use Rattle.zk_log.specs.Devices.{reader_of, reads_of, read_failures_of}
 use Rattle.zk_debug_session.proofs.TalkLaws.{Reached}
 use Rattle.zk_debug_session.proofs.talking.talk.Given as goal

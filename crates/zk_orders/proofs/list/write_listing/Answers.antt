@@ -5,7 +5,7 @@ use Rattle.std.specs.List.{flat_map}
 use Rattle.std.specs.String.{string_bytes}
 use lib.Utf8.{encode}
 use Rattle.zk_spelling.specs.Listings.{line_of}
-use Rattle.zk_journal.specs.Sinks.{writer_of, AppendsSome}
+use Rattle.zk_records.specs.Sinks.{writer_of, AppendsSome}
 use Rattle.zk_orders.proofs.PageLaws.{OnPage, page_written, line_on_page, stops_on_page, breaks_off_page}
 use Rattle.zk_orders.specs.Writing.{BrokeOff, Wrote}
 use Rattle.zk_orders.proofs.list.write_listing.Goals as goal

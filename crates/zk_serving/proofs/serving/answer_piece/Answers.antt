@@ -1,4 +1,4 @@
-use Rattle.zk_journal.specs.Sinks.{writer_of}
+use Rattle.zk_records.specs.Sinks.{writer_of}
 use Rattle.zk_serving.proofs.Taking.{goes_flushed, stops_flushing}
 use Rattle.zk_serving.proofs.serving.answer_piece.Goals as goal
 

@@ -1,6 +1,6 @@
 use Rattle.std.proofs.Common.{◌∙◌}
 use Rattle.std.proofs.lemmas.Result.{err_from_is_err_and}
-use Rattle.zk_journal.specs.Sinks.{writer_of}
+use Rattle.zk_records.specs.Sinks.{writer_of}
 use Rattle.zk_serving.proofs.Ending.{ends_unwritten}
 use Rattle.zk_serving.proofs.Reaches.{all_written}
 use Rattle.zk_serving.proofs.serving.finish.Goals as goal

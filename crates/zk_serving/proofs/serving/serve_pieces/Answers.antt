@@ -1,7 +1,7 @@
 use Rattle.std.proofs.Common.{◌≡◌, ◌∙◌, ℕ, ◌≤◌, List, [], ◌++◌, length, take, refl, sym, ap, subst, Result, Err, append-nil, length-take, arith, rules}
 use Rattle.std.proofs.lemmas.Result.{err_from_is_err_and}
 use Rattle.std.specs.Io.KnownBytes.{Consumes}
-use Rattle.zk_journal.specs.Sinks.{writer_of}
+use Rattle.zk_records.specs.Sinks.{writer_of}
 use Rattle.zk_log.specs.Devices.{reader_of, read_failures_of}
 use Rattle.zk_serving.specs.Serving.{Serves}
 use Rattle.zk_serving.specs.declared.fault.FrontFault.{FrontFault}

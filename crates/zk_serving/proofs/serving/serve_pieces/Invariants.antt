@@ -2,7 +2,7 @@
 use Rattle.std.proofs.Common.{◌≡◌, ◌+◌, ◌*◌, ◌<◌, ◌≤◌, [], List, ℕ, length}
 use Rattle.std.specs.Io.KnownBytes.{Consumes}
 use Rattle.std.specs.String.{string_bytes}
-use Rattle.zk_journal.specs.Sinks.{writer_of, write_failures_of}
+use Rattle.zk_records.specs.Sinks.{writer_of, write_failures_of}
 use Rattle.zk_log.specs.Devices.{AsksAtMost, reader_of, reads_of, read_failures_of}
 use Rattle.zk_serving.specs.Reaching.{Reached}
 use Rattle.zk_serving.proofs.serving.serve_pieces.Given as goal

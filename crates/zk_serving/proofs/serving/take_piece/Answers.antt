@@ -1,6 +1,6 @@
 use Rattle.std.proofs.Common.{◌≡◌, ◌∙◌, ℕ, List, [], ◌∷◌, ◌++◌, length, refl, sym, ap, subst, append_assoc, length-append, arith}
 use Rattle.std.proofs.lemmas.Result.{err_from_is_err_and}
-use Rattle.zk_journal.specs.Sinks.{writer_of}
+use Rattle.zk_records.specs.Sinks.{writer_of}
 use Rattle.zk_serving.specs.Reaching.{Stops, Goes}
 use Rattle.zk_serving.specs.declared.fault.FrontFault.{FrontFault}
 use Rattle.zk_serving.specs.declared.fault.FrontFault.TheVariants as faults

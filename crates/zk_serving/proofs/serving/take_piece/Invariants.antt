@@ -1,6 +1,6 @@
 -- What was taken so far, and what is left of the piece.
 use Rattle.std.proofs.Common.{◌≡◌, ◌+◌, ◌≤◌, ◌++◌, List, ℕ, length}
-use Rattle.zk_journal.specs.Sinks.{writer_of, write_failures_of}
+use Rattle.zk_records.specs.Sinks.{writer_of, write_failures_of}
 use Rattle.zk_serving.specs.Reaching.{Goes}
 use Rattle.zk_serving.proofs.serving.take_piece.Given as goal
 

@@ -8,8 +8,8 @@ use Rattle.zab_runs.specs.Worlds.{World, profile_of, new_world, world}
 use Rattle.zab_agreement_laws.proofs.AgreeRuns.{runs_agree}
 use Rattle.zab_agreement_laws.proofs.Promises.{leaders_end_below}
 use Rattle.zab_runs.proofs.RunLaws.{goes_on}
-use Rattle.zab_origin_laws.proofs.Origins.{tagged_once, come_from_calls}
-use Rattle.zab_sync_laws.proofs.SyncRuns.{are_caught}
+use Rattle.zab_call_laws.proofs.Origins.{tagged_once, come_from_calls}
+use Rattle.zab_call_laws.proofs.SyncRuns.{are_caught}
 use Rattle.zab_places.specs.Notes.{fallen_by, moved_in}
 use Rattle.zab_world.proofs.Joinings.{fell_or_not}
 use Rattle.zab_world.proofs.world.World.advance.Goals as goal

@@ -3,7 +3,7 @@ use Rattle.std.proofs.lemmas.Int.{to_z-of_z}
 use Rattle.std.specs.Prelude.{IfOk}
 use Rattle.zk_front.specs.Calling.{Calling, Calls, CallsSome}
 use Rattle.zk_front.specs.Remotes.{IsTold, events_for, expiries}
-use Rattle.zk_front_local.specs.Asks.{event_of, sought_by}
+use Rattle.zk_serving.specs.Asks.{event_of, sought_by}
 use Rattle.zk_prepare.specs.Deadlines.{DeadlineMap, expired_at}
 use Rattle.zk_front.proofs.Calling.{on_err, some_first}
 use Rattle.zk_front.proofs.Expiring.{asked_part, asked_told, asked_in_vain}

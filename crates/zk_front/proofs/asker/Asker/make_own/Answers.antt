@@ -1,7 +1,7 @@
 use Rattle.std.proofs.Common.{rules, ◌≡◌, ◌+◌, ◌∷◌, [], List, ℕ, ℤ, length, sym, subst, ap, refl, ◌∙◌, arith, to_z, of_z, w64}
 use Rattle.std.proofs.lemmas.Int.{to_z-of_z}
 use Rattle.zk_front.specs.Calling.{Calling, Calls, CallsOne, CallsSome}
-use Rattle.zk_front_local.specs.Asks.{event_of}
+use Rattle.zk_serving.specs.Asks.{event_of}
 use Rattle.zk_front.proofs.Calling.{on_err, on_ok, one_from, some_all, some_none}
 use Rattle.zk_runs.specs.declared.event.Event.{Event}
 use Rattle.zk_front.proofs.asker.Asker.make_own.Goals as goal

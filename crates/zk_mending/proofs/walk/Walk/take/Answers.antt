@@ -1,5 +1,5 @@
 use Rattle.std.proofs.Common.{◌≡◌, ◌≢◌, rules}
-use Rattle.zk_journal.specs.Checksum.{adler_of}
+use Rattle.zk_records.specs.Checksum.{adler_of}
 use Rattle.zk_mending.proofs.Refusals.{checksum_refused, unread_refused, reasonless_refused, refuses_answer, is_at_still}
 use Rattle.zk_mending.proofs.walk.Walk.take.Goals as goal
 

@@ -1,0 +1,9 @@
+pub mod Accepting
+pub mod Origins
+pub mod SyncEvents
+pub mod SyncFacts
+pub mod SyncRules
+pub mod SyncRuns
+pub mod SyncWorlds
+pub mod TagRuns
+pub mod Taking

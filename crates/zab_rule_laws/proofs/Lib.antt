@@ -1,0 +1,16 @@
+pub mod Beginning
+pub mod Choosing
+pub mod Common
+pub mod Electing
+pub mod Following
+pub mod Growing
+pub mod Hearing
+pub mod Joining
+pub mod Leading
+pub mod Reaching
+pub mod Splicing
+pub mod Staying
+pub mod TagCalls
+pub mod TagFacts
+pub mod TagRules
+pub mod Telling

@@ -1,0 +1,57 @@
+ghost use Rattle.std.specs.Prelude.{◌-◌, ◌<◌, ◌≤◌, ◌^◌};
+ghost use Rattle.zk_records.specs.Sinks.{write_failures_of};
+ghost use Rattle.zk_cli.specs.Serving.{Serves};
+
+use crate::accepting::Served;
+use crate::port::{listening_line, port_of};
+use crate::servers::serve_clients;
+use std::alloc::Global;
+use std::io::Write;
+use std::net::TcpListener;
+use std::sync::Wait;
+use std::thread::Threads;
+use std::time;
+use zk_front::Clock;
+use zk_log::Sink;
+use zk_orders::tell;
+use zk_path::NoMemory;
+
+/// Starts servers as threads, tells the port, and serves so many connections on it, one after the other, at server 1. Answers the
+/// exit status: 0, or 1 with one line on `faults`, `zk: write` where the port could not be told and `zk: listen` where the listener
+/// has no port or gave no connection.
+///
+/// The port is told before the servers start; a client that connects waits until they have. [`NoMemory`] also where a thread can't
+/// be made, or where a connection is refused memory, which ends all.
+#[tactic(auto, using(crate::proofs::ServesLaws::no_port, crate::proofs::ServesLaws::not_written, crate::proofs::ServesLaws::all_served, crate::proofs::ServesLaws::unheard, crate::proofs::ServesLaws::refused_before, crate::proofs::ServesLaws::refused_behind))]
+pub(crate) fn serve<R: Threads + Wait + time::Clock + Sync, C: Clock, O: Write, E: Write>(
+    rt: &R,
+    alloc: Global,
+    listener: &TcpListener,
+    servers: usize,
+    connections: u32,
+    clock: C,
+    output: &mut Sink<O>,
+    faults: &mut Sink<E>,
+) -> Result<u8, NoMemory>
+    requires servers { (2 ≤ servers) × (servers ≤ 15) }
+    requires output { write_failures_of output.old < 2 ^ 64 - 1 }
+    requires faults { write_failures_of faults.old < 2 ^ 64 - 1 }
+    ensures { Serves O.contents E.contents output.old output.new faults.old faults.new result }
+{
+    let Some(port) = port_of(listener) else {
+        tell(faults, "zk: listen\n");
+        return Ok(1);
+    };
+    let line = listening_line(alloc, port)?;
+    if output.write_all(line.as_str().as_bytes()).is_err() {
+        tell(faults, "zk: write\n");
+        return Ok(1);
+    }
+    match serve_clients(rt, alloc, listener, servers, connections, clock)? {
+        Served::All => Ok(0),
+        Served::Unheard => {
+            tell(faults, "zk: listen\n");
+            Ok(1)
+        }
+    }
+}
