@@ -1,18 +1,18 @@
 -- A tag is accepted once: no two events of a run submit accepted calls with one tag.
-use Rattle.std.proofs.Common.{◌≡◌, ℕ, suc, zero, ◌==◌, ◌&&◌, not, Bool, true, false, List, [], ◌∷◌, length, Option, Some, None, Result, Ok, Err, refl, sym, ap, subst, ◌∙◌, slice_get}
+use Rattle.std.proofs.Common.{◌≡◌, ℕ, suc, zero, true, false, List, [], ◌∷◌, Option, Some, None, Result, Ok, Err, refl, sym, ap, subst, ◌∙◌, slice_get}
 use Rattle.zab_epoch.specs.declared.fault.RuleFault.{RuleFault}
 use Rattle.zab_epoch.specs.declared.message.Message.{Message}
-use Rattle.zab_broadcast.specs.declared.state.State.{State}
 use Rattle.zab_broadcast.specs.Calls.{Setting, is_taken}
 use Rattle.zab_broadcast.specs.Rules as rules
-use Rattle.zab_rule_laws.proofs.TagFacts.{by_test, same_some, taken_more, taken_last}
+use Rattle.zab_rule_laws.proofs.TagFacts.{by_test, same_some, taken_last}
 use Rattle.zab_runs.specs.declared.event.Event.{Event}
 use Rattle.zab_runs.specs.declared.event.Event.TheVariants.{Lead, Follow, Arrive, Submit, Expire, Sync, Crash, Restart}
 use Rattle.zab_runs.specs.declared.event.Moved.{Moved}
 use Rattle.zab_runs.specs.declared.fault.WorldFault.{WorldFault}
 use Rattle.zab_runs.specs.Standings.{Standing, standing}
-use Rattle.zab_runs.specs.Worlds.{World, Profile, Answer, is_server, running, resting, told, said, with_server, acts, receives, message_at, arrives, spends, submits, spends_sync, syncs, crashes, restarts, happens}
+use Rattle.zab_runs.specs.Worlds.{World, Profile, Answer, running, told, said, with_server, spends, submits, happens}
 use Rattle.zab_runs.specs.Runs.{answers}
+use Rattle.zab_call_laws.proofs.Spending.{happens_tags, not_ok, not_spent}
 use Rattle.zab_agreement_laws.specs.Origins.{call_of}
 
 -- an event, from a world on, submitted the call, and was answered with the messages that it sent
@@ -24,79 +24,11 @@ pub record IsAcceptedFrom {C : Type 0} (profile : Profile C) (w : World C) (even
   pub sent : Moved
   pub answered : slice_get (answers profile w events) place ≡ Some (Ok sent)
 
--- ---- a tag that is spent stays so
-
-abbrev KeepsTags : {C : Type 0} → World C → World C × Answer → Type 0
-KeepsTags w p = (tag : ℕ) → is_taken tag w.tags.calls ≡ true → is_taken tag p.0.tags.calls ≡ true
-
-told_tags : {C : Type 0} (w : World C) (n : ℕ) (stands : Standing) (r : Result (List (Message C)) RuleFault) → KeepsTags w (told (with_server w n stands) (said r))
-told_tags w n stands (Ok messages) = λ tag is. is
-told_tags w n stands (Err fault) = λ tag is. is
-
-spends_tags : {C : Type 0} (t : ℕ) (w : World C) (n : ℕ) (stands : Standing) (r : Result (List (Message C)) RuleFault) → KeepsTags w (spends t (told (with_server w n stands) (said r)))
-spends_tags t w n stands (Ok messages) = λ tag is. taken_more tag w.tags.calls (t ∷ []) is
-spends_tags t w n stands (Err fault) = λ tag is. is
-
-acts_tags : {C : Type 0} (w : World C) (n : ℕ) (rule : State → rules.Acts C) (r : Result Standing WorldFault) → KeepsTags w (acts w n rule r)
-acts_tags w n rule (Ok it) = told_tags w n (standing it.up (rule it.state).0) (rule it.state).1
-acts_tags w n rule (Err fault) = λ tag is. is
-
-arrives_tags : {C : Type 0} (setting : Setting C) (w : World C) (m : Option (Message C)) → KeepsTags w (arrives setting w m)
-arrives_tags setting w None = λ tag is. is
-arrives_tags setting w (Some m) = acts_tags w m.addressee (receives setting m.sender m.body) (running w.servers m.addressee)
-
-submits_tags : {C : Type 0} (setting : Setting C) (w : World C) (n : ℕ) (call : C) (r : Result Standing WorldFault) → KeepsTags w (submits setting w n call r)
-submits_tags setting w n call (Err fault) = λ tag is. is
-submits_tags setting w n call (Ok it) =
-    by_test (KeepsTags w) (rules.is_serving it.state.peer.role) _ _
-    (λ serving. by_test (KeepsTags w) (is_taken (setting.tag call) w.tags.calls) _ _
-    (λ again tag is. is)
-    (λ free. spends_tags (setting.tag call) w n (standing it.up (rules.submit setting it.state call).0) (rules.submit setting it.state call).1))
-    (λ no tag is. is)
-
-spends_sync_tags : {C : Type 0} (t : ℕ) (w : World C) (n : ℕ) (stands : Standing) (r : Result (List (Message C)) RuleFault) → KeepsTags w (spends_sync t (told (with_server w n stands) (said r)))
-spends_sync_tags t w n stands (Ok messages) = λ tag is. is
-spends_sync_tags t w n stands (Err fault) = λ tag is. is
-
-syncs_tags : {C : Type 0} (w : World C) (n t : ℕ) (r : Result Standing WorldFault) → KeepsTags w (syncs w n t r)
-syncs_tags w n t (Err fault) = λ tag is. is
-syncs_tags {C} w n t (Ok it) =
-    let act : rules.Acts C = rules.sync it.state t in
-    by_test (KeepsTags w) (rules.is_serving it.state.peer.role) _ _
-    (λ serving. by_test (KeepsTags w) (is_taken t w.tags.syncs) _ _
-    (λ again tag is. is)
-    (λ free. spends_sync_tags t w n (standing it.up act.0) act.1))
-    (λ no tag is. is)
-
-crashes_tags : {C : Type 0} (w : World C) (n : ℕ) (r : Result Standing WorldFault) → KeepsTags w (crashes w n r)
-crashes_tags w n (Ok it) = λ tag is. is
-crashes_tags w n (Err fault) = λ tag is. is
-
-restarts_tags : {C : Type 0} (w : World C) (n : ℕ) (r : Result Standing WorldFault) → KeepsTags w (restarts w n r)
-restarts_tags w n (Ok it) = λ tag is. is
-restarts_tags w n (Err fault) = λ tag is. is
-
-happens_tags : {C : Type 0} (profile : Profile C) (w : World C) (event : Event C) → KeepsTags w (happens profile w event)
-happens_tags profile w (Lead n) = acts_tags w n rules.lead (running w.servers n)
-happens_tags profile w (Follow n leader) =
-    by_test (KeepsTags w) (is_server (length w.servers) leader && not (n == leader)) _ _
-    (λ e. acts_tags w n (λ state. rules.follow state leader) (running w.servers n))
-    (λ e tag is. is)
-happens_tags profile w (Arrive number) = arrives_tags profile.setting w (message_at w.messages number)
-happens_tags profile w (Submit n call) = submits_tags profile.setting w n call (running w.servers n)
-happens_tags profile w (Expire n tag session now) = submits_tags profile.setting w n (profile.closing tag session now) (running w.servers n)
-happens_tags profile w (Sync n tag) = syncs_tags w n tag (running w.servers n)
-happens_tags profile w (Crash n) = crashes_tags w n (running w.servers n)
-happens_tags profile w (Restart n) = restarts_tags w n (resting w.servers n)
-
 -- ---- an accepted call spends its tag, which was not spent before
 
 abbrev SpendsTag : {C : Type 0} → Setting C → World C → C → World C × Answer → Type 0
 SpendsTag setting w call p =
     (sent : Moved) → p.1 ≡ Ok sent → (is_taken (setting.tag call) w.tags.calls ≡ false) × (is_taken (setting.tag call) p.0.tags.calls ≡ true)
-
-not_ok : {A : Type 0} (fault : WorldFault) (sent : Moved) → (let r : Answer = Err fault in r ≡ Ok sent) → A
-not_ok fault sent e = absurd cc
 
 spends_it : {C : Type 0} (setting : Setting C) (w : World C) (n : ℕ) (call : C) (stands : Standing) (r : Result (List (Message C)) RuleFault) → is_taken (setting.tag call) w.tags.calls ≡ false → SpendsTag setting w call (spends (setting.tag call) (told (with_server w n stands) (said r)))
 spends_it setting w n call stands (Ok messages) free = λ sent is. (free, taken_last (setting.tag call) w.tags.calls)
@@ -137,15 +69,12 @@ first_spends profile w first event call sent happened submitted answered =
 
 -- ---- once
 
-not_spent : {A : Type 0} (b : Bool) → b ≡ true → b ≡ false → A
-not_spent b is free = absurd (let e : true ≡ false = sym is ∙ free in cc)
-
 never_again : {C : Type 0} (profile : Profile C) (w : World C) (events : List (Event C)) (call : C) (place : ℕ) (event : Event C) (sent : Moved) → is_taken (profile.setting.tag call) w.tags.calls ≡ true → slice_get events place ≡ Some event → call_of profile event ≡ Some call → slice_get (answers profile w events) place ≡ Some (Ok sent) → ⊥
 never_again profile w [] call place event sent spent happened submitted answered = absurd cc
 never_again profile w (first ∷ events) call zero event sent spent happened submitted answered =
     not_spent (is_taken (profile.setting.tag call) w.tags.calls) spent (first_spends profile w first event call sent happened submitted answered).0
 never_again profile w (first ∷ events) call (suc place) event sent spent happened submitted answered =
-    never_again profile (happens profile w first).0 events call place event sent (happens_tags profile w first (profile.setting.tag call) spent) happened submitted answered
+    never_again profile (happens profile w first).0 events call place event sent ((happens_tags profile w first).0 (profile.setting.tag call) spent) happened submitted answered
 
 -- the call of the first event is accepted, so no later one has its tag
 never_later : {C : Type 0} (profile : Profile C) (w : World C) (first : Event C) (events : List (Event C)) (call other : C) → profile.setting.tag call ≡ profile.setting.tag other → is_taken (profile.setting.tag call) (happens profile w first).0.tags.calls ≡ true → IsAcceptedFrom profile (happens profile w first).0 events other → ⊥

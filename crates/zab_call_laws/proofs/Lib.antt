@@ -1,5 +1,6 @@
 pub mod Accepting
 pub mod Origins
+pub mod Spending
 pub mod SyncEvents
 pub mod SyncFacts
 pub mod SyncRules

@@ -1,6 +1,6 @@
 ghost use Rattle.std.specs.Prelude.{◌^◌, All, length, map, ◌≡◌, ◌+◌, ◌<◌, ◌++◌, ◌∷◌, [], replicate, IfErr, IfOk, OnErr};
-ghost use Rattle.zk_receipts.specs.Calls.{made};
-ghost use Rattle.zk_receipts.specs.Closing.{IsRefusal, IsWhole};
+ghost use Rattle.zk_chronicle.specs.Calls.{made};
+ghost use Rattle.zk_chronicle.specs.Closing.{IsRefusal, IsWhole};
 ghost use Rattle.zk_views.specs.Catching.{AreOfOneView};
 
 use crate::board::Board;
@@ -12,10 +12,9 @@ use std::array;
 use std::sync::atomic::{AtomicU64, Ordering};
 use std::sync::ledger::{Blank, Ledger, Share};
 use std::sync::{Mutex, MutexGuard, Wait};
-use zk_chronicle::{Chronicle, Mark, Outcome};
+use zk_chronicle::{CallFault, Chronicle, CloseFault, Mark, Outcome, Receipt};
 use zk_inboxes::pause;
 use zk_path::NoMemory;
-use zk_receipts::{CallFault, CloseFault, Receipt};
 use zk_runs::Event;
 use zk_views::{Reader, Viewed, views_of};
 

@@ -1,2 +1,4 @@
 pub mod Chronicles
 pub mod Delivering
+pub mod Marks
+pub mod Scans

@@ -14,7 +14,7 @@ use Rattle.zk_prepare.specs.Deadlines.{DeadlineMap, expired_at}
 use Rattle.zk_runs.specs.declared.answer.Answer.TheVariants.{Looked}
 use Rattle.zk_runs.specs.declared.event.Event.{Event}
 use Rattle.zk_runs.specs.declared.event.Event.TheVariants as events
-use Rattle.zk_receipts.specs.declared.record.Receipt.{Receipt}
+use Rattle.zk_chronicle.specs.declared.record.Receipt.{Receipt}
 use Rattle.zk_front.specs.Calling.{Calling, Calls, CallsSome}
 
 -- ---- what an ask makes happen

@@ -1,8 +1,8 @@
 -- What the threads of all servers do.
 use Rattle.std.specs.Prelude.{◌≡◌, ◌<◌, ℕ, List, [], ◌∷◌, ◌++◌, length, map, slice_index_or}
 use Rattle.zk_runs.specs.declared.event.Event.{Event}
-use Rattle.zk_receipts.specs.declared.record.Receipt.{Receipt}
-use Rattle.zk_receipts.specs.declared.calls.Made.{Made}
+use Rattle.zk_chronicle.specs.declared.record.Receipt.{Receipt}
+use Rattle.zk_chronicle.specs.declared.calls.Made.{Made}
 use Rattle.zk_servers.specs.declared.serving.Worker.{Worker}
 use Rattle.zk_servers.specs.declared.serving.Worked.{Worked}
 use Rattle.zk_servers.specs.declared.running.Turns.{Turns}

@@ -17,7 +17,7 @@ pub use serving::{Gate, Worked, Worker, send_on};
 pub use zk_boards::{
     Board, Chronicle, Ensemble, Mark, Outcome, Routed, Seat, Shared, Started, Unclosed, joined,
 };
+pub use zk_chronicle::{CallFault, CloseFault, Made, Receipt, Record};
 pub use zk_inboxes::{Inbox, Post, Senders, inboxes};
-pub use zk_receipts::{CallFault, CloseFault, Made, Receipt, Record};
 pub use zk_runs::Event;
 pub use zk_views::{Kept, Pass, Reader, Seen, ViewFault};

@@ -10,9 +10,9 @@ use std::sync::ledger::Ledger;
 use std::thread;
 use std::thread::{Promise, PromisedHandle, Scope, Threads};
 use zk_boards::{Seat, Shared};
+use zk_chronicle::Receipt;
 use zk_inboxes::{Inbox, Post, Senders};
 use zk_path::NoMemory;
-use zk_receipts::Receipt;
 use zk_runs::Event;
 
 /// What a server's thread is to do.

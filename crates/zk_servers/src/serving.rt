@@ -1,13 +1,13 @@
 ghost use Rattle.std.specs.Prelude.{◌≡◌, ◌++◌, ◌∷◌, [], true, false};
-ghost use Rattle.zk_receipts.specs.Calls.{made};
+ghost use Rattle.zk_chronicle.specs.Calls.{made};
 ghost use Rattle.zk_servers.specs.Turns.{DidTurns};
 
 use std::alloc::Global;
 use std::sync::Wait;
 use std::sync::ledger::Ledger;
 use zk_boards::{Routed, Seat, Shared};
+use zk_chronicle::Receipt;
 use zk_inboxes::{Inbox, Senders};
-use zk_receipts::Receipt;
 use zk_runs::Event;
 
 /// What each thread passes before each of its turns.
