@@ -165,9 +165,8 @@ def trials(crate, edits):
 
 
 def size_of(crate):
-    """The bytes of a crate's files, and of those that its line names."""
-    names = [crate, *[it for it in lists_of()[crate] if it in lists_of()]]
-    walked = [it for name in names for part in PARTS for it in os.walk(os.path.join(ROOT, "crates", name, part))]
+    """The bytes of a crate's files: what an edit's check costs goes more by them than by what stands below."""
+    walked = [it for part in PARTS for it in os.walk(os.path.join(ROOT, "crates", crate, part))]
     return sum(os.path.getsize(os.path.join(at, name)) for at, _, files in walked for name in files)
 
 
