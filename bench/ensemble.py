@@ -2,7 +2,7 @@
 """Measures what an event of an ensemble costs, beside applying what its servers deliver; what ten times the calls cost; and
 what a follower costs that joins its leader again and lacks ten entries of many.
 
-usage: bench/ensemble.py     in a checkout where `rt ci`, or `rt test` in crates/zk_load_rows, has left the proved test program
+usage: bench/ensemble.py     in a checkout; the first run proves its load, for an hour or so (bench/loads.py)
 
 The load `ensemble` runs five servers under 2,000 calls, waits, and then applies what the last leader has delivered to as many machines as
 it is told; at its end it frees what the servers hold, which no server does while it runs. What the calls took is read while the
@@ -15,8 +15,8 @@ import subprocess
 import sys
 import time
 
-HERE = os.path.dirname(os.path.abspath(__file__))
-TESTS = os.path.join(HERE, "..", "crates", "zk_load_rows", "out", "zk_load_rows_tests")
+from loads import program
+
 CALLS = 2000
 SERVERS = 5
 MACHINES = 100
@@ -37,7 +37,7 @@ def taken(pid):
 def run(calls, machines=0, joins=0):
     """The CPU seconds up to the end of the calls, those of the whole run, its events, and its steps of machines."""
     words = "%d %d %d" % (calls, machines, joins)
-    child = subprocess.Popen([TESTS, "loads::ensemble"], env={**os.environ, "ZK_LOAD": words},
+    child = subprocess.Popen([program(), "loads::ensemble"], env={**os.environ, "ZK_LOAD": words},
                              stdin=subprocess.PIPE, stdout=subprocess.DEVNULL, stderr=subprocess.PIPE)
     told = [child.stderr.readline().decode().split()]
     seconds = taken(child.pid)

@@ -1,7 +1,7 @@
 #!/usr/bin/env python3
 """Measures what a request costs that a leader prepares and takes, while its tree grows.
 
-usage: bench/prepare.py     in a checkout where `rt ci`, or `rt test` in crates/zk_load_rows, has left the proved test program
+usage: bench/prepare.py     in a checkout; the first run proves its load, for an hour or so (bench/loads.py)
 
 The load `prepare` is run with 50,000 creates and as many sets, and with 100,000; the second half is what the longer run takes
 beyond the shorter one. The least of several runs counts.
@@ -10,8 +10,8 @@ import os
 import subprocess
 import sys
 
-HERE = os.path.dirname(os.path.abspath(__file__))
-TESTS = os.path.join(HERE, "..", "crates", "zk_load_rows", "out", "zk_load_rows_tests")
+from loads import program
+
 HALF = 50000
 TURNS = 5
 
@@ -19,7 +19,7 @@ TURNS = 5
 def seconds(count):
     """The CPU seconds of a run."""
     env = {**os.environ, "ZK_LOAD": str(count)}
-    child = subprocess.Popen([TESTS, "loads::prepare"], env=env, stdout=subprocess.DEVNULL, stderr=subprocess.PIPE)
+    child = subprocess.Popen([program(), "loads::prepare"], env=env, stdout=subprocess.DEVNULL, stderr=subprocess.PIPE)
     told = child.stderr.read().decode()
     _, status, usage = os.wait4(child.pid, 0)
     if status or told != "%d creates and as many sets, 0 refused\n" % count:

@@ -2,7 +2,7 @@
 """Measures how many reads a second the readers of one server's view answer together, beside a thread that calls; and what a publish
 costs beside applying its transactions.
 
-usage: bench/readers.py     in a checkout where `rt ci`, or `rt test` in crates/zk_load_rows, has left the proved test program
+usage: bench/readers.py     in a checkout; the first run proves its load, for an hour or so (bench/loads.py)
 
 The seconds of reads are those of a clock on the wall, less those of a run without reads; so nothing else may run on the machine.
 One core is the calling thread's, and as many others as there are readers are free, if the machine has them.
@@ -18,8 +18,8 @@ import subprocess
 import sys
 import time
 
-HERE = os.path.dirname(os.path.abspath(__file__))
-TESTS = os.path.join(HERE, "..", "crates", "zk_load_rows", "out", "zk_load_rows_tests")
+from loads import program
+
 READERS = (1, 2, 4)
 READS = 1_000_000
 # nodes, transactions, how many times over
@@ -31,8 +31,9 @@ TURNS = 5
 def run(readers, reads, nodes=0, txns=0, at_once=1, views=0, machines=0):
     """The seconds by the clock, and the CPU seconds."""
     words = " ".join(str(it) for it in (readers, reads, nodes, txns, at_once, views, machines))
+    tests = program()
     before = time.monotonic()
-    child = subprocess.Popen([TESTS, "loads::readers"], env={**os.environ, "ZK_LOAD": words},
+    child = subprocess.Popen([tests, "loads::readers"], env={**os.environ, "ZK_LOAD": words},
                              stdin=subprocess.DEVNULL, stdout=subprocess.DEVNULL, stderr=subprocess.PIPE)
     told = child.stderr.read().decode().split()
     _, status, usage = os.wait4(child.pid, 0)

@@ -6,17 +6,22 @@ played in a folder of its own. Its lines, where `#` begins a comment:
     bytes NAME b'..'        a file of these bytes, as Python writes them
     hex NAME                a file of the bytes that the hexadecimal digits below spell
     join NAME NAME ..       a file of these files' bytes, one behind the other
+    times NAME NAME N       a file of N copies of another file's bytes
+    cut NAME NAME N         a file of another file's first N bytes
+    patch NAME NAME AT HEX  a file of another file's bytes, but with these from AT on, in hexadecimal digits
     size NAME N             the file has so many bytes
     same NAME NAME          both files have the same bytes
     zk WORD ..              a run of the program, by a shell's words; a last word `<NAME` is its standard input. Below stand
                             `> LINE`, a line of its standard input, `! LINE`, a line of its standard error, and the lines
                             of its standard output, `~ LINE` the last one where it has no newline. The status is 1 where it
                             tells something, and else 0
+    cuts NAME N M WORD ..   for each number from N to M, such a run with so many of the file's first bytes as its standard input;
+                            each writes and tells what stands below
     usage WORD ..           a run with status 2 and no output; below stands the first line of its standard error
     malformed NAME WORD ..  runs of the program with the lines of a file on standard input, each behind these with one of the
                             lines below, which are quoted as Python quotes: that line is told as malformed by its number
 
-What belongs to a line stands below it, behind two spaces.
+What belongs to a line stands below it, behind two spaces. `rows.py NAME ..` plays the tables of these names alone.
 """
 import ast
 import os
@@ -94,6 +99,23 @@ def check_run(room: Path, words: list[str], below: list[str]) -> None:
     want(run(words, given, room), (1 if told else 0, written, told))
 
 
+def check_cuts(room: Path, name: str, first: int, last: int, words: list[str], below: list[str]) -> None:
+    """Runs over a file's first bytes, in growing number, which all come to the same."""
+    whole = (room / name).read_bytes()
+    told = as_lines(marked(below, "! "))
+    written = as_lines([line for line in below if line[:2] not in MARKS])
+    for length in range(first, last + 1):
+        try:
+            want(run(words, whole[:length], room), (1 if told else 0, written, told))
+        except Wrong as wrong:
+            raise Wrong(f"{length} bytes: {wrong}") from wrong
+
+
+def patched(whole: bytes, at: int, part: bytes) -> bytes:
+    """The bytes with a part of their own length put over them, which may reach beyond their end."""
+    return whole[:at] + part + whole[at + len(part) :]
+
+
 def check_usage(room: Path, words: list[str], below: list[str]) -> None:
     """A command line that is refused."""
     status, output, errors = run(words, b"", room)
@@ -122,6 +144,12 @@ def play(room: Path, entry: Entry, counts: Counter) -> None:
             (room / name).write_bytes(bytes.fromhex("".join(entry.below)))
         case ["join", name, *parts]:
             (room / name).write_bytes(b"".join((room / part).read_bytes() for part in parts))
+        case ["times", name, part, number]:
+            (room / name).write_bytes((room / part).read_bytes() * int(number))
+        case ["cut", name, whole, length]:
+            (room / name).write_bytes((room / whole).read_bytes()[: int(length)])
+        case ["patch", name, whole, at, digits]:
+            (room / name).write_bytes(patched((room / whole).read_bytes(), int(at), bytes.fromhex(digits)))
         case ["size", name, size]:
             if (room / name).stat().st_size != int(size):
                 raise Wrong(f"{name} has another size")
@@ -131,6 +159,9 @@ def play(room: Path, entry: Entry, counts: Counter) -> None:
         case ["zk", *words]:
             check_run(room, words, entry.below)
             counts["runs"] += 1
+        case ["cuts", name, first, last, *words]:
+            check_cuts(room, name, int(first), int(last), words, entry.below)
+            counts["runs"] += int(last) - int(first) + 1
         case ["usage", *words]:
             check_usage(room, words, entry.below)
             counts["usages"] += 1
@@ -144,7 +175,7 @@ def play(room: Path, entry: Entry, counts: Counter) -> None:
 def main() -> int:
     counts: Counter = Counter()
     wrong = 0
-    for table in sorted(TABLES.glob("*.rows")):
+    for table in [TABLES / f"{name}.rows" for name in sys.argv[1:]] or sorted(TABLES.glob("*.rows")):
         with tempfile.TemporaryDirectory() as room:
             for entry in entries_of(table):
                 try:

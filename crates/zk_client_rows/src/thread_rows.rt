@@ -1,6 +1,7 @@
 //! A thread that publishes while another one reads.
 
-use crate::view_rows::{publish_beyond, question, txns_of};
+use crate::view_rows::{publish_beyond, txns_of};
+use crate::watch_rows::path_of;
 use std::alloc::Global;
 use std::sync::Wait;
 use std::test::Fail;
@@ -76,7 +77,8 @@ fn race<R: Threads + Wait + Sync>(
 #[test]
 fn a_thread_reads_while_another_publishes(rt: HostRuntime) -> Result<(), Fail> {
     let txns = txns_of(rt.alloc(), HISTORY)?;
-    let call = question(rt.alloc())?;
+    let path = path_of(rt.alloc(), "/q")?;
+    let call = ReadCall::GetData { path };
     assert_eq!(rt;
         race(&rt, rt.alloc(), txns.as_slice(), &call)?,
         (true, LAST)

@@ -16,23 +16,16 @@ const OPENED: &str = "0000000100000001 0000000100000001 0 1000 createSession 300
 const MADE: &str = "0000000100000001 0000000100000001 0 1000 createSession 30000\n\
     0000000100000002 0000000100000001 1 2000 create \"/q\" x6869 1 31 \"world\" \"anyone\" p 1\n";
 
-/// What is asked of the node.
-#[derive(Clone, Copy)]
-enum Asked {
-    Content,
-    Existence,
-    Children,
-    Acl,
-}
-
-/// What the client is told: the last transaction's zxid, with the node's content or the code of a refusal; or why nothing is.
+/// What the client is told: what the node holds, that it is there, its children's names, its access control list, or the code of a
+/// refusal; or why nothing is.
 #[derive(Clone, Copy)]
 enum Answer {
-    Holds(i64, &'static [u8]),
-    Refuses(i64, i32),
+    Holds(&'static [u8]),
+    Exists,
+    Children,
+    Acl,
+    Refuses(i32),
     Fails(ViewFault),
-    /// What fits the question.
-    Fits,
 }
 
 /// What is done with a view.
@@ -41,8 +34,8 @@ enum Step {
     Publish(&'static str),
     /// The client is shown a transaction elsewhere.
     Note(i64),
-    /// The client asks: the answer, and what it has seen then.
-    Ask(Asked, Answer, i64),
+    /// The client asks: the last transaction that it has seen then, which is the one that it is told with an answer, and the answer.
+    Ask(i64, Answer),
 }
 
 /// The transactions of a listing.
@@ -50,31 +43,15 @@ pub(crate) fn txns_of(alloc: Global, listing: &str) -> Result<Vec<Txn>, NoMemory
     assemble(alloc, listing).ok().ok_or(NoMemory)
 }
 
-/// The question about the node.
-fn call_of(alloc: Global, asked: Asked) -> Result<ReadCall, NoMemory> {
+/// The question about the node that may be answered so.
+fn call_of(alloc: Global, answer: Answer) -> Result<ReadCall, NoMemory> {
     let path = path_of(alloc, "/q")?;
-    Ok(match asked {
-        Asked::Content => ReadCall::GetData { path },
-        Asked::Existence => ReadCall::Exists { path },
-        Asked::Children => ReadCall::GetChildren { path },
-        Asked::Acl => ReadCall::GetAcl { path },
+    Ok(match answer {
+        Answer::Exists => ReadCall::Exists { path },
+        Answer::Children => ReadCall::GetChildren { path },
+        Answer::Acl => ReadCall::GetAcl { path },
+        Answer::Holds(_) | Answer::Refuses(_) | Answer::Fails(_) => ReadCall::GetData { path },
     })
-}
-
-/// The question what the node holds.
-pub(crate) fn question(alloc: Global) -> Result<ReadCall, NoMemory> {
-    call_of(alloc, Asked::Content)
-}
-
-/// Whether a reply fits a question.
-fn fits(reply: &ReadReply, asked: Asked) -> bool {
-    match reply {
-        ReadReply::Content { .. } => matches!(asked, Asked::Content),
-        ReadReply::Found(_) => matches!(asked, Asked::Existence),
-        ReadReply::Children { .. } => matches!(asked, Asked::Children),
-        ReadReply::AclIs { .. } => matches!(asked, Asked::Acl),
-        ReadReply::Refused(_) => false,
-    }
 }
 
 /// Whether a reply has this content.
@@ -88,35 +65,37 @@ fn holds(reply: &ReadReply, bytes: &[u8]) -> bool {
     }
 }
 
-fn is_seen(seen: &Seen, asked: Asked, answer: Answer) -> bool {
+/// Whether a reply is such an answer.
+fn is_reply(reply: &ReadReply, answer: Answer) -> bool {
     match answer {
-        Answer::Holds(zxid, bytes) => seen.zxid == zxid && holds(&seen.reply, bytes),
-        Answer::Refuses(zxid, code) => {
-            seen.zxid == zxid && matches!(&seen.reply, ReadReply::Refused(told) if *told == code)
-        }
-        Answer::Fits => fits(&seen.reply, asked),
+        Answer::Holds(bytes) => holds(reply, bytes),
+        Answer::Exists => matches!(reply, ReadReply::Found(_)),
+        Answer::Children => matches!(reply, ReadReply::Children { .. }),
+        Answer::Acl => matches!(reply, ReadReply::AclIs { .. }),
+        Answer::Refuses(code) => matches!(reply, ReadReply::Refused(told) if *told == code),
         Answer::Fails(_) => false,
     }
 }
 
-fn is_told(told: &Result<Seen, ViewFault>, asked: Asked, answer: Answer) -> bool {
+/// Whether a client that has seen this is told so.
+fn is_told(told: &Result<Seen, ViewFault>, seen: i64, answer: Answer) -> bool {
     match told {
-        Ok(seen) => is_seen(seen, asked, answer),
+        Ok(told) => told.zxid == seen && is_reply(&told.reply, answer),
         Err(fault) => matches!(answer, Answer::Fails(expected) if expected == *fault),
     }
 }
 
-/// Whether a reader answers so.
+/// Whether a reader answers so, and the client has seen this then.
 fn answers(
     alloc: Global,
     reader: &mut Reader,
     pass: &mut Pass,
-    asked: Asked,
+    seen: i64,
     answer: Answer,
 ) -> Result<bool, NoMemory> {
-    let call = call_of(alloc, asked)?;
+    let call = call_of(alloc, answer)?;
     let told = reader.read(pass, &call, &[]);
-    Ok(is_told(&told, asked, answer))
+    Ok(is_told(&told, seen, answer) && pass.seen() == seen)
 }
 
 /// Publishes what a list has beyond all that was offered.
@@ -157,9 +136,7 @@ fn goes<R: Wait>(
             pass.take(zxid);
             Ok(true)
         }
-        Step::Ask(asked, answer, seen) => {
-            Ok(answers(alloc, reader, pass, asked, answer)? && pass.seen() == seen)
-        }
+        Step::Ask(seen, answer) => answers(alloc, reader, pass, seen, answer),
     }
 }
 
@@ -199,27 +176,15 @@ fn play_all<R: Wait>(
 
 /// A view shows the start tree first, and then what is published, the same list or a shorter one changing nothing.
 static GROWING: [Step; 9] = [
-    Step::Ask(Asked::Content, Answer::Refuses(0, -101), 0),
+    Step::Ask(0, Answer::Refuses(-101)),
     Step::Publish(OPENED),
-    Step::Ask(
-        Asked::Content,
-        Answer::Refuses(0x1_0000_0001, -101),
-        0x1_0000_0001,
-    ),
+    Step::Ask(0x1_0000_0001, Answer::Refuses(-101)),
     Step::Publish(OPENED),
     Step::Publish(MADE),
-    Step::Ask(
-        Asked::Content,
-        Answer::Holds(0x1_0000_0002, &[104, 105]),
-        0x1_0000_0002,
-    ),
+    Step::Ask(0x1_0000_0002, Answer::Holds(&[104, 105])),
     Step::Publish(OPENED),
     Step::Publish(""),
-    Step::Ask(
-        Asked::Content,
-        Answer::Holds(0x1_0000_0002, &[104, 105]),
-        0x1_0000_0002,
-    ),
+    Step::Ask(0x1_0000_0002, Answer::Holds(&[104, 105])),
 ];
 
 #[test]
@@ -228,26 +193,21 @@ fn what_is_published_is_read(rt: HostRuntime) -> Result<(), Fail> {
     Ok(())
 }
 
+/// What a client that has seen the second transaction is told by a view of the first alone.
+const BEHIND: ViewFault = ViewFault::Behind {
+    seen: 0x1_0000_0002,
+    zxid: 0x1_0000_0001,
+};
+
 /// A client that has seen the second transaction elsewhere asks before it is published here, and after that. That it is
 /// shown an older one in between changes nothing.
 static CATCHING_UP: [Step; 6] = [
     Step::Publish(OPENED),
     Step::Note(0x1_0000_0002),
-    Step::Ask(
-        Asked::Content,
-        Answer::Fails(ViewFault::Behind {
-            seen: 0x1_0000_0002,
-            zxid: 0x1_0000_0001,
-        }),
-        0x1_0000_0002,
-    ),
+    Step::Ask(0x1_0000_0002, Answer::Fails(BEHIND)),
     Step::Note(0x1_0000_0001),
     Step::Publish(MADE),
-    Step::Ask(
-        Asked::Content,
-        Answer::Holds(0x1_0000_0002, &[104, 105]),
-        0x1_0000_0002,
-    ),
+    Step::Ask(0x1_0000_0002, Answer::Holds(&[104, 105])),
 ];
 
 #[test]
@@ -259,10 +219,10 @@ fn reader_behind_and_reader_current(rt: HostRuntime) -> Result<(), Fail> {
 /// Each kind of read, over a view that is open.
 static EACH_KIND: [Step; 5] = [
     Step::Publish(MADE),
-    Step::Ask(Asked::Content, Answer::Fits, 0x1_0000_0002),
-    Step::Ask(Asked::Existence, Answer::Fits, 0x1_0000_0002),
-    Step::Ask(Asked::Children, Answer::Fits, 0x1_0000_0002),
-    Step::Ask(Asked::Acl, Answer::Fits, 0x1_0000_0002),
+    Step::Ask(0x1_0000_0002, Answer::Holds(&[104, 105])),
+    Step::Ask(0x1_0000_0002, Answer::Exists),
+    Step::Ask(0x1_0000_0002, Answer::Children),
+    Step::Ask(0x1_0000_0002, Answer::Acl),
 ];
 
 #[test]
@@ -277,9 +237,13 @@ fn is_gone(alloc: Global, reader: Option<Reader>) -> Result<bool, NoMemory> {
     pass.take(1);
     match reader {
         Some(mut reader) => {
-            let gone = Answer::Fails(ViewFault::Gone);
-            let told = answers(alloc, &mut reader, &mut pass, Asked::Content, gone);
-            Ok(told? && pass.seen() == 1)
+            answers(
+                alloc,
+                &mut reader,
+                &mut pass,
+                1,
+                Answer::Fails(ViewFault::Gone),
+            )
         }
         None => Err(NoMemory),
     }

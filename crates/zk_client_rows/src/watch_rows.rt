@@ -1,4 +1,5 @@
-//! Watches that are set, fired and dropped.
+//! Watches that no run sets: for the children of a node that is not there, and of sessions with high digits. The others stand in
+//! `checks/rows/clients.rows`.
 
 use std::alloc::Global;
 use zk_machine::{Change, ChangeKind};
@@ -6,7 +7,7 @@ use zk_path::{NoMemory, Path};
 use zk_watch::{Fired, Watch, WatchKind, Watches};
 
 /// An event: the session that is told it, what happened, and where.
-pub(crate) type Event = (u64, ChangeKind, &'static str);
+type Event = (u64, ChangeKind, &'static str);
 
 /// Who waits: the path, the session, and whether it waits for the content and for the children.
 type Waiting = (&'static str, u64, bool, bool);
@@ -15,7 +16,6 @@ type Waiting = (&'static str, u64, bool, bool);
 #[derive(Clone, Copy)]
 enum Step {
     Set(u64, WatchKind, &'static str),
-    DropSession(u64),
     /// Changes come: the events that are told.
     Tell(&'static [(ChangeKind, &'static str)], &'static [Event]),
     /// Those who wait.
@@ -25,18 +25,6 @@ enum Step {
 /// The path that a text spells.
 pub(crate) fn path_of(alloc: Global, text: &str) -> Result<Path, NoMemory> {
     Path::read(alloc, text).ok().ok_or(NoMemory)
-}
-
-/// Sets a watch at the path that a text spells.
-pub(crate) fn set(
-    alloc: Global,
-    watches: &mut Watches,
-    session: u64,
-    kind: WatchKind,
-    path: &str,
-) -> Result<(), NoMemory> {
-    let path = path_of(alloc, path)?;
-    watches.set(session, kind, &path)
 }
 
 /// Whether these events were told, in this order.
@@ -60,16 +48,6 @@ fn are_waiting(watches: &[Watch], waiting: &[Waiting]) -> bool {
     all
 }
 
-/// Whether these events are told of these changes.
-pub(crate) fn fires(
-    watches: &mut Watches,
-    changes: &[Change],
-    events: &[Event],
-) -> Result<bool, NoMemory> {
-    let told = watches.fire(changes)?;
-    Ok(are_events(told.as_slice(), events))
-}
-
 fn changes_of(
     alloc: Global,
     changed: &[(ChangeKind, &'static str)],
@@ -82,7 +60,7 @@ fn changes_of(
     Ok(changes)
 }
 
-/// Whether these events are told of changes at the paths that texts spell.
+/// Whether these events are told of these changes.
 fn tells(
     alloc: Global,
     watches: &mut Watches,
@@ -90,19 +68,16 @@ fn tells(
     events: &[Event],
 ) -> Result<bool, NoMemory> {
     let changes = changes_of(alloc, changed)?;
-    fires(watches, changes.as_slice(), events)
+    let told = watches.fire(changes.as_slice());
+    Ok(matches!(told, Ok(told) if are_events(told.as_slice(), events)))
 }
 
 /// Whether a step goes as it is to go.
 fn goes(alloc: Global, watches: &mut Watches, step: Step) -> Result<bool, NoMemory> {
     match step {
         Step::Set(session, kind, path) => {
-            set(alloc, watches, session, kind, path)?;
-            Ok(true)
-        }
-        Step::DropSession(session) => {
-            watches.drop_session(session);
-            Ok(true)
+            let path = path_of(alloc, path)?;
+            Ok(watches.set(session, kind, &path).is_ok())
         }
         Step::Tell(changed, events) => tells(alloc, watches, changed, events),
         Step::Wait(waiting) => Ok(are_waiting(watches.as_slice(), waiting)),
@@ -125,119 +100,21 @@ fn other_step(alloc: Global, steps: &[Step]) -> Result<Option<usize>, NoMemory> 
     walk(alloc, &mut watches, steps)
 }
 
-/// A session sets a watch twice; the content changes twice.
-static SET_TWICE: [Step; 6] = [
-    Step::Set(7, WatchKind::Content, "/a"),
-    Step::Set(7, WatchKind::Content, "/a"),
-    Step::Wait(&[("/a", 7, true, false)]),
+/// A node comes where session 1 waits for the content, session 2 for the children and session 3 for both.
+static CREATED: [Step; 6] = [
+    Step::Set(1, WatchKind::Content, "/a"),
+    Step::Set(2, WatchKind::Children, "/a"),
+    Step::Set(3, WatchKind::Content, "/a"),
+    Step::Set(3, WatchKind::Children, "/a"),
     Step::Tell(
-        &[(ChangeKind::DataChanged, "/a")],
-        &[(7, ChangeKind::DataChanged, "/a")],
+        &[(ChangeKind::Created, "/a")],
+        &[
+            (1, ChangeKind::Created, "/a"),
+            (3, ChangeKind::Created, "/a"),
+        ],
     ),
-    Step::Tell(&[(ChangeKind::DataChanged, "/a")], &[]),
-    Step::Wait(&[]),
+    Step::Wait(&[("/a", 2, false, true), ("/a", 3, false, true)]),
 ];
-
-#[test]
-fn watch_set_twice_fires_once(rt: HostRuntime) {
-    assert_eq!(rt; other_step(rt.alloc(), &SET_TWICE), Ok(None));
-}
-
-/// Two sessions wait at two paths; one of them is dropped.
-static DROPPED: [Step; 7] = [
-    Step::Set(7, WatchKind::Content, "/a"),
-    Step::Set(7, WatchKind::Children, "/b"),
-    Step::Set(8, WatchKind::Content, "/a"),
-    Step::DropSession(7),
-    Step::Wait(&[("/a", 8, true, false)]),
-    Step::Tell(
-        &[(ChangeKind::Deleted, "/a")],
-        &[(8, ChangeKind::Deleted, "/a")],
-    ),
-    Step::Tell(&[(ChangeKind::Deleted, "/b")], &[]),
-];
-
-#[test]
-fn dropped_session_is_told_nothing(rt: HostRuntime) {
-    assert_eq!(rt; other_step(rt.alloc(), &DROPPED), Ok(None));
-}
-
-/// Session 1 waits for the content, session 2 for the children and session 3 for both.
-const FOR_CONTENT: Step = Step::Set(1, WatchKind::Content, "/a");
-
-const FOR_CHILDREN: Step = Step::Set(2, WatchKind::Children, "/a");
-
-const BOTH_CONTENT: Step = Step::Set(3, WatchKind::Content, "/a");
-
-const BOTH_CHILDREN: Step = Step::Set(3, WatchKind::Children, "/a");
-
-/// A change at `/a` comes behind them, of each kind; then the events and who still waits.
-static CHANGES: [[Step; 6]; 4] = [
-    [
-        FOR_CONTENT,
-        FOR_CHILDREN,
-        BOTH_CONTENT,
-        BOTH_CHILDREN,
-        Step::Tell(
-            &[(ChangeKind::Created, "/a")],
-            &[
-                (1, ChangeKind::Created, "/a"),
-                (3, ChangeKind::Created, "/a"),
-            ],
-        ),
-        Step::Wait(&[("/a", 2, false, true), ("/a", 3, false, true)]),
-    ],
-    [
-        FOR_CONTENT,
-        FOR_CHILDREN,
-        BOTH_CONTENT,
-        BOTH_CHILDREN,
-        Step::Tell(
-            &[(ChangeKind::Deleted, "/a")],
-            &[
-                (1, ChangeKind::Deleted, "/a"),
-                (2, ChangeKind::Deleted, "/a"),
-                (3, ChangeKind::Deleted, "/a"),
-            ],
-        ),
-        Step::Wait(&[]),
-    ],
-    [
-        FOR_CONTENT,
-        FOR_CHILDREN,
-        BOTH_CONTENT,
-        BOTH_CHILDREN,
-        Step::Tell(
-            &[(ChangeKind::DataChanged, "/a")],
-            &[
-                (1, ChangeKind::DataChanged, "/a"),
-                (3, ChangeKind::DataChanged, "/a"),
-            ],
-        ),
-        Step::Wait(&[("/a", 2, false, true), ("/a", 3, false, true)]),
-    ],
-    [
-        FOR_CONTENT,
-        FOR_CHILDREN,
-        BOTH_CONTENT,
-        BOTH_CHILDREN,
-        Step::Tell(
-            &[(ChangeKind::ChildrenChanged, "/a")],
-            &[
-                (2, ChangeKind::ChildrenChanged, "/a"),
-                (3, ChangeKind::ChildrenChanged, "/a"),
-            ],
-        ),
-        Step::Wait(&[("/a", 1, true, false), ("/a", 3, true, false)]),
-    ],
-];
-
-#[test]
-fn each_change_tells_its_watches(rt: HostRuntime) {
-    for steps in &CHANGES {
-        assert_eq!(rt; other_step(rt.alloc(), steps), Ok(None));
-    }
-}
 
 /// Sessions whose digits are 0000000000000001, 8000000000000000 and ffffffffffffffff wait at two paths. Two changes come at once,
 /// of which the first is at the later path.
@@ -273,6 +150,7 @@ static MANY: [Step; 8] = [
 ];
 
 #[test]
-fn events_come_by_instruction_and_session(rt: HostRuntime) {
+fn watches_that_no_run_sets(rt: HostRuntime) {
+    assert_eq!(rt; other_step(rt.alloc(), &CREATED), Ok(None));
     assert_eq!(rt; other_step(rt.alloc(), &MANY), Ok(None));
 }

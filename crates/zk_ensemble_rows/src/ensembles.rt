@@ -1,14 +1,13 @@
-//! Ensembles: what their servers show of a call, a sync and a session, and the walk over the parts of a script.
+//! Ensembles: what their servers show of a call, a sync and a session, copies, and the walk over the parts of a script.
 
-use crate::copy_rows::is_told_as_copied;
-use crate::events::{Look, event_of, read_of};
-use crate::happenings::{Sends, moved_by};
+use crate::events::{Calls, Look, event_of, read_of};
+use crate::happenings::{Story, event_at};
 use std::alloc::Global;
-use zab_epoch::{WeightFault, Weighted};
-use zab_runs::Moved;
-use zk_ensemble::{Answer, Answered, Ensemble, Event, Mark, Outcome};
+use std::fmt::Debug;
+use zk_ensemble::{Answered, Ensemble, Event, Mark, Outcome};
 use zk_listing::ListCause;
 use zk_machine::{Change, ChangeKind};
+use zk_path::NoMemory;
 
 /// Whose outcome is asked for: the server, the tag, the session, and how many answers, syncs and events were looked at.
 #[derive(Clone, Copy)]
@@ -27,12 +26,26 @@ pub struct Told(
 /// A part of a script.
 #[derive(Clone, Copy)]
 pub enum Part {
-    /// Events, with what they send.
-    All(&'static [Sends]),
+    /// Events, none of which is refused.
+    All(Story),
     /// Reads, each of which is told something.
     Reads(&'static [Look]),
     /// What has come of a tag, and of a session's events.
     Comes(Ask, Told),
+}
+
+/// Whether two values are spelled alike, with all that they have.
+fn are_spelled_alike<T: Debug>(alloc: Global, value: &T, copy: &T) -> Result<bool, NoMemory> {
+    let spelled = format!(in alloc; "{value:?}")?;
+    Ok(format!(in alloc; "{copy:?}")?.as_str() == spelled.as_str())
+}
+
+/// Whether there is a copy, and it is spelled as what it is a copy of.
+pub fn is_copied<T: Debug>(alloc: Global, value: &T, copy: &Result<T, NoMemory>) -> bool {
+    match copy {
+        Ok(copy) => are_spelled_alike(alloc, value, copy) == Ok(true),
+        Err(_) => false,
+    }
 }
 
 /// The event, by a copy of it.
@@ -40,54 +53,34 @@ fn copied(event: Event) -> Result<Event, ListCause> {
     Ok(event.copy()?)
 }
 
-/// Whether an answer is that messages were sent, these.
-fn is_moved(answer: &Answer, moved: Moved) -> bool {
-    match answer {
-        Answer::Moved(told) => *told == moved,
-        Answer::Looked(_) => false,
-    }
-}
-
-/// Whether an event, by a copy of it, sends what it is to send.
-fn sends(ensemble: &mut Ensemble, event: Result<Event, ListCause>, messages: &[usize]) -> bool {
-    match event {
+/// Whether an event, by a copy of it, is answered, and so that a copy can be made of the answer.
+fn happens(alloc: Global, ensemble: &mut Ensemble, event: Result<Event, ListCause>) -> bool {
+    match event.and_then(copied) {
         Ok(event) => match ensemble.step(event) {
-            Ok(answer) => is_moved(&answer, moved_by(messages)),
+            Ok(answer) => is_copied(alloc, &answer, &answer.copy()),
             Err(_) => false,
         },
         Err(_) => false,
     }
 }
 
-/// Whether events send what they are to send.
-fn all_send(alloc: Global, ensemble: &mut Ensemble, script: &[Sends]) -> bool {
-    for Sends(happening, messages) in script {
-        if !sends(
-            ensemble,
-            event_of(alloc, *happening).and_then(copied),
-            messages,
-        ) {
+/// Whether all events of a story are.
+fn all_happen(alloc: Global, ensemble: &mut Ensemble, calls: Calls, story: Story) -> bool {
+    for number in 0..usize::MAX {
+        let Some(moment) = event_at(story, number) else {
+            break;
+        };
+        if !happens(alloc, ensemble, event_of(alloc, calls, moment)) {
             return false;
         }
     }
     true
 }
 
-/// Whether a read is told something, of which a copy can be made.
-fn is_told(alloc: Global, ensemble: &mut Ensemble, event: Result<Event, ListCause>) -> bool {
-    match event {
-        Ok(event) => match ensemble.step(event) {
-            Ok(answer) => is_told_as_copied(alloc, &answer),
-            Err(_) => false,
-        },
-        Err(_) => false,
-    }
-}
-
-/// Whether each read is.
+/// Whether each read is told something.
 fn all_are_told(alloc: Global, ensemble: &mut Ensemble, looks: &[Look]) -> bool {
     for look in looks {
-        if !is_told(alloc, ensemble, read_of(alloc, *look)) {
+        if !happens(alloc, ensemble, read_of(alloc, *look)) {
             return false;
         }
     }
@@ -139,59 +132,34 @@ fn comes(ensemble: &Ensemble, ask: &Ask, told: &Told) -> bool {
     }
 }
 
-/// Whether a session's events at a server are these, all of them.
-fn is_news(
-    ensemble: &Ensemble,
-    server: usize,
-    session: i64,
-    expected: &[(ChangeKind, &str)],
-) -> bool {
-    match ensemble.news(server, session, 0) {
+/// Whether so much has come of the call, the sync and the session, each looked for by itself.
+fn comes_apart(ensemble: &Ensemble, ask: &Ask, told: &Told) -> bool {
+    let Ask(server, tag, session, _) = ask;
+    let Told(answered, caught, expected, _) = told;
+    let is_news = match ensemble.news(*server, *session, 0) {
         Ok(events) => are(events.as_slice(), expected),
         Err(_) => false,
-    }
-}
-
-/// Whether so much has come of the call, the sync and the session, each looked for by itself; true, where not all was asked
-/// for.
-fn comes_apart(ensemble: &Ensemble, ask: &Ask, told: &Told) -> bool {
-    let Ask(server, tag, session, from) = ask;
-    let Told(answered, caught, events, _) = told;
-    mark_of(*from) != Mark::new()
-        || (is_answered(ensemble.answered(*server, *tag), *tag, *answered)
-            && ensemble.caught(*server, *tag) == *caught
-            && is_news(ensemble, *server, *session, events))
-}
-
-/// Takes events, or looks; and compares.
-fn takes(alloc: Global, ensemble: &mut Ensemble, part: &Part) -> bool {
-    match part {
-        Part::All(script) => all_send(alloc, ensemble, script),
-        Part::Reads(looks) => all_are_told(alloc, ensemble, looks),
-        Part::Comes(ask, told) => { comes(ensemble, ask, told) && comes_apart(ensemble, ask, told) }
-    }
+    };
+    is_news
+        && ensemble.caught(*server, *tag) == *caught
+        && is_answered(ensemble.answered(*server, *tag), *tag, *answered)
 }
 
 /// The place of a part that differs, from 0 on; none where all are as they are to be.
-pub fn walk(alloc: Global, ensemble: &mut Ensemble, parts: &[Part]) -> Option<usize> {
+pub fn walk(alloc: Global, ensemble: &mut Ensemble, calls: Calls, parts: &[Part]) -> Option<usize> {
     for (place, part) in parts.iter().enumerate() {
-        if !takes(alloc, ensemble, part) {
+        let is_so = match part {
+            Part::All(story) => all_happen(alloc, ensemble, calls, story),
+            Part::Reads(looks) => all_are_told(alloc, ensemble, looks),
+            Part::Comes(ask, told) => {
+                // apart they are looked for behind no mark
+                comes(ensemble, ask, told)
+                    && (mark_of(ask.3) != Mark::new() || comes_apart(ensemble, ask, told))
+            }
+        };
+        if !is_so {
             return Some(place);
         }
     }
     None
-}
-
-/// A new ensemble of servers with these weights; of three servers, where none are given.
-pub fn new_ensemble(alloc: Global, weights: &[u32]) -> Result<Ensemble, WeightFault> {
-    match weights {
-        [] => Ok(Ensemble::new(alloc, 3)?),
-        _ => Ok(Ensemble::with(alloc, Weighted::read(alloc, weights)?)?),
-    }
-}
-
-/// Plays a script in a new ensemble. The place of the first part that differs.
-pub fn play(alloc: Global, weights: &[u32], parts: &[Part]) -> Result<Option<usize>, WeightFault> {
-    let mut ensemble = new_ensemble(alloc, weights)?;
-    Ok(walk(alloc, &mut ensemble, parts))
 }

@@ -1,9 +1,7 @@
 //! The events of ensembles. What a client asks is read from a line, as a run script has it.
 
-use crate::happenings::Happening;
-use crate::scripts::FIRST;
+use crate::happenings::{Moment, event_with, tag_of};
 use std::alloc::Global;
-use zab_runs::Event as WorldEvent;
 use zk_acl::Ids;
 use zk_ensemble::{Event, Question};
 use zk_listing::ListCause;
@@ -14,8 +12,13 @@ use zk_request_lines::{Lookup, read_lookup, read_request};
 #[derive(Clone, Copy)]
 pub struct Look(pub usize, pub i64, pub i64, pub &'static str);
 
+/// The session and the request of each call, that of tag 1 first.
+pub type Calls = &'static [(i64, &'static str)];
+
 /// The call with a tag. The first is asked at 1000 milliseconds and the others at 2000.
-fn call_of(alloc: Global, tag: u64, session: i64, line: &str) -> Result<Call, ListCause> {
+fn call_of(alloc: Global, calls: Calls, tag: u64) -> Result<Call, ListCause> {
+    let place = (tag as usize).wrapping_sub(1);
+    let (session, line) = calls.get(place).copied().unwrap_or((0, "close"));
     let request = read_request(alloc, line)?;
     Ok(Call {
         tag,
@@ -27,27 +30,10 @@ fn call_of(alloc: Global, tag: u64, session: i64, line: &str) -> Result<Call, Li
     })
 }
 
-/// The event of an ensemble.
-pub fn event_of(alloc: Global, happening: Happening) -> Result<Event, ListCause> {
-    let event = match happening {
-        Happening::Submit(server, tag, session, line) => WorldEvent::Submit {
-            server,
-            call: call_of(alloc, tag, session, line)?,
-        },
-        Happening::Lead(server) => WorldEvent::Lead { server },
-        Happening::Follow(server, leader) => WorldEvent::Follow { server, leader },
-        Happening::Arrive(message) => WorldEvent::Arrive { message },
-        Happening::Crash(server) => WorldEvent::Crash { server },
-        Happening::Restart(server) => WorldEvent::Restart { server },
-        Happening::Expire(server, tag) => WorldEvent::Expire {
-            server,
-            tag,
-            session: FIRST,
-            now: 3000,
-        },
-        Happening::Sync(server, tag) => WorldEvent::Sync { server, tag },
-    };
-    Ok(Event::World(event))
+/// The event of an ensemble, with the call of its tag where one is submitted.
+pub fn event_of(alloc: Global, calls: Calls, moment: Moment) -> Result<Event, ListCause> {
+    let call = call_of(alloc, calls, tag_of(moment))?;
+    Ok(Event::World(event_with(moment, call)))
 }
 
 /// The event of a read.

@@ -1,13 +1,11 @@
 //! Rows of `fail`: after each event that moved, the world that it leaves is the one after the crash of the event's server in
-//! the event's place. And of `advance`, which comes to what `step` does.
+//! the event's place. And of `step`, which comes to what `advance` does, by which ensembles go on.
 
-use crate::happenings::Happening::{Crash, Expire, Lead, Restart, Submit, Sync};
-use crate::happenings::{Happening, Sends, echo_event};
-use crate::scripts::{
-    CLOSING, FIRST_COMMIT, FIRST_DELIVERY, FIRST_FOLLOWS, FIRST_SUBMIT, JOINED, SECOND_LEADER,
-    SYNC_TAKEN, SYNC_TOLD, SYNCS_AT_THE_LEADER, THREE_TIMES, TWO_MORE,
+use crate::happenings::Happening::{Arrive, Crash, Expire, Follow, Lead, Restart, Submit, Sync};
+use crate::happenings::{
+    COMMIT, EchoWorld, Happening, JOINED, Moment, SHORTER_LEADS, SUBMIT, SYNC, SYNCS, Story, TERMS,
+    echo_event, event_at, takes,
 };
-use crate::worlds::EchoWorld;
 use std::alloc::Global;
 use zab_broadcast::EchoCall;
 use zab_epoch::{Entries, Stable};
@@ -15,18 +13,10 @@ use zab_world::Event;
 use zk_path::NoMemory;
 
 /// What is tried afterwards in both worlds. It tells whether the tags are the same.
-static AFTERWARDS: [Happening; 11] = [
-    Restart(1),
-    Restart(2),
-    Restart(3),
-    Submit(1, 1, 0, ""),
-    Submit(2, 4, 0, ""),
-    Expire(1, 7),
-    Sync(1, 9),
-    Sync(2, 1),
-    Lead(1),
-    Submit(3, 5, 0, ""),
-    Crash(2),
+const AFTERWARDS: Story = &[
+    &[Restart(1), Restart(2), Restart(3)],
+    &[Submit(1, 1), Submit(2, 4), Expire(1, 7)],
+    &[Sync(1, 9), Sync(2, 1), Lead(1), Submit(3, 5), Crash(2)],
 ];
 
 /// Two worlds, of which one fails and in the other a server crashes.
@@ -41,31 +31,6 @@ fn new_pair(alloc: Global) -> Result<Pair, NoMemory> {
     let one = EchoWorld::new(alloc, 3)?;
     let other = EchoWorld::new(alloc, 3)?;
     Ok(Pair { one, other })
-}
-
-/// The event of scripts with a number from 0 on.
-fn event_at(scripts: &[&[Sends]], number: usize) -> Option<Happening> {
-    let mut left = number;
-    for script in scripts {
-        if let Some(Sends(happening, _)) = script.get(left) {
-            return Some(*happening);
-        }
-        left = left.saturating_sub(script.len());
-    }
-    None
-}
-
-/// Takes the first so many events of scripts. Whether all moved.
-fn takes(world: &mut EchoWorld, scripts: &[&[Sends]], count: usize) -> bool {
-    for number in 0..count {
-        let Some(happening) = event_at(scripts, number) else {
-            return false;
-        };
-        if world.step(echo_event(happening)).is_err() {
-            return false;
-        }
-    }
-    true
 }
 
 /// Whether entries have the same tags and zxids.
@@ -105,10 +70,18 @@ fn are_the_same(one: &EchoWorld, other: &EchoWorld) -> bool {
             .all(|server| stands_alike(one, other, *server))
 }
 
-/// Whether they go on alike.
-fn go_on_alike(pair: &mut Pair) -> bool {
-    for happening in &AFTERWARDS {
-        if pair.one.step(echo_event(*happening)) != pair.other.step(echo_event(*happening)) {
+/// Takes a story's events, the first world by `advance` where it is to. Whether both are answered alike, and come to the same.
+fn go_on_alike(pair: &mut Pair, story: Story, advances: bool) -> bool {
+    for number in 0..usize::MAX {
+        let Some(moment) = event_at(story, number) else {
+            break;
+        };
+        let answer = if advances {
+            pair.one.advance(echo_event(moment))
+        } else {
+            pair.one.step(echo_event(moment))
+        };
+        if answer != pair.other.step(echo_event(moment)) {
             return false;
         }
     }
@@ -131,126 +104,86 @@ fn crashes(world: &mut EchoWorld, event: &Event<EchoCall>) -> bool {
     world.step(Event::Crash { server }).is_ok()
 }
 
-/// Whether the first world, after an event of scripts that failed, is the second one, in which its server crashed. Before it
-/// come the scripts' events up to it.
-fn fails_as_a_crash(
-    pair: &mut Pair,
-    scripts: &[&[Sends]],
-    number: usize,
-    happening: Happening,
-) -> bool {
-    takes(&mut pair.one, scripts, number)
-        && takes(&mut pair.other, scripts, number)
-        && crashes(&mut pair.other, &echo_event(happening))
-        && fails(&mut pair.one, echo_event(happening))
+/// Whether the first world, after an event of a story that failed, is the second one, in which its server crashed. Before it
+/// come the story's events up to it.
+fn fails_as_a_crash(pair: &mut Pair, story: Story, number: usize, moment: Moment) -> bool {
+    takes(&mut pair.one, story, number)
+        && takes(&mut pair.other, story, number)
+        && crashes(&mut pair.other, &echo_event(moment))
+        && fails(&mut pair.one, echo_event(moment))
         && are_the_same(&pair.one, &pair.other)
-        && go_on_alike(pair)
+        && go_on_alike(pair, AFTERWARDS, false)
 }
 
 /// The same of two new worlds.
-fn fails_at(
-    alloc: Global,
-    scripts: &[&[Sends]],
-    number: usize,
-    happening: Happening,
-) -> Result<bool, NoMemory> {
+fn fails_at(alloc: Global, story: Story, number: usize, at: Moment) -> Result<bool, NoMemory> {
     let mut pair = new_pair(alloc)?;
-    Ok(fails_as_a_crash(&mut pair, scripts, number, happening))
+    Ok(fails_as_a_crash(&mut pair, story, number, at))
 }
 
-/// Crashes, and a leader's history in another's place.
-const TERMS: &[&[Sends]] = &[JOINED, FIRST_SUBMIT, SECOND_LEADER, FIRST_FOLLOWS];
-
-/// Scripts, and how many events they have: calls and a session's closing at the leader; a follower's call; terms; syncs.
-static SCRIPTS: [(&[&[Sends]], usize); 4] = [
-    (
-        &[
-            JOINED,
-            FIRST_SUBMIT,
-            FIRST_COMMIT,
-            FIRST_DELIVERY,
-            TWO_MORE,
-            CLOSING,
-        ],
-        20,
-    ),
-    (
-        &[
-            JOINED,
-            FIRST_SUBMIT,
-            FIRST_COMMIT,
-            FIRST_DELIVERY,
-            TWO_MORE,
-            THREE_TIMES,
-        ],
-        21,
-    ),
-    (TERMS, 28),
-    (
-        &[
-            JOINED,
-            FIRST_SUBMIT,
-            FIRST_COMMIT,
-            SYNC_TOLD,
-            SYNC_TAKEN,
-            SYNCS_AT_THE_LEADER,
-        ],
-        17,
-    ),
-];
-
-/// The number of the first event of scripts after which `fail` leaves another world, or that there is not; none where there is
-/// none. A restart is no event of a server that runs.
-fn first_that_differs(
-    alloc: Global,
-    scripts: &[&[Sends]],
-    count: usize,
-) -> Result<Option<usize>, NoMemory> {
-    for number in 0..count {
-        match event_at(scripts, number) {
-            Some(Restart(_)) => {}
-            Some(happening) => {
-                if !fails_at(alloc, scripts, number, happening)? {
-                    return Ok(Some(number));
+/// After how many events of a story `fail` leaves such a world: all, or those before the first one after which it does not. A
+/// restart is no event of a server that runs.
+fn fail_alike(alloc: Global, story: Story) -> Result<usize, NoMemory> {
+    for number in 0..usize::MAX {
+        match event_at(story, number) {
+            Some((Restart(_), _)) => {}
+            Some(moment) => {
+                if !fails_at(alloc, story, number, moment)? {
+                    return Ok(number);
                 }
             }
-            None => return Ok(Some(number)),
+            None => return Ok(number),
         }
     }
-    Ok(None)
+    Ok(0)
 }
+
+/// Two calls whose acknowledgements come in the other order.
+const TWO_MORE: &[Happening] = &[Submit(1, 2), Submit(1, 3), Arrive(&[10, 11, 13, 12])];
+
+/// The session is closed.
+const CLOSING: &[Happening] = &[Expire(1, 7), Arrive(&[15, 16])];
+
+/// A follower's call comes to the leader three times.
+const THRICE: &[Happening] = &[Submit(2, 4), Arrive(&[15, 15, 15])];
+
+/// Stories, and how many events they have.
+static STORIES: [(Story, usize); 5] = [
+    (&[JOINED, SUBMIT, COMMIT, TWO_MORE, CLOSING], 20),
+    (&[JOINED, SUBMIT, COMMIT, TWO_MORE, THRICE], 21),
+    (TERMS, 49),
+    (SHORTER_LEADS, 24),
+    (SYNCS, 17),
+];
 
 #[test]
 fn events_fail_as_crashes(rt: HostRuntime) {
-    for (scripts, count) in &SCRIPTS {
-        assert_eq!(rt;
-            first_that_differs(rt.alloc(), scripts, *count),
-            Ok(None),
-            "{count}"
-        );
+    for (story, count) in &STORIES {
+        assert_eq!(rt; fail_alike(rt.alloc(), story), Ok(*count));
     }
 }
 
-/// Takes so many events of scripts, one world by `advance` and the other by `step`. Whether both are answered alike.
-fn advance_as_they_step(pair: &mut Pair, scripts: &[&[Sends]], count: usize) -> bool {
-    for number in 0..count {
-        let Some(happening) = event_at(scripts, number) else {
-            return false;
-        };
-        if pair.one.advance(echo_event(happening)) != pair.other.step(echo_event(happening)) {
-            return false;
-        }
-    }
-    true
-}
+/// What a world refuses behind syncs. With what, `checks/rows/ensembles.rows` shows of an ensemble.
+const REFUSED: Story = &[
+    JOINED,
+    SUBMIT,
+    SYNC,
+    &[Lead(4), Follow(1, 1), Sync(4, 1), Arrive(&[0, 99])],
+    &[Restart(1), Submit(3, 1), Sync(3, 1)],
+    &[Crash(3), Lead(3), Crash(3), Submit(3, 1), Sync(3, 1)],
+    &[Submit(1, 1), Expire(1, 1), Sync(2, 1)],
+];
 
-/// Whether two new worlds come to the same so, and may be followed by the same. A follower drops an entry for a NewLeader.
-fn advances_alike(alloc: Global) -> Result<bool, NoMemory> {
+/// Whether two new worlds come to the same, one by `advance` and the other by `step`, and may be followed by the same.
+fn advances_alike(alloc: Global, story: Story) -> Result<bool, NoMemory> {
     let mut pair = new_pair(alloc)?;
-    Ok(advance_as_they_step(&mut pair, TERMS, 28) && go_on_alike(&mut pair))
+    Ok(go_on_alike(&mut pair, story, true) && go_on_alike(&mut pair, AFTERWARDS, false))
 }
 
 #[test]
 fn advances_as_it_steps(rt: HostRuntime) {
-    assert_eq!(rt; advances_alike(rt.alloc()), Ok(true));
+    // in terms a follower drops an entry for a NewLeader
+    for story in [TERMS, REFUSED] {
+        assert_eq!(rt; advances_alike(rt.alloc(), story), Ok(true));
+    }
 }

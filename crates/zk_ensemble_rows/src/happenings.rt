@@ -1,78 +1,147 @@
-//! What happens, as plain values, of which the events of worlds of echoes are made, and what messages say.
+//! What happens among three servers, as plain values, and stories of that. What each event sends stands in
+//! `checks/rows/ensembles.rows` and in `examples/runs`.
 
-use crate::scripts::FIRST;
-use zab_broadcast::EchoCall;
-use zab_epoch::{Body, Message};
-use zab_runs::{Event, Moved};
+use crate::happenings::Happening::{Arrive, Crash, Expire, Follow, Lead, Restart, Submit, Sync};
+use zab_broadcast::{Echo, EchoCall};
+use zab_epoch::Majority;
+use zab_runs::Event;
+use zab_world::World;
 
-/// What happens. Servers and messages are numbered from 1. A client's call has its tag, its session, and the line of its
-/// request; an echo is its tag alone.
+/// A world of echoes.
+pub type EchoWorld = World<Echo, Majority>;
+
+/// The session that the first call of the first epoch opens.
+pub const FIRST: i64 = 0x1_0000_0001;
+
+/// What happens. Servers and messages are numbered from 1, and a call is its tag.
 #[derive(Clone, Copy)]
 pub enum Happening {
     Lead(usize),
     Follow(usize, usize),
-    Arrive(usize),
+    /// Messages arrive, one after the other: an event for each.
+    Arrive(&'static [usize]),
     Crash(usize),
     Restart(usize),
-    Submit(usize, u64, i64, &'static str),
+    Submit(usize, u64),
     /// The first session's closing.
     Expire(usize, u64),
     /// A client's sync with a tag.
     Sync(usize, u64),
 }
 
-/// An event, with the numbers of the messages that it sends.
-#[derive(Clone, Copy)]
-pub struct Sends(pub Happening, pub &'static [usize]);
+/// What happens in turn, a line behind the other.
+pub type Story = &'static [&'static [Happening]];
 
-/// What an event is answered that sends messages with these numbers.
-pub fn moved_by(messages: &[usize]) -> Moved {
-    match messages {
-        [] => Moved { first: 0, count: 0 },
-        [first, ..] => Moved {
-            first: *first,
-            count: messages.len(),
-        },
+/// Part of what happens: an event, or of arrivals the one with a number from 0 on.
+pub type Moment = (Happening, usize);
+
+/// The event of a story with a number from 0 on.
+pub fn event_at(story: Story, number: usize) -> Option<Moment> {
+    let mut left = number;
+    for line in story {
+        for happening in *line {
+            let count = match happening {
+                Arrive(messages) => messages.len(),
+                _ => 1,
+            };
+            if left < count {
+                return Some((*happening, left));
+            }
+            left = left.saturating_sub(count);
+        }
+    }
+    None
+}
+
+/// The tag of a call that is submitted.
+pub fn tag_of(moment: Moment) -> u64 {
+    match moment {
+        (Submit(_, tag), _) => tag,
+        _ => 0,
     }
 }
 
-/// The event of a world of echoes.
-pub fn echo_event(happening: Happening) -> Event<EchoCall> {
+/// The event, with a call where one is submitted.
+pub fn event_with<C: Drop>(moment: Moment, call: C) -> Event<C> {
+    let (happening, place) = moment;
     match happening {
-        Happening::Submit(server, tag, ..) => Event::Submit {
-            server,
-            call: EchoCall { tag },
+        Submit(server, _) => Event::Submit { server, call },
+        Lead(server) => Event::Lead { server },
+        Follow(server, leader) => Event::Follow { server, leader },
+        Arrive(messages) => Event::Arrive {
+            message: messages.get(place).copied().unwrap_or(0),
         },
-        Happening::Lead(server) => Event::Lead { server },
-        Happening::Follow(server, leader) => Event::Follow { server, leader },
-        Happening::Arrive(message) => Event::Arrive { message },
-        Happening::Crash(server) => Event::Crash { server },
-        Happening::Restart(server) => Event::Restart { server },
-        Happening::Expire(server, tag) => Event::Expire {
+        Crash(server) => Event::Crash { server },
+        Restart(server) => Event::Restart { server },
+        Expire(server, tag) => Event::Expire {
             server,
             tag,
             session: FIRST,
             now: 3000,
         },
-        Happening::Sync(server, tag) => Event::Sync { server, tag },
+        Sync(server, tag) => Event::Sync { server, tag },
     }
 }
 
-/// What a message of the first two phases says: what a NewLeader keeps, and how many entries come with it; the epoch of a
-/// NewEpoch; or that of an AckEpoch, and its vote.
-#[derive(Clone, Copy, PartialEq, Eq)]
-pub enum Said {
-    Keeps(i64, usize),
-    Chose(u32),
-    Voted(u32, bool),
+/// The event of a world of echoes.
+pub fn echo_event(moment: Moment) -> Event<EchoCall> {
+    let tag = tag_of(moment);
+    event_with(moment, EchoCall { tag })
 }
 
-/// What the message with a number says of these; none, where it says anything else, or there is none.
-pub fn body_of<C>(messages: &[Message<C>], number: usize) -> Option<Said> {
-    match &messages.get(number.checked_sub(1)?)?.body {
-        Body::NewLeader { keep, rest, .. } => Some(Said::Keeps(*keep, rest.len())),
-        Body::NewEpoch { epoch } => Some(Said::Chose(*epoch)),
-        Body::AckEpoch { epoch, vote, .. } => Some(Said::Voted(*epoch, *vote)),
-        _ => None,
+/// Takes the first so many events of a story, or all. Whether each moved.
+pub fn takes(world: &mut EchoWorld, story: Story, count: usize) -> bool {
+    for number in 0..count {
+        let Some(moment) = event_at(story, number) else {
+            return true;
+        };
+        if world.step(echo_event(moment)).is_err() {
+            return false;
+        }
     }
+    true
 }
+
+/// Server 1 leads, and server 2 follows it and has its history.
+pub const JOINED: &[Happening] = &[Lead(1), Follow(2, 1), Arrive(&[1, 2, 3, 4, 5])];
+
+/// The first call is proposed.
+pub const SUBMIT: &[Happening] = &[Submit(1, 1)];
+
+/// It is acknowledged, and committed at server 1; then server 2 delivers it.
+pub const COMMIT: &[Happening] = &[Arrive(&[7, 8, 9])];
+
+/// In place of that: it is committed, and a sync tells server 2 of it before the commit does.
+pub const SYNC: &[Happening] = &[Arrive(&[7, 8]), Sync(2, 1), Arrive(&[10, 11, 11, 9])];
+
+/// And the leader answers its own syncs at once.
+pub const SYNCS: Story = &[JOINED, SUBMIT, SYNC, &[Sync(1, 9), Sync(1, 2)]];
+
+/// Crashes, and a leader's history in another's place.
+pub const TERMS: Story = &[
+    // server 1 crashes before its entry is acknowledged; servers 2 and 3 go on without it
+    JOINED,
+    &[Submit(1, 1), Crash(1), Lead(2), Follow(3, 2)],
+    &[Arrive(&[8, 9, 10, 11, 12]), Submit(2, 2)],
+    &[Arrive(&[14, 15, 16])],
+    // server 1 starts again, and follows server 2
+    &[Restart(1), Follow(1, 2)],
+    &[Arrive(&[17, 18, 19, 20, 21, 22])],
+    // server 2 makes an entry that nobody else gets, and crashes; servers 3 and 1, with equal histories, go on without it
+    &[Submit(2, 3), Crash(2), Lead(3), Follow(1, 3)],
+    &[Arrive(&[25, 26, 27, 28, 29]), Submit(3, 4)],
+    &[Arrive(&[31, 32, 33])],
+    // server 2 starts again, and follows server 3
+    &[Restart(2), Follow(2, 3)],
+    &[Arrive(&[34, 35, 36, 37, 38, 39])],
+];
+
+/// Server 3, which has nothing, leads, and hears the vote of server 2; then server 2 leads, and server 3 follows it.
+pub const SHORTER_LEADS: Story = &[
+    JOINED,
+    SUBMIT,
+    COMMIT,
+    &[Lead(3), Follow(2, 3), Arrive(&[10, 11, 12])],
+    &[Lead(2), Follow(3, 2)],
+    &[Arrive(&[13, 14, 15, 16, 17, 18])],
+];

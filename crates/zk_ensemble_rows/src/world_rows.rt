@@ -1,139 +1,111 @@
-//! Rows of worlds of echoes: what their servers show, what their messages say, and which events are refused.
-//!
-//! What servers deliver is shown by `examples/runs`, too, of ensembles; what stands here is what no run script shows.
+//! Rows of worlds of echoes: what messages say, what is shown of a server that there is not, and replays, each a new world with
+//! the same quorums, after a list of events.
 
-use crate::happenings::Happening::{Arrive, Crash, Expire, Follow, Lead, Restart, Submit, Sync};
-use crate::happenings::Said::{Chose, Keeps, Voted};
-use crate::happenings::Sends;
-use crate::scripts::{
-    FIRST_COMMIT, FIRST_DELIVERY, FIRST_FOLLOWS, FIRST_SUBMIT, JOINED, LEADS_AGAIN, SECOND_FOLLOWS,
-    SECOND_LEADER, SHORTER_LEADS, SYNC_TAKEN, SYNC_TOLD, SYNCS_AT_THE_LEADER, THIRD_LEADER,
+use crate::happenings::Happening::{Arrive, Follow, Lead};
+use crate::happenings::{
+    EchoWorld, JOINED, SHORTER_LEADS, SUBMIT, SYNCS, Story, TERMS, echo_event, event_at, takes,
 };
-use crate::worlds::Report::{Caught, Delivered, History, Runs, Says, Sent};
-use crate::worlds::Row::{All, Refused, Shown};
-use crate::worlds::{Row, play};
-use zab_world::WorldFault;
+use std::alloc::Global;
+use zab_broadcast::{Echo, EchoCall};
+use zab_epoch::{Body, Message, WeightFault, Weighted};
+use zab_world::{Event, Moved, World, WorldFault};
+use zk_path::NoMemory;
 
-/// The entry of the first call.
-const FIRST: &[(u64, i64)] = &[(1, 0x1_0000_0001)];
-
-/// Server 2 delivers the first entry with the last message, and server 3, as one that there is not, nothing. Then server 2
-/// goes down, and starts again.
-static FIRST_SESSION: [Row; 20] = [
-    All(JOINED),
-    All(FIRST_SUBMIT),
-    Shown(History(1, FIRST)),
-    Shown(Delivered(1, &[])),
-    Shown(History(2, &[])),
-    All(FIRST_COMMIT),
-    Shown(Delivered(1, FIRST)),
-    Shown(Delivered(2, &[])),
-    All(FIRST_DELIVERY),
-    Shown(Delivered(2, FIRST)),
-    Shown(Delivered(3, &[])),
-    Shown(Delivered(4, &[])),
-    Shown(Sent(9)),
-    Shown(Runs(4, Err(WorldFault::NoServer))),
-    All(&[Sends(Crash(2), &[])]),
-    Shown(Runs(1, Ok(()))),
-    Shown(Runs(2, Err(WorldFault::Down))),
-    Shown(History(2, FIRST)),
-    All(&[Sends(Restart(2), &[])]),
-    Shown(Runs(2, Ok(()))),
-];
-
-#[test]
-fn servers_show_what_they_have(rt: HostRuntime) {
-    assert_eq!(rt; play(rt.alloc(), &FIRST_SESSION), Ok(None));
+/// What a message says, where it is a NewLeader: the zxid up to which a history is kept, and how many entries come with it.
+fn keeps(messages: &[Message<EchoCall>], number: usize) -> Option<(i64, usize)> {
+    match &messages.get(number.checked_sub(1)?)?.body {
+        Body::NewLeader { keep, rest, .. } => Some((*keep, rest.len())),
+        _ => None,
+    }
 }
 
-/// A leader that starts again before it has a history for its epoch chooses a greater one.
-static GREATER_EPOCH: [Row; 4] = [
-    All(LEADS_AGAIN),
-    Shown(Sent(5)),
-    Shown(Says(4, Chose(2))),
-    Shown(Says(5, Voted(2, true))),
-];
-
-#[test]
-fn leader_that_starts_again_chooses_anew(rt: HostRuntime) {
-    assert_eq!(rt; play(rt.alloc(), &GREATER_EPOCH), Ok(None));
+/// Whether nothing is shown of a fourth server, which there is not.
+fn hides_a_fourth(world: &EchoWorld) -> bool {
+    world.delivered(4).len() == 0
+        && world.syncs(4).is_empty()
+        && world.stable(4).is_none()
+        && world.running(4) == Err(WorldFault::NoServer)
 }
 
-/// Server 3, whose history is shorter, steps down; then all of server 2's comes to it.
-static ALL_IS_TOLD: [Row; 7] = [
-    All(JOINED),
-    All(FIRST_SUBMIT),
-    All(FIRST_COMMIT),
-    All(FIRST_DELIVERY),
-    All(SHORTER_LEADS),
-    Shown(Says(16, Keeps(0, 1))),
-    Shown(History(3, FIRST)),
-];
+/// What one says where a story has happened, and nothing is shown of a fourth server.
+fn told(alloc: Global, story: Story, number: usize) -> Result<Option<(i64, usize)>, NoMemory> {
+    let mut world = EchoWorld::new(alloc, 3)?;
+    if takes(&mut world, story, usize::MAX) && hides_a_fourth(&world) {
+        Ok(keeps(world.messages(), number))
+    } else {
+        Ok(None)
+    }
+}
 
-/// The one entry of epoch 2.
-const SECOND: &[(u64, i64)] = &[(2, 0x2_0000_0001)];
-
-/// The entries of epochs 2 and 3.
-const THIRD: &[(u64, i64)] = &[(2, 0x2_0000_0001), (4, 0x3_0000_0001)];
-
-/// Of a follower's history all, nothing, or the first entry of two is kept.
-static FOLLOWERS_KEEP: [Row; 12] = [
-    All(JOINED),
-    All(FIRST_SUBMIT),
-    All(SECOND_LEADER),
-    All(FIRST_FOLLOWS),
-    Shown(Says(20, Keeps(0, 1))),
-    Shown(History(1, SECOND)),
-    All(THIRD_LEADER),
-    Shown(Says(28, Keeps(0x2_0000_0001, 0))),
-    All(SECOND_FOLLOWS),
-    Shown(Says(37, Keeps(0x2_0000_0001, 1))),
-    Shown(History(2, THIRD)),
-    Shown(Delivered(2, THIRD)),
+/// Where there is no history, none comes; all of one comes to a server that has nothing, or of which nothing is kept, nothing to
+/// one that has it, and the second entry to one of which the first is kept.
+static NEW_LEADERS: [(Story, usize, (i64, usize)); 5] = [
+    (SYNCS, 4, (0, 0)),
+    (SHORTER_LEADS, 16, (0, 1)),
+    (TERMS, 20, (0, 1)),
+    (TERMS, 28, (0x2_0000_0001, 0)),
+    (TERMS, 37, (0x2_0000_0001, 1)),
 ];
 
 #[test]
 fn new_leaders_tell_what_followers_lack(rt: HostRuntime) {
-    assert_eq!(rt; play(rt.alloc(), &ALL_IS_TOLD), Ok(None));
-    assert_eq!(rt; play(rt.alloc(), &FOLLOWERS_KEEP), Ok(None));
+    for (story, number, said) in &NEW_LEADERS {
+        assert_eq!(rt; told(rt.alloc(), story, *number), Ok(Some(*said)));
+    }
 }
 
-/// Each refusal of a world, once each event: no such server or message, one that is up or down, one that serves nobody, and
-/// tags that were accepted.
-static REFUSALS: [Row; 29] = [
-    All(JOINED),
-    All(FIRST_SUBMIT),
-    All(FIRST_COMMIT),
-    All(SYNC_TOLD),
-    Shown(Caught(2, &[])),
-    Shown(Delivered(2, &[])),
-    All(SYNC_TAKEN),
-    Shown(Caught(2, &[(1, 1)])),
-    Shown(Delivered(2, FIRST)),
-    All(SYNCS_AT_THE_LEADER),
-    Shown(Caught(1, &[(9, 1), (2, 1)])),
-    Shown(Caught(4, &[])),
-    Refused(Lead(4), WorldFault::NoServer),
-    Refused(Follow(1, 1), WorldFault::NoServer),
-    Refused(Sync(4, 1), WorldFault::NoServer),
-    Refused(Arrive(0), WorldFault::NoMessage),
-    Refused(Arrive(99), WorldFault::NoMessage),
-    Refused(Restart(1), WorldFault::NotDown),
-    Refused(Submit(3, 1, 0, ""), WorldFault::NotServing),
-    Refused(Sync(3, 1), WorldFault::NotServing),
-    All(&[Sends(Crash(3), &[])]),
-    Refused(Lead(3), WorldFault::Down),
-    Refused(Crash(3), WorldFault::Down),
-    Refused(Submit(3, 1, 0, ""), WorldFault::Down),
-    Refused(Sync(3, 1), WorldFault::Down),
-    Refused(Submit(1, 1, 0, ""), WorldFault::DuplicateCall),
-    Refused(Expire(1, 1), WorldFault::DuplicateCall),
-    Refused(Sync(2, 1), WorldFault::DuplicateCall),
-    Shown(Sent(11)),
+/// The events of a story.
+fn events(alloc: Global, story: Story) -> Result<Vec<Event<EchoCall>>, NoMemory> {
+    let mut events = Vec::new(alloc);
+    for number in 0..usize::MAX {
+        let Some(moment) = event_at(story, number) else {
+            break;
+        };
+        events.push(echo_event(moment))?;
+    }
+    Ok(events)
+}
+
+/// The message of the last event is none.
+const REFUSED_LAST: Story = &[&[Lead(1), Follow(2, 1), Arrive(&[2])]];
+
+/// What each is answered.
+static ANSWERS: [Result<Moved, WorldFault>; 3] = [
+    Ok(Moved { first: 0, count: 0 }),
+    Ok(Moved { first: 1, count: 1 }),
+    Err(WorldFault::NoMessage),
 ];
 
+/// Whether a replay of those events gives a world with one message, and these answers.
+fn replays(alloc: Global, world: &EchoWorld) -> Result<bool, NoMemory> {
+    let (after, answers) = world.replay(events(alloc, REFUSED_LAST)?)?;
+    Ok(after.messages().len() == 1 && answers.as_slice() == ANSWERS.as_slice())
+}
+
+/// The same of a new world.
+fn a_new_world_replays(alloc: Global) -> Result<bool, NoMemory> {
+    let world = EchoWorld::new(alloc, 3)?;
+    replays(alloc, &world)
+}
+
 #[test]
-fn worlds_refuse(rt: HostRuntime) {
-    assert_eq!(rt; play(rt.alloc(), &REFUSALS), Ok(None));
+fn replay_gives_the_same_world(rt: HostRuntime) {
+    assert_eq!(rt; a_new_world_replays(rt.alloc()), Ok(true));
+}
+
+/// Whether server 1, which outweighs the others, has delivered its call where a world replays the events up to it.
+fn delivers_alone(alloc: Global, world: &World<Echo, Weighted>) -> Result<bool, NoMemory> {
+    let (after, _) = world.replay(events(alloc, &[JOINED, SUBMIT])?)?;
+    Ok(after.delivered(1).len() == 1)
+}
+
+/// The same of a new world.
+fn a_new_world_delivers_alone(alloc: Global) -> Result<bool, WeightFault> {
+    let world = World::with(alloc, 3, Weighted::read(alloc, &[3, 1, 1])?)?;
+    Ok(delivers_alone(alloc, &world)?)
+}
+
+#[test]
+fn replayed_with_the_same_weights(rt: HostRuntime) {
+    assert_eq!(rt; a_new_world_delivers_alone(rt.alloc()), Ok(true));
 }

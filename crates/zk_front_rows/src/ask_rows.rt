@@ -1,10 +1,8 @@
 //! What an ask makes happen at server 1, and what it is told for what came of that.
 
-use crate::session_rows::path_of;
-use std::alloc::Global;
+use crate::session_rows::{read_of, write_of};
 use std::test::Fail;
-use zk_acl::Ids;
-use zk_path::Path;
+use zk_path::NoMemory;
 use zk_requests::Request;
 use zk_runs::{Answer, EnsembleFault, Event};
 use zk_serving::{
@@ -13,68 +11,28 @@ use zk_serving::{
 };
 use zk_table::{ReadCall, ReadReply};
 
-fn closing(alloc: Global) -> Ask {
-    Ask::Write {
-        session: 7,
-        cxid: 2,
-        auths: Ids::new(Vec::new(alloc)),
-        request: Request::CloseSession,
-    }
-}
-
-fn looking(alloc: Global, path: Path) -> Ask {
-    Ask::Read {
-        session: 8,
-        seen: 5,
-        auths: Ids::new(Vec::new(alloc)),
-        call: ReadCall::GetData { path },
-        watch: true,
-    }
-}
-
-/// Whether an event is the submit of the close, with this tag and at this time.
-fn is_close(event: &Event, tag: u64, now: i64) -> bool {
-    match event {
-        Event::World(zab_runs::Event::Submit { server, call }) => {
+/// Whether an event is what an ask that is answered so makes happen, with this tag and at 1000.
+fn is_event(event: &Event, sought: Sought, tag: u64) -> bool {
+    match (event, sought) {
+        (Event::World(zab_runs::Event::Submit { server, call }), Sought::Written) => {
             *server == HOME
                 && call.tag == tag
                 && call.session == 7
                 && call.cxid == 2
-                && call.now == now
+                && call.now == 1000
                 && matches!(&call.request, Request::CloseSession)
         }
-        _ => false,
-    }
-}
-
-/// Whether an event is that read.
-fn is_look(event: &Event) -> bool {
-    match event {
-        Event::Read(question) => {
+        (Event::Read(question), Sought::Looked) => {
             question.server == HOME
                 && question.session == 8
                 && question.seen == 5
                 && question.watch
                 && matches!(&question.call, ReadCall::GetData { .. })
         }
-        Event::World(_) => false,
-    }
-}
-
-/// Whether an event is a sync with this tag.
-fn is_sync(event: &Event, sought: u64) -> bool {
-    match event {
-        Event::World(zab_runs::Event::Sync { server, tag }) => *server == HOME && *tag == sought,
+        (Event::World(zab_runs::Event::Sync { server, tag: own }), Sought::Caught) => {
+            *server == HOME && *own == tag
+        }
         _ => false,
-    }
-}
-
-/// Whether an event is what an ask that is answered so makes happen, with this tag and at 1000.
-fn is_event(event: &Event, sought: Sought, tag: u64) -> bool {
-    match sought {
-        Sought::Written => is_close(event, tag, 1000),
-        Sought::Looked => is_look(event),
-        Sought::Caught => is_sync(event, tag),
     }
 }
 
@@ -89,9 +47,10 @@ fn happens(ask: Ask, session: i64, sought: Sought, tag: u64) -> bool {
 
 #[test]
 fn asks_happen_at_server_1(rt: HostRuntime) -> Result<(), Fail> {
-    let looking = looking(rt.alloc(), path_of(rt.alloc(), "/a")?);
+    let looking = read_of(rt.alloc(), 8, 5, "get -w \"/a\"")?;
     assert!(rt; happens(looking, 8, Sought::Looked, 4));
-    assert!(rt; happens(closing(rt.alloc()), 7, Sought::Written, 3));
+    let closing = write_of(rt.alloc(), 7, 2, "close")?;
+    assert!(rt; happens(closing, 7, Sought::Written, 3));
     assert!(rt; happens(Ask::Sync { session: 9 }, 9, Sought::Caught, 5));
     assert_eq!(rt; next_tag(5), 6);
     assert_eq!(rt; next_tag(u64::MAX), 0);
@@ -147,4 +106,5 @@ fn asks_are_told_what_came_of_them(rt: HostRuntime) {
     for (fault, told) in &FAULTS {
         assert_eq!(rt; service_fault_of(*fault), *told);
     }
+    assert_eq!(rt; ServiceFault::from(NoMemory), ServiceFault::Memory);
 }

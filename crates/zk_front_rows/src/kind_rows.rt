@@ -1,9 +1,11 @@
 //! A service whose replies do not fit what is asked: they are answered `err server`, and change neither session nor what the
-//! client has seen.
+//! client has seen. And an event that is told as a session opens.
 
+use crate::memory_rows::{Devices, Ended, GOOD, serves};
 use std::alloc::Global;
-use zk_log::{DripIn, DripOut, Sink, Source};
-use zk_serving::{Ask, Events, FrontFault, Reply, Service, ServiceFault, Told, serve_lines};
+use zk_machine::{Change, ChangeKind};
+use zk_path::{NoMemory, Path};
+use zk_serving::{Ask, Events, FrontFault, Reply, Service, ServiceFault, Told};
 use zk_table::{PartResults, ReadReply, TxnResult};
 
 /// What the service replies.
@@ -11,6 +13,8 @@ use zk_table::{PartResults, ReadReply, TxnResult};
 enum Kind {
     /// A transaction that was applied, which tells neither path nor stat.
     Plain(i64),
+    /// The same, with an event.
+    Fired(i64),
     /// A read that was refused.
     Looked(i64),
     /// A read that was refused, whose code is the last transaction that the client has seen.
@@ -27,7 +31,7 @@ struct Odd {
 }
 
 /// A transaction that was applied, and tells no more.
-pub fn applied(alloc: Global, zxid: i64) -> TxnResult {
+fn applied(alloc: Global, zxid: i64) -> TxnResult {
     TxnResult {
         zxid,
         err: 0,
@@ -55,6 +59,7 @@ fn seen_by(ask: &Ask) -> i64 {
 fn reply_of(alloc: Global, kind: Kind, ask: &Ask) -> Result<Reply, ServiceFault> {
     match kind {
         Kind::Plain(zxid) => Ok(Reply::Wrote(applied(alloc, zxid))),
+        Kind::Fired(zxid) => Ok(Reply::Wrote(applied(alloc, zxid))),
         Kind::Looked(zxid) => Ok(refused(-101, zxid)),
         Kind::Seen => Ok(refused(i32::try_from(seen_by(ask)).unwrap_or(0), 0)),
         Kind::Caught => Ok(Reply::Caught),
@@ -62,14 +67,40 @@ fn reply_of(alloc: Global, kind: Kind, ask: &Ask) -> Result<Reply, ServiceFault>
     }
 }
 
+/// That `/a` went.
+fn one_event(alloc: Global) -> Result<Events, NoMemory> {
+    let path = Path::read(alloc, "/a").ok().ok_or(NoMemory)?;
+    let mut events = Vec::new(alloc);
+    events.push(Change {
+        path,
+        kind: ChangeKind::Deleted,
+    })?;
+    Ok(Events::new(events))
+}
+
+fn events_of(alloc: Global, kind: Kind) -> Result<Events, NoMemory> {
+    match kind {
+        Kind::Fired(_) => one_event(alloc),
+        _ => Ok(Events::new(Vec::new(alloc))),
+    }
+}
+
+/// What is told with this reply.
+fn told_with(alloc: Global, kind: Kind, reply: Reply) -> Result<Told, ServiceFault> {
+    match events_of(alloc, kind) {
+        Ok(events) => Ok(Told { events, reply }),
+        Err(NoMemory) => Err(ServiceFault::Memory),
+    }
+}
+
 impl Odd {
-    /// The next reply.
-    fn reply(&mut self, ask: &Ask) -> Result<Reply, ServiceFault> {
+    /// The next kind of reply.
+    fn next(&mut self) -> Kind {
         let [kind, rest @ ..] = self.kinds else {
-            return Err(ServiceFault::Server);
+            return Kind::Fault(ServiceFault::Server);
         };
         self.kinds = rest;
-        reply_of(self.alloc, *kind, ask)
+        *kind
     }
 }
 
@@ -79,23 +110,22 @@ impl Service for Odd {
     ghost does = { λ _ _ _ _. ⊤ };
 
     fn ask(&mut self, ask: Ask) -> Result<Told, ServiceFault> {
-        let reply = self.reply(&ask);
+        let kind = self.next();
+        let reply = reply_of(self.alloc, kind, &ask);
         drop(ask);
-        let reply = reply?;
-        Ok(Told {
-            events: Events::new(Vec::new(self.alloc)),
-            reply,
-        })
+        told_with(self.alloc, kind, reply?)
     }
 }
 
 /// A line for each reply. The zxids that do not fit are above those that do.
-static KINDS: [Kind; 15] = [
-    Kind::Plain(5),
+static KINDS: [Kind; 17] = [
+    Kind::Fired(5),
     Kind::Seen,
     Kind::Looked(99),
     Kind::Plain(99),
     Kind::Plain(99),
+    Kind::Caught,
+    Kind::Looked(99),
     Kind::Caught,
     Kind::Caught,
     Kind::Plain(99),
@@ -114,7 +144,9 @@ create \"/a\" x 1 31 \"world\" \"anyone\"
 create \"/a\" x 1 31 \"world\" \"anyone\"
 set \"/a\" x 0
 close
+close
 ls \"/a\"
+get \"/a\"
 get \"/a\"
 sync \"/a\"
 get \"/a\"
@@ -127,8 +159,11 @@ get \"/a\"
 ";
 
 /// What is seen stays 5: a delete whose zxid is lower is answered, and what is seen never falls.
-const ANSWERS: &str = "ok 0000000000000005 30000
+const ANSWERS: &str = "event 2 \"/a\"
+ok 0000000000000005 30000
 err 5
+err server
+err server
 err server
 err server
 err server
@@ -145,40 +180,36 @@ ok
 err -112
 ";
 
-/// What serving these lines answers over these replies, and what it writes.
-fn served(
+/// Whether serving these lines ends so over these replies, and writes these answers.
+fn are_answered(
     alloc: Global,
     lines: &str,
     kinds: &'static [Kind],
-) -> (Result<u64, FrontFault>, DripOut) {
-    let mut reader = Source::new(DripIn::new(lines.as_bytes(), 4096, None));
-    let mut writer = Sink::new(DripOut::new(alloc, 4096, None));
+    devices: Devices,
+    expected: Ended,
+    answers: &str,
+) -> bool {
     let mut service = Odd { alloc, kinds };
-    let ended = serve_lines(alloc, &mut reader, &mut writer, &mut service, 1000);
-    (ended, writer.into_inner())
-}
-
-/// Whether the lines end with the input, and are answered as they should be.
-fn are_answered(alloc: Global) -> bool {
-    let (ended, out) = served(alloc, LINES, &KINDS);
-    ended == Ok(16) && out.bytes() == ANSWERS.as_bytes()
+    let (lines, answers) = (lines.as_bytes(), answers.as_bytes());
+    let is_it = serves(alloc, &mut service, lines, devices, expected, answers);
+    drop(service);
+    is_it
 }
 
 #[test]
 fn replies_of_another_kind_change_nothing(rt: HostRuntime) {
-    assert!(rt; are_answered(rt.alloc()));
+    assert!(rt; are_answered(rt.alloc(), LINES, &KINDS, GOOD, Ok(18), ANSWERS));
 }
 
-/// The service is refused memory.
+/// The service is refused memory behind its first reply.
 static NO_MEMORY: [Kind; 2] = [Kind::Plain(5), Kind::Fault(ServiceFault::Memory)];
 
-/// Whether serving ends with that, and nothing is written behind the line before.
-fn are_ended(alloc: Global) -> bool {
-    let (ended, out) = served(alloc, "open 4000\nget \"/\"\nruok\n", &NO_MEMORY);
-    ended == Err(FrontFault::NoMemory) && b"ok 0000000000000005 4000\n".starts_with(out.bytes())
-}
-
+// Serving ends with that. Where a read takes a byte, the answer of the line before was written.
 #[test]
 fn refused_memory_ends_serving(rt: HostRuntime) {
-    assert!(rt; are_ended(rt.alloc()));
+    let lines = "open 4000\nget \"/\"\nruok\n";
+    let devices = Devices { piece: 1, ..GOOD };
+    let ended = Err(FrontFault::NoMemory);
+    let answers = "ok 0000000000000005 4000\n";
+    assert!(rt; are_answered(rt.alloc(), lines, &NO_MEMORY, devices, ended, answers));
 }

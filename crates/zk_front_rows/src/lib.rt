@@ -1,25 +1,27 @@
-//! The worked rows of the line front: the lines in which clients ask, lines over memory, and what they are answered. The tests
-//! of `zk_request_lines`, `zk_connections` and `zk_serving`, and no code of its own. Lines over loopback are sent to the program by
-//! `checks/serve.sh`.
+//! What no order of `zk` shows of the orders themselves, and of lines at the front: over devices that give and take in pieces or fail,
+//! over services that fail, over servers in this process with a clock that stands still; what faults are told as, and what
+//! the library alone tells of command lines, of servers and of a debugger. No code of its own. What the program shows stands in
+//! `checks/rows`, as `orders.rows` and `lines.rows`, and in `checks/clients.py`.
 //!
-//! They stand apart from the crates that they test, as those of `zk_rows` do, and for the same reason. Expected values come from
-//! the definitions of the protocol. What is large is let go by `drop`, and functions that may end early are lent it: the end of
-//! each scope that such a value lives in would be proved for each part of it.
+//! What is large is let go by `drop`, and functions that may end early are lent it: the end of each scope that such a value
+//! lives in would be proved for each part of it.
 #![tactic(auto)]
 
 #[cfg(test)]
 mod ask_rows;
 #[cfg(test)]
-mod asked;
+mod command_rows;
 #[cfg(test)]
-mod connection_rows;
+mod device_rows;
+#[cfg(test)]
+mod fault_rows;
+#[cfg(test)]
+mod field_rows;
 #[cfg(test)]
 mod kind_rows;
 #[cfg(test)]
-mod line_rows;
-#[cfg(test)]
 mod memory_rows;
 #[cfg(test)]
-mod request_rows;
+mod server_rows;
 #[cfg(test)]
 mod session_rows;

@@ -2,7 +2,7 @@
 
 use std::alloc::Global;
 use zk_log::{DripIn, DripOut, Sink, Source};
-use zk_serving::{Clock, FrontFault, Local, serve_lines};
+use zk_serving::{Clock, FrontFault, Local, Service, serve_lines};
 
 /// A clock that stands.
 #[derive(Drop)]
@@ -17,15 +17,15 @@ impl Clock for Still {
 /// How the bytes come and go: so many a read, and a write takes one; which read fails and which write, counted from 0; and how
 /// many reads may be made.
 #[derive(Clone, Copy)]
-struct Devices {
-    piece: usize,
-    bad_read: Option<u64>,
-    bad_write: Option<u64>,
-    turns: u32,
+pub struct Devices {
+    pub piece: usize,
+    pub bad_read: Option<u64>,
+    pub bad_write: Option<u64>,
+    pub turns: u32,
 }
 
 /// They do not fail.
-const GOOD: Devices = Devices {
+pub const GOOD: Devices = Devices {
     piece: 4096,
     bad_read: None,
     bad_write: None,
@@ -47,6 +47,20 @@ getacl \"/b\"
 delete \"/b\" 0
 get \"/b\"
 commit
+multi
+create \"/m\" x 1 31 \"world\" \"anyone\"
+create \"/m/n\" x 1 31 \"world\" \"anyone\"
+set \"/m\" x01 0
+check \"/m\" 1
+delete \"/m/n\" 0
+commit
+multi
+delete \"/m\" 5
+create \"/o\" x 1 31 \"world\" \"anyone\"
+commit
+addauth digest \"alice:secret\"
+create -e \"/e\" x 1 31 \"auth\" \"\"
+getacl \"/e\"
 close
 close
 ";
@@ -66,98 +80,22 @@ ok 1 31 \"world\" \"anyone\" 0000000100000003 0000000100000003 1000 1000 0 0 0 0
 ok
 err -101
 err -8
-ok
-err -112
-";
-
-/// Multis: a bad part drops its multi, and so does a line that is none.
-const MULTIS: &str = "open 30000
-multi
-create \"/m\" x 1 31 \"world\" \"anyone\"
-get \"/\"
-commit
-stat \"/m\"
-multi
-ruok
-commit
-multi
-create \"/m\" x 1 31 \"world\" \"anyone\"
-create \"/m\" x
-commit
-multi
-create \"/m\" x 1 31 \"world\" \"anyone\"
-create \"/m/n\" x 1 31 \"world\" \"anyone\"
-set \"/m\" x01 0
-check \"/m\" 1
-delete \"/m/n\" 0
-commit
-multi
-delete \"/m\" 5
-create \"/o\" x 1 31 \"world\" \"anyone\"
-commit
-stat \"/o\"
-commit
-";
-
-const MULTI_ANSWERS: &str = "ok 0000000100000001 30000
-err -8
-err -8
-err -101
-err -8
-err -8
-err -8
-err -8
-ok ; 0 \"/m\" - ; 0 \"/m/n\" - ; 0 \"/m\" 0000000100000002 0000000100000002 1000 1000 1 1 0 0000000000000000 1 1 0000000100000002 ; 0 \"/m\" - ; 0 \"/m/n\" -
+ok ; 0 \"/m\" - ; 0 \"/m/n\" - ; 0 \"/m\" 0000000100000007 0000000100000007 1000 1000 1 1 0 0000000000000000 1 1 0000000100000007 ; 0 \"/m\" - ; 0 \"/m/n\" -
 err -103 ; -103 - - ; -2 - -
-err -101
-err -8
-";
-
-/// Without a session, and with two after one another on one connection.
-const SESSIONS: &str = "ruok
-create \"/a\" x 1 31 \"world\" \"anyone\"
-what
-multi
-commit
-open 1000
-open 30000
-addauth digest \"alice\"
-addauth digest \"alice:secret\"
-get \"a\"
-create -e \"/e\" x 1 31 \"auth\" \"\"
-getacl \"/e\"
-close
-get \"/e\"
-open 50000
-get \"/e\"
-ruok";
-
-const SESSION_ANSWERS: &str = "imok
-err -112
-err -8
-err -112
-err -8
-ok 0000000100000001 4000
-err -8
-err -8
 ok
-err -8
 ok \"/e\"
-ok 1 31 \"digest\" \"alice:aYXlLOpEooaV1cRAvUL1fp9Qt7E=\" 0000000100000002 0000000100000002 1000 1000 0 0 0 0000000100000001 0 0 0000000100000002
+ok 1 31 \"digest\" \"alice:aYXlLOpEooaV1cRAvUL1fp9Qt7E=\" 0000000100000009 0000000100000009 1000 1000 0 0 0 0000000100000001 0 0 0000000100000009
 ok
 err -112
-ok 0000000100000004 40000
-err -101
-imok
 ";
 
 /// What serving answers.
-type Ended = Result<u64, FrontFault>;
+pub type Ended = Result<u64, FrontFault>;
 
 /// Whether serving these bytes ends so, with this written.
-fn serves(
+pub fn serves<S: Service>(
     alloc: Global,
-    local: &mut Local<Still>,
+    service: &mut S,
     input: &[u8],
     devices: Devices,
     expected: Ended,
@@ -165,7 +103,7 @@ fn serves(
 ) -> bool {
     let mut reader = Source::new(DripIn::new(input, devices.piece.max(1), devices.bad_read));
     let mut writer = Sink::new(DripOut::new(alloc, 1, devices.bad_write));
-    let ended = serve_lines(alloc, &mut reader, &mut writer, local, devices.turns);
+    let ended = serve_lines(alloc, &mut reader, &mut writer, service, devices.turns);
     let out = writer.into_inner();
     ended == expected && out.bytes() == written
 }
@@ -188,12 +126,12 @@ fn is_served(
     }
 }
 
-/// Whether so many lines are answered so, in pieces of any size.
-fn are_answered(alloc: Global, input: &str, lines: u64, answers: &str) -> bool {
-    let (input, answers) = (input.as_bytes(), answers.as_bytes());
+/// Whether the lines are answered as they should be, in pieces of any size.
+fn are_answered(alloc: Global) -> bool {
+    let (input, answers) = (LINES.as_bytes(), ANSWERS.as_bytes());
     for piece in [1, 7, 65_536] {
         let devices = Devices { piece, ..GOOD };
-        if !is_served(alloc, input, devices, Ok(lines), answers) {
+        if !is_served(alloc, input, devices, Ok(30), answers) {
             return false;
         }
     }
@@ -202,23 +140,14 @@ fn are_answered(alloc: Global, input: &str, lines: u64, answers: &str) -> bool {
 
 #[test]
 fn front_lines_over_memory(rt: HostRuntime) {
-    assert!(rt; are_answered(rt.alloc(), LINES, 16, ANSWERS));
-    assert!(rt; are_answered(rt.alloc(), MULTIS, 26, MULTI_ANSWERS));
-    assert!(rt; are_answered(rt.alloc(), SESSIONS, 17, SESSION_ANSWERS));
+    assert!(rt; are_answered(rt.alloc()));
 }
 
 #[test]
 fn no_reads_are_endless(rt: HostRuntime) {
     let devices = Devices { turns: 0, ..GOOD };
-    assert!(rt;
-        is_served(
-            rt.alloc(),
-            b"ruok\n",
-            devices,
-            Err(FrontFault::Endless),
-            b""
-        )
-    );
+    let ended = Err(FrontFault::Endless);
+    assert!(rt; is_served(rt.alloc(), b"ruok\n", devices, ended, b""));
 }
 
 /// How many bytes of the answers stand for the first so many bytes of the input: each line here has one answer.

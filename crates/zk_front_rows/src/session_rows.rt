@@ -3,105 +3,74 @@
 use crate::memory_rows::Still;
 use std::alloc::Global;
 use std::test::Fail;
-use zk_acl::{Acl, Acls, Id, Ids, Text};
-use zk_path::{NoMemory, Path};
-use zk_requests::Request;
+use zk_acl::Ids;
+use zk_path::NoMemory;
+use zk_request_lines::{Lookup, read_lookup, read_request};
 use zk_serving::{Ask, Local, Reply, Service, ServiceFault, Told};
-use zk_table::ReadCall;
 
 /// The sessions of the first two transactions.
 const ALICE: i64 = 0x1_0000_0001;
 
 const BOB: i64 = 0x1_0000_0002;
 
-/// What is asked.
+/// What a session asks: a request or a read, by its line, or a sync.
 #[derive(Clone, Copy)]
 enum Step {
-    Opens,
-    /// The session lists the children of a node, and waits for a change.
-    Watches(i64, &'static str),
-    /// The session asks for a node.
-    Looks(i64, &'static str),
-    Creates(i64, &'static str),
+    Writes(i64, &'static str),
+    Reads(i64, &'static str),
     Syncs(i64),
 }
 
+const MAKE_A: &str = "create \"/a\" - 1 31 \"world\" \"anyone\"";
+
+const MAKE_B: &str = "create \"/b\" - 1 31 \"world\" \"anyone\"";
+
 /// Each step, and the paths of the events that are told with its answer.
 static STEPS: [(Step, &[&str]); 10] = [
-    (Step::Opens, &[]),
-    (Step::Opens, &[]),
-    (Step::Watches(BOB, "/"), &[]),
-    (Step::Watches(ALICE, "/"), &[]),
-    (Step::Creates(ALICE, "/a"), &["/"]),
-    (Step::Creates(ALICE, "/b"), &[]),
+    (Step::Writes(0, "open 30000"), &[]),
+    (Step::Writes(0, "open 30000"), &[]),
+    (Step::Reads(BOB, "ls -w \"/\""), &[]),
+    (Step::Reads(ALICE, "ls -w \"/\""), &[]),
+    (Step::Writes(ALICE, MAKE_A), &["/"]),
+    (Step::Writes(ALICE, MAKE_B), &[]),
     (Step::Syncs(ALICE), &[]),
     // Bob's event passed while Alice asked.
-    (Step::Looks(BOB, "/"), &["/"]),
-    (Step::Looks(BOB, "/a"), &[]),
+    (Step::Reads(BOB, "stat \"/\""), &["/"]),
+    (Step::Reads(BOB, "stat \"/a\""), &[]),
     (Step::Syncs(BOB), &[]),
 ];
 
-/// World, anyone, all permissions.
-fn open_to_all(alloc: Global) -> Result<Acls, NoMemory> {
-    let scheme = Text::read(alloc, "world")?;
-    let id = Text::read(alloc, "anyone")?;
-    let mut entries = Vec::new(alloc);
-    entries.push(Acl {
-        perms: 31,
-        id: Id { scheme, id },
-    })?;
-    Acls::new(alloc, entries)
-}
-
-fn create(alloc: Global, path: &str) -> Result<Request, NoMemory> {
-    let path = Text::read(alloc, path)?;
-    let acl = open_to_all(alloc)?;
-    Ok(Request::Create {
-        path,
-        content: None,
-        acl,
-        flags: 0,
-    })
-}
-
-fn write(alloc: Global, session: i64, request: Request) -> Ask {
-    Ask::Write {
-        session,
-        cxid: 1,
-        auths: Ids::new(Vec::new(alloc)),
-        request,
-    }
-}
-
-fn read(alloc: Global, session: i64, call: ReadCall, watch: bool) -> Ask {
-    Ask::Read {
-        session,
-        seen: 0,
-        auths: Ids::new(Vec::new(alloc)),
-        call,
-        watch,
-    }
-}
-
-pub fn path_of(alloc: Global, path: &str) -> Result<Path, NoMemory> {
-    match Path::read(alloc, path) {
-        Ok(path) => Ok(path),
+/// The request of a line, asked by a session that has proved nothing.
+pub fn write_of(alloc: Global, session: i64, cxid: i32, line: &str) -> Result<Ask, NoMemory> {
+    match read_request(alloc, line) {
+        Ok(request) => Ok(Ask::Write {
+            session,
+            cxid,
+            auths: Ids::new(Vec::new(alloc)),
+            request,
+        }),
         Err(_) => Err(NoMemory),
+    }
+}
+
+/// The read of a line.
+pub fn read_of(alloc: Global, session: i64, seen: i64, line: &str) -> Result<Ask, NoMemory> {
+    match read_lookup(alloc, line) {
+        Ok(Lookup::Asks { call, watch }) => Ok(Ask::Read {
+            session,
+            seen,
+            auths: Ids::new(Vec::new(alloc)),
+            call,
+            watch,
+        }),
+        _ => Err(NoMemory),
     }
 }
 
 fn ask_of(alloc: Global, step: Step) -> Result<Ask, NoMemory> {
     match step {
-        Step::Opens => Ok(write(alloc, 0, Request::OpenSession { timeout: 30000 })),
-        Step::Watches(session, path) => {
-            let path = path_of(alloc, path)?;
-            Ok(read(alloc, session, ReadCall::GetChildren { path }, true))
-        }
-        Step::Looks(session, path) => {
-            let path = path_of(alloc, path)?;
-            Ok(read(alloc, session, ReadCall::Exists { path }, false))
-        }
-        Step::Creates(session, path) => Ok(write(alloc, session, create(alloc, path)?)),
+        Step::Writes(session, line) => write_of(alloc, session, 1, line),
+        Step::Reads(session, line) => read_of(alloc, session, 0, line),
         Step::Syncs(session) => Ok(Ask::Sync { session }),
     }
 }

@@ -1,63 +1,127 @@
-//! Rows of `zk_log` on devices that fail, over the whole first log.
+//! Rows of `Source` and `Sink`: what they pass on and count, also of devices that fail.
 
-use crate::journal_rows::{fails_after, is_filled, write_to};
-use crate::log_rows::{FIRST_LOG, dripped, fault_of, read_log};
+use crate::log_rows::{ended, read_log};
 use std::alloc::Global;
 use std::io;
 use std::io::{ErrorKind, Read, Write};
-use zk_log::{Ending, Journal, LogFault, Sink, Source, WriteFault};
+use zk_log::{DripIn, DripOut, LogFault, Sink, Source, WriteFault};
 
-#[test]
-fn each_byte_takes_a_turn_and_the_end_one_more(rt: HostRuntime) {
-    assert!(rt; dripped(rt.alloc(), &FIRST_LOG, 1, None, 199) == Err(LogFault::Endless));
-    assert!(rt; dripped(rt.alloc(), &FIRST_LOG, 1, None, 200) == Ok((3, Ending::Whole)));
+/// A device that notes how often it is asked, and for how many bytes the last time. It gives or takes half of them.
+#[derive(Debug, Drop, PartialEq, Eq)]
+struct Noting {
+    calls: u32,
+    size: usize,
 }
 
-/// The first of the 200 reads, of one byte each, whose failure is not told.
-fn untold_read(alloc: Global) -> Option<u64> {
-    for good_calls in 0..200 {
-        if dripped(alloc, &FIRST_LOG, 1, Some(good_calls), 999) != Err(LogFault::Read) {
-            return Some(good_calls);
-        }
+impl Noting {
+    fn note(&mut self, size: usize) {
+        self.calls = self.calls.saturating_add(1);
+        self.size = size;
     }
-    None
 }
 
-#[test]
-fn each_failed_read_is_told(rt: HostRuntime) {
-    assert!(rt; untold_read(rt.alloc()).is_none());
-    // A read that is not needed is not made.
-    assert!(rt; dripped(rt.alloc(), &FIRST_LOG, 1, Some(200), 999) == Ok((3, Ending::Whole)));
-}
-
-#[test]
-fn a_fault_is_told_before_a_later_read_fails(rt: HostRuntime) {
-    // another checksum of the second entry
-    let mut log = FIRST_LOG;
-    log[72] = 0x23;
-    // Read 160 would fail; the second entry ends with byte 153.
-    assert!(rt; dripped(rt.alloc(), &log, 1, Some(159), 999) == Err(LogFault::Checksum(65)));
-}
-
-/// The first of the 199 writes whose failure is not told, or leaves other bytes than those before it.
-fn untold_write(alloc: Global, journal: &Journal) -> Option<usize> {
-    for good_calls in 0..199 {
-        if !fails_after(alloc, journal, 1, good_calls as u64, good_calls) {
-            return Some(good_calls);
-        }
+impl Read for Noting {
+    fn read(&mut self, buf: &mut [u8]) -> io::Result<usize> {
+        self.note(buf.len());
+        Ok(buf.len() / 2)
     }
-    None
 }
 
-/// Whether each is told of a new journal that takes the first log.
-fn writes_are_told(alloc: Global) -> bool {
-    let mut journal = Journal::new(alloc);
-    is_filled(alloc, &mut journal, 3) && untold_write(alloc, &journal).is_none()
+impl Write for Noting {
+    fn write(&mut self, buf: &[u8]) -> io::Result<usize> {
+        self.note(buf.len());
+        Ok(buf.len() / 2)
+    }
+
+    fn flush(&mut self) -> io::Result<()> {
+        Ok(())
+    }
+}
+
+/// Whether a read of so many bytes, at most 99, is passed on whole and once, with what the device answers.
+fn is_read_passed_on(size: usize) -> Option<bool> {
+    let mut room = [0; 99];
+    let buf = room.get_mut(..size)?;
+    let mut source = Source::new(Noting { calls: 0, size: 0 });
+    let is_half = source.read(buf).ok() == Some(size / 2);
+    Some(source.into_inner() == Noting { calls: 1, size } && is_half)
+}
+
+/// The same of a write.
+fn is_write_passed_on(size: usize) -> Option<bool> {
+    let zeros = [0; 99];
+    let bytes = zeros.get(..size)?;
+    let mut sink = Sink::new(Noting { calls: 0, size: 0 });
+    let is_half = sink.write(bytes).ok() == Some(size / 2);
+    Some(sink.into_inner() == Noting { calls: 1, size } && is_half)
 }
 
 #[test]
-fn each_failed_write_is_told(rt: HostRuntime) {
-    assert!(rt; writes_are_told(rt.alloc()));
+fn calls_are_passed_on_whole_and_once(rt: HostRuntime) {
+    for size in [0, 1, 99] {
+        assert!(rt; is_read_passed_on(size) == Some(true));
+        assert!(rt; is_write_passed_on(size) == Some(true));
+    }
+}
+
+/// How many bytes a read gives, if it does not fail; the reads, failures and ends that the source has counted then; and how many
+/// bytes it says the last read gave.
+type Counted = (Option<usize>, (u64, u64, u64), usize);
+
+/// What comes of the next read into a piece.
+fn read_by<R: Read>(source: &mut Source<R>, piece: &mut [u8]) -> Option<Counted> {
+    if source.reads() == u64::MAX || source.failures() == u64::MAX {
+        return None;
+    }
+    let given = source.read(piece).ok();
+    let counts = (source.reads(), source.failures(), source.ends());
+    Some((given, counts, source.last_read()))
+}
+
+/// Whether the next reads come to this, and these bytes then stand at the front of the piece.
+fn read_so<R: Read>(source: &mut Source<R>, rows: &[(Counted, &[u8])]) -> bool {
+    let mut piece = [0; 8];
+    let mut all = true;
+    for (counted, front) in rows {
+        all = read_by(source, &mut piece) == Some(*counted)
+            && piece.get(..front.len()) == Some(*front)
+            && all;
+    }
+    all
+}
+
+/// Five bytes in pieces of two, where the second read fails.
+static FAILING_READS: [(Counted, &[u8]); 3] = [
+    ((Some(2), (1, 0, 0), 2), b"ab"),
+    ((None, (2, 1, 0), 0), b"ab"),
+    ((Some(2), (3, 1, 0), 2), b"cd"),
+];
+
+/// Whether the reads of five bytes are those, and what is not read stays.
+fn five_bytes_are_read() -> bool {
+    let mut source = Source::new(DripIn::new(b"abcde", 2, Some(1)));
+    let all = read_so(&mut source, &FAILING_READS);
+    source.into_inner().rest() == b"e".as_slice() && all
+}
+
+/// Two bytes, which are followed by the end. A failed read meets none.
+static ENDING_READS: [(Counted, &[u8]); 3] = [
+    ((Some(2), (2, 0, 0), 2), b"ab"),
+    ((Some(0), (3, 0, 1), 0), b"ab"),
+    ((None, (4, 1, 1), 0), b"ab"),
+];
+
+/// Whether the reads of two bytes are those, after one with no room, which meets no end.
+fn two_bytes_are_read() -> bool {
+    let mut source = Source::new(DripIn::new(b"ab", 2, Some(3)));
+    read_by(&mut source, &mut []) == Some((Some(0), (1, 0, 0), 0))
+        && read_so(&mut source, &ENDING_READS)
+}
+
+#[test]
+fn source_counts_reads_failures_and_ends(rt: HostRuntime) {
+    assert!(rt; five_bytes_are_read());
+    assert!(rt; two_bytes_are_read());
 }
 
 /// A reader whose first read is interrupted; a second one would meet the end.
@@ -79,7 +143,7 @@ impl Read for Interrupted {
 /// Whether a load ends with the interrupted read, which is the only one and counts as a failure.
 fn fails_when_interrupted(alloc: Global) -> bool {
     let mut source = Source::new(Interrupted { reads: 0 });
-    let is_told = fault_of(&read_log(alloc, &mut source, 9)) == Some(LogFault::Read);
+    let is_told = ended(&read_log(alloc, &mut source, 9)) == Err(LogFault::Read);
     let counted = (source.reads(), source.failures());
     source.into_inner().reads == 1 && counted == (1, 1) && is_told
 }
@@ -89,32 +153,44 @@ fn an_interrupted_read_is_a_failure(rt: HostRuntime) {
     assert!(rt; fails_when_interrupted(rt.alloc()));
 }
 
-/// A writer that takes no byte.
-#[derive(Debug, Drop)]
-struct Full {
-    writes: u32,
+/// Whether a sink takes three bytes of six, and then four in two pieces, is flushed, and has all seven.
+fn writes_in_pieces(alloc: Global) -> bool {
+    let mut sink = Sink::new(DripOut::new(alloc, 3, None));
+    let taken = sink.write(b"abcdef").ok();
+    if sink.failures() == u64::MAX {
+        return false;
+    }
+    let told = sink.write_all(b"defg");
+    let counts = (sink.writes(), sink.failures());
+    let mut out = sink.into_inner();
+    let is_out = out.flush().is_ok() && out.bytes() == b"abcdefg".as_slice();
+    (taken, told, counts) == (Some(3), Ok(()), (3, 0)) && is_out
 }
 
-impl Write for Full {
-    fn write(&mut self, _buf: &[u8]) -> io::Result<usize> {
-        self.writes = self.writes.saturating_add(1);
-        Ok(0)
-    }
+/// The size of a sink's pieces, after how many calls it fails, what is written, how many writes it has counted then, and what
+/// it has taken.
+type FailedWrite = (usize, Option<u64>, &'static [u8], u64, &'static [u8]);
 
-    fn flush(&mut self) -> io::Result<()> {
-        Ok(())
-    }
-}
+static FAILED_WRITES: [FailedWrite; 2] = [
+    (3, Some(1), b"abcdefg", 2, b"abc"),
+    // It takes no byte.
+    (0, None, b"a", 1, b""),
+];
 
-/// Whether a write of a journal ends with the first call, which counts as a failure.
-fn fails_when_full(journal: Journal) -> bool {
-    let mut sink = Sink::new(Full { writes: 0 });
-    let told = write_to(&mut sink, 0, &journal);
-    let counted = (sink.writes(), sink.failures());
-    sink.into_inner().writes == 1 && counted == (1, 1) && told == Err(WriteFault::Write)
+/// Whether a write fails so, and is the only failure.
+fn fails_so(alloc: Global, row: &FailedWrite) -> bool {
+    let (piece, good_calls, bytes, writes, taken) = row;
+    let mut sink = Sink::new(DripOut::new(alloc, *piece, *good_calls));
+    let told = sink.write_all(bytes);
+    let counts = (sink.writes(), sink.failures());
+    let are_left = sink.into_inner().bytes() == *taken;
+    told == Err(WriteFault::Write) && counts == (*writes, 1) && are_left
 }
 
 #[test]
-fn a_writer_that_takes_nothing_has_failed(rt: HostRuntime) {
-    assert!(rt; fails_when_full(Journal::new(rt.alloc())));
+fn sink_writes_all_in_pieces_or_tells(rt: HostRuntime) {
+    assert!(rt; writes_in_pieces(rt.alloc()));
+    for row in &FAILED_WRITES {
+        assert!(rt; fails_so(rt.alloc(), row));
+    }
 }

@@ -1,23 +1,10 @@
 //! Rows of journals, and of the logs that are written of them.
 
-use crate::log_rows::{FIRST_LOG, loaded, read_log, sink_of};
+use crate::log_rows::{FIRST_LOG, Load, dripped, read_log};
 use std::alloc::Global;
-use std::io::Write;
-use zk_log::{Ending, Journal, Loaded, LogFault, NotPushed, Sink, Source, WriteFault, write_log};
-use zk_path::NoMemory;
+use zk_log::{DripOut, Ending, Journal, LogFault, Sink, Source, WriteFault, write_log};
 use zk_records::size;
-use zk_table::{Op, Txn};
-
-/// The transactions that were loaded.
-fn txns_in(loaded: Result<Loaded, LogFault>) -> Result<Vec<Txn>, LogFault> {
-    Ok(loaded?.txns.into_vec())
-}
-
-/// The transactions of the first log.
-fn first_txns(alloc: Global) -> Result<Vec<Txn>, LogFault> {
-    let mut source = Source::new(FIRST_LOG.as_slice());
-    txns_in(read_log(alloc, &mut source, 2))
-}
+use zk_table::Txn;
 
 /// Appends a transaction, where its zxid is above the last one's, and tells whether it took it.
 fn is_pushed(journal: &mut Journal, txn: Txn) -> bool {
@@ -27,10 +14,10 @@ fn is_pushed(journal: &mut Journal, txn: Txn) -> bool {
     journal.push(txn).is_ok()
 }
 
-/// How many of the first log's transactions are taken.
-fn count_pushed(alloc: Global, journal: &mut Journal) -> Result<u32, LogFault> {
+/// How many of the loaded transactions are taken.
+fn count_pushed(journal: &mut Journal, loaded: Load) -> Result<u32, LogFault> {
     let mut count: u32 = 0;
-    for txn in first_txns(alloc)? {
+    for txn in loaded?.txns.into_vec() {
         if is_pushed(journal, txn) {
             count = count.saturating_add(1);
         }
@@ -44,8 +31,10 @@ fn holds(journal: &Journal, from: usize, to: usize, count: usize) -> bool {
 }
 
 /// Whether the first log's transactions are taken, so many of them, and are held then.
-pub(crate) fn is_filled(alloc: Global, journal: &mut Journal, count: u32) -> bool {
-    count_pushed(alloc, journal) == Ok(count) && holds(journal, 16, 199, 3)
+fn is_filled(alloc: Global, journal: &mut Journal, count: u32) -> bool {
+    let mut source = Source::new(FIRST_LOG.as_slice());
+    let loaded = read_log(alloc, &mut source, 2);
+    count_pushed(journal, loaded) == Ok(count) && holds(journal, 16, 199, 3)
 }
 
 /// Whether a cut leaves this of the first log, and so many transactions.
@@ -54,13 +43,35 @@ fn is_cut(journal: &mut Journal, count: usize, to: usize, left: usize) -> bool {
     holds(journal, 16, to, left)
 }
 
-/// Whether an empty journal is filled, cut and filled again.
+/// Puts all of another journal in place of what one holds, and tells whether it did.
+fn is_replaced(journal: &mut Journal, rest: &mut Journal) -> bool {
+    !rest.txns().is_empty() && journal.splice(0, rest).is_ok()
+}
+
+/// Whether what stands behind a journal's first entry comes once more, and then stands in place of all of it.
+fn ends_as_its_tail(journal: &mut Journal) -> bool {
+    if journal.txns().is_empty() {
+        return false;
+    }
+    match journal.tail(1) {
+        Ok(mut tail) => {
+            holds(&tail, 65, 199, 2)
+                && is_replaced(journal, &mut tail)
+                && holds(journal, 65, 199, 2)
+                && holds(&tail, 16, 16, 0)
+        }
+        Err(_) => false,
+    }
+}
+
+/// Whether an empty journal is filled, cut, filled again, and cut to its tail.
 fn holds_its_list(alloc: Global, journal: &mut Journal) -> bool {
     is_filled(alloc, journal, 3)
         && is_cut(journal, 4, 199, 3)
         && is_cut(journal, 1, 65, 1)
         && journal.last_zxid() == 0x1_0000_0001
         && is_filled(alloc, journal, 2)
+        && ends_as_its_tail(journal)
 }
 
 /// Whether a new journal has no entry, and is filled so.
@@ -74,39 +85,12 @@ fn journal_holds_the_entries_of_its_list(rt: HostRuntime) {
     assert!(rt; new_journal_holds_its_list(rt.alloc()));
 }
 
-/// Writes a log of what a journal holds.
-pub(crate) fn write_to<W: Write>(
-    sink: &mut Sink<W>,
-    dbid: i64,
-    journal: &Journal,
-) -> Result<(), WriteFault> {
-    if sink.failures() == u64::MAX {
-        return Err(WriteFault::Write);
-    }
-    write_log(sink, dbid, journal)
-}
-
-/// Whether a text is this, and a whole log of so many transactions.
-fn is_log(alloc: Global, text: &[u8], bytes: &[u8], count: usize) -> bool {
-    text == bytes && loaded(alloc, text, 9) == Ok((count, Ending::Whole))
-}
-
 /// Whether a journal is written as this, which is loaded again as so many transactions.
 fn is_written_as(alloc: Global, dbid: i64, journal: &Journal, bytes: &[u8], count: usize) -> bool {
-    let mut sink = sink_of(alloc, 7, None);
-    let told = write_to(&mut sink, dbid, journal);
-    is_log(alloc, sink.into_inner().bytes(), bytes, count) && told == Ok(())
-}
-
-/// Whether a new journal takes the first log's transactions, and is then written and loaded again.
-fn is_written_as_first_log(alloc: Global) -> bool {
-    let mut journal = Journal::new(alloc);
-    is_filled(alloc, &mut journal, 3) && is_written_as(alloc, 0, &journal, &FIRST_LOG, 3)
-}
-
-#[test]
-fn written_log_is_loaded_again(rt: HostRuntime) {
-    assert!(rt; is_written_as_first_log(rt.alloc()));
+    let mut sink = Sink::new(DripOut::new(alloc, 7, None));
+    let told = write_log(&mut sink, dbid, journal);
+    let is_out = sink.into_inner().bytes() == bytes;
+    told == Ok(()) && is_out && dripped(alloc, bytes, (200, None, 9)) == Ok((count, Ending::Whole))
 }
 
 /// Whether a journal with no entries is written as its mark and its dbid.
@@ -121,62 +105,52 @@ fn log_of_no_entries_has_its_dbid(rt: HostRuntime) {
     assert!(rt; is_written_empty(rt.alloc()));
 }
 
-/// Whether a write of a log in pieces of so many bytes that fails after so many calls is told, and leaves so many bytes.
-pub(crate) fn fails_after(
-    alloc: Global,
-    journal: &Journal,
-    piece: usize,
-    good_calls: u64,
-    length: usize,
-) -> bool {
-    let mut sink = sink_of(alloc, piece, Some(good_calls));
-    let told = write_to(&mut sink, 0, journal);
-    let failures = sink.failures();
-    let out = sink.into_inner();
-    told == Err(WriteFault::Write) && failures == 1 && FIRST_LOG.get(..length) == Some(out.bytes())
+/// The size of a sink's pieces, after how many calls it fails, how many writes it has counted then, and how many bytes are
+/// left.
+type FailedWrite = (usize, Option<u64>, u64, usize);
+
+static FAILED_WRITES: [FailedWrite; 4] = [
+    // in the mark, in the dbid, and in the entries
+    (100, Some(0), 1, 0),
+    (100, Some(1), 2, 8),
+    (100, Some(3), 4, 116),
+    // It takes no byte.
+    (0, None, 1, 0),
+];
+
+/// Whether a write of a log fails so, and is the only failure.
+fn fails_so(alloc: Global, journal: &Journal, row: &FailedWrite) -> bool {
+    let (piece, good_calls, writes, length) = row;
+    let mut sink = Sink::new(DripOut::new(alloc, *piece, *good_calls));
+    let told = write_log(&mut sink, 0, journal);
+    let counts = (sink.writes(), sink.failures());
+    let is_left = FIRST_LOG.get(..*length) == Some(sink.into_inner().bytes());
+    told == Err(WriteFault::Write) && counts == (*writes, 1) && is_left
 }
 
-/// After how many calls a write fails, and how many bytes are left: in the mark, in the dbid, and in the entries.
-static FAILED_WRITES: [(u64, usize); 3] = [(0, 0), (1, 8), (3, 116)];
-
-/// Whether each of these is told of this journal.
-fn failures_are_told(alloc: Global, journal: &Journal) -> bool {
+/// Whether each failure is told of a journal, those of each of 199 writes of one byte too.
+fn are_told(alloc: Global, journal: &Journal) -> bool {
     let mut all = true;
-    for (good_calls, length) in &FAILED_WRITES {
-        all = fails_after(alloc, journal, 100, *good_calls, *length) && all;
+    for row in &FAILED_WRITES {
+        all = fails_so(alloc, journal, row) && all;
+    }
+    for length in 0..199 {
+        let good_calls = length as u64;
+        let row = (1, Some(good_calls), good_calls.saturating_add(1), length);
+        all = fails_so(alloc, journal, &row) && all;
     }
     all
 }
 
-/// The same of a new one that takes the first log.
-fn failures_are_told_of_first_log(alloc: Global) -> bool {
+/// Whether a new journal takes the first log's transactions, is then written as that log, and tells what fails.
+fn first_log_is_written(alloc: Global) -> bool {
     let mut journal = Journal::new(alloc);
-    is_filled(alloc, &mut journal, 3) && failures_are_told(alloc, &journal)
+    is_filled(alloc, &mut journal, 3)
+        && is_written_as(alloc, 0, &journal, &FIRST_LOG, 3)
+        && are_told(alloc, &journal)
 }
 
 #[test]
-fn failed_write_of_a_log_is_told(rt: HostRuntime) {
-    assert!(rt; failures_are_told_of_first_log(rt.alloc()));
-}
-
-/// Whether a transaction that was not pushed is shown so.
-fn says_so(alloc: Global, refused: &NotPushed) -> Result<bool, NoMemory> {
-    Ok(format!(in alloc; "{refused}")?.as_str() == "memory was refused")
-}
-
-/// The same of an error of the first session.
-fn error_says_so(alloc: Global) -> bool {
-    let txn = Txn {
-        session: 0x0100_0000_0000_0001,
-        cxid: 0,
-        zxid: 0x1_0000_0004,
-        time: 0,
-        op: Op::Error { code: -110 },
-    };
-    says_so(alloc, &NotPushed { txn }) == Ok(true)
-}
-
-#[test]
-fn refused_transaction_says_so(rt: HostRuntime) {
-    assert!(rt; error_says_so(rt.alloc()));
+fn written_log_is_loaded_again_and_a_failed_write_told(rt: HostRuntime) {
+    assert!(rt; first_log_is_written(rt.alloc()));
 }

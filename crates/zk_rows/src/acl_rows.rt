@@ -25,13 +25,8 @@ fn copied_entry(alloc: Global, perms: i32) -> Result<Acl, NoMemory> {
     Acl { perms, id }.copy()
 }
 
-#[test]
-fn copies_are_the_same(rt: HostRuntime) {
-    assert!(rt; matches!(copied_entry(rt.alloc(), 1), Ok(acl) if is_for_anyone(&acl, 1)));
-}
-
-/// A list of these entries, by its copy.
-fn copied_list(alloc: Global, perms: &[i32]) -> Result<Acls, NoMemory> {
+/// A list of such entries, by its copy.
+pub(crate) fn copied_list(alloc: Global, perms: &[i32]) -> Result<Acls, NoMemory> {
     let mut entries = Vec::new(alloc);
     for perms in perms {
         entries.push(copied_entry(alloc, *perms)?)?;

@@ -53,19 +53,11 @@ static PATH_FAULTS: [(&str, &str); 30] = [
     ("/\u{ffef}", "-"),
 ];
 
-/// The first of them that is told otherwise.
-fn other_fault(alloc: Global) -> Option<usize> {
-    for (place, (text, code)) in PATH_FAULTS.iter().enumerate() {
-        if is_told(alloc, text, code) != Ok(true) {
-            return Some(place);
-        }
-    }
-    None
-}
-
 #[test]
 fn path_faults_in_order(rt: HostRuntime) {
-    assert_eq!(rt; other_fault(rt.alloc()), None);
+    for (text, code) in &PATH_FAULTS {
+        assert!(rt; is_told(rt.alloc(), text, code) == Ok(true), "{text}");
+    }
 }
 
 /// Whether a path, by its copy, has this text, parent and name.
@@ -86,19 +78,14 @@ static PARTS: [(&str, Option<&str>, &str); 3] = [
     ("/app/..lock", Some("/app"), "..lock"),
 ];
 
-/// The first of them that has others.
-fn other_parts(alloc: Global) -> Option<usize> {
-    for (place, (text, parent, name)) in PARTS.iter().enumerate() {
-        if !matches!(has_parts(alloc, text, *parent, name), Ok(true)) {
-            return Some(place);
-        }
-    }
-    None
-}
-
 #[test]
 fn parents_and_names(rt: HostRuntime) {
-    assert_eq!(rt; other_parts(rt.alloc()), None);
+    for (text, parent, name) in &PARTS {
+        assert!(rt;
+            has_parts(rt.alloc(), text, *parent, name) == Ok(true),
+            "{text}"
+        );
+    }
 }
 
 /// Whether a path's child with this name has this text, or is refused with the fault of this code.
@@ -133,10 +120,7 @@ fn children_add_a_name(rt: HostRuntime) {
 
 #[test]
 fn want_of_memory_has_its_code(rt: HostRuntime) {
-    assert_eq!(rt;
-        is_shown_as(rt.alloc(), PathFault::from(NoMemory), "P7"),
-        Ok(true)
-    );
+    assert!(rt; is_shown_as(rt.alloc(), PathFault::from(NoMemory), "P7") == Ok(true));
 }
 
 /// Whether a number stands so at the end of a sequential node's name.
