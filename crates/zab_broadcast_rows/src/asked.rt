@@ -1,12 +1,14 @@
-//! What calls of histories and servers ask, as tests.
+//! Entries, histories and messages, and what calls of histories and servers ask, as tests.
 
 ghost use Rattle.std.specs.Prelude.{◌≡◌, true};
 ghost use Rattle.zab_epoch.specs.Shortness.{IsShort};
 ghost use Rattle.zab_broadcast.specs.Echoes.{echo_of};
 ghost use Rattle.zab_broadcast.specs.Guards.{EndsBelow};
 
+use std::alloc::Global;
+use std::fmt::Debug;
 use zab_broadcast::{Primary, Server, next_zxid};
-use zab_epoch::{Entry, History};
+use zab_epoch::{Entry, History, Messages};
 use zk_path::NoMemory;
 use zk_records::size;
 use zk_table::{Op, Txn};
@@ -51,4 +53,41 @@ pub(crate) fn push(history: &mut History, entry: Entry) -> Result<(), NoMemory> 
         return history.push(entry);
     }
     Err(NoMemory)
+}
+
+/// Appends entries that change nothing, with these zxids.
+fn push_all(history: &mut History, zxids: &[i64]) -> Result<(), NoMemory> {
+    for zxid in zxids {
+        push(history, entry(0, *zxid))?;
+    }
+    Ok(())
+}
+
+/// A history with these zxids, which rise from above 0.
+pub(crate) fn history_of(alloc: Global, zxids: &[i64]) -> Result<History, NoMemory> {
+    let mut history = History::new(alloc);
+    push_all(&mut history, zxids)?;
+    Ok(history)
+}
+
+/// Whether a history has these zxids.
+pub(crate) fn has_zxids(history: &History, zxids: &[i64]) -> bool {
+    if history.len() != zxids.len() {
+        return false;
+    }
+    for (txn, zxid) in history.entries().txns().iter().zip(zxids) {
+        if txn.zxid != *zxid {
+            return false;
+        }
+    }
+    true
+}
+
+/// Whether messages are shown so.
+pub(crate) fn are_shown<C: Debug + Drop>(
+    alloc: Global,
+    messages: &Messages<C>,
+    shown: &str,
+) -> bool {
+    matches!(format!(in alloc; "{:?}", messages.as_slice()), Ok(text) if text.as_str() == shown)
 }

@@ -26,7 +26,7 @@ fn copied_entry(alloc: Global, perms: i32) -> Result<Acl, NoMemory> {
 }
 
 /// A list of such entries, by its copy.
-pub(crate) fn copied_list(alloc: Global, perms: &[i32]) -> Result<Acls, NoMemory> {
+fn copied_list(alloc: Global, perms: &[i32]) -> Result<Acls, NoMemory> {
     let mut entries = Vec::new(alloc);
     for perms in perms {
         entries.push(copied_entry(alloc, *perms)?)?;

@@ -1,61 +1,26 @@
 //! Rows of `zk_table` and `zk_txn`: the plain table, and other calls that no order of `zk` makes. What each transaction does and
 //! answers is shown in checks/rows/table.rows, by the table that `zk` runs.
 
-use crate::acl_rows::copied_list;
 use std::alloc::Global;
 use std::fmt::Debug;
+use zk_listing::assemble;
 use zk_path::{NoMemory, Path};
-use zk_table::{Content, Op, Plain, ReadCall, Sub, Subs, Txn, TxnResult};
+use zk_table::{Plain, ReadCall, Subs, Txn, TxnResult};
 
-/// The path of a text that is one.
-fn path_of(alloc: Global, text: &str) -> Result<Path, NoMemory> {
-    Path::read(alloc, text).ok().ok_or(NoMemory)
+/// Session 7 makes `/a` with null content, as the servers of 3.3 logged it; a multi sets the content; and the session is opened.
+const TAKEN: &str =
+    "0000000000000001 0000000000000007 0 2000 create0 \"/a\" - 2 31 \"world\" \"anyone\" 1 \"world\" \"anyone\" p\n\
+    0000000000000002 0000000000000007 0 2000 multi ; setData \"/a\" x6869 9\n\
+    0000000000000003 0000000000000007 0 2000 createSession 200\n";
+
+/// The transactions of a listing. This promises nothing, so that a proof holds nothing of what was read.
+fn assembled(alloc: Global) -> Result<Vec<Txn>, NoMemory> {
+    assemble(alloc, TAKEN).ok().ok_or(NoMemory)
 }
 
-/// Makes `/a`, as the servers of 3.3 logged it, with null content: a create that no ensemble copies.
-fn create_old(alloc: Global) -> Result<Op, NoMemory> {
-    let acl = copied_list(alloc, &[31, 1])?;
-    Ok(Op::CreateOld {
-        path: path_of(alloc, "/a")?,
-        content: None,
-        acl,
-        ephemeral: false,
-    })
-}
-
-/// Sets its content.
-fn set_data(alloc: Global) -> Result<Sub, NoMemory> {
-    let content = Some(Content::read(alloc, b"hi")?);
-    Ok(Sub::SetData {
-        path: path_of(alloc, "/a")?,
-        content,
-        version: 9,
-    })
-}
-
-/// The same in a multi.
-fn multi(alloc: Global) -> Result<Op, NoMemory> {
-    let parts = Subs::new(vec![in alloc; set_data(alloc)?]?).into_vec();
-    Ok(Op::Multi {
-        parts: Subs::new(parts),
-    })
-}
-
-/// A transaction of session 7.
-fn txn_of(zxid: i64, op: Op) -> Txn {
-    Txn {
-        session: 7,
-        cxid: 0,
-        zxid,
-        time: 2000,
-        op,
-    }
-}
-
-/// What a table answers to a copy of this, by a copy of the answer.
-fn apply(table: &mut Plain, zxid: i64, op: Op) -> Result<TxnResult, NoMemory> {
-    let txn = txn_of(zxid, op).copy()?;
-    table.apply(&txn)?.copy()
+/// What a table answers, by a copy.
+fn apply(table: &mut Plain, txn: &Txn) -> Result<TxnResult, NoMemory> {
+    table.apply(txn)?.copy()
 }
 
 /// Whether a value is shown so for debugging, field by field.
@@ -94,40 +59,50 @@ fn stands(alloc: Global, table: &Plain, shown: &str) -> bool {
 }
 
 /// Whether a table makes a node.
-fn makes(alloc: Global, table: &mut Plain) -> Result<bool, NoMemory> {
-    let told = apply(table, 1, create_old(alloc)?)?;
+fn makes(alloc: Global, table: &mut Plain, txn: &Txn) -> Result<bool, NoMemory> {
+    let told = apply(table, txn)?;
     Ok(is_shown(alloc, &told, MADE))
 }
 
 /// Whether it sets the node's content.
-fn sets(alloc: Global, table: &mut Plain) -> Result<bool, NoMemory> {
-    let told = apply(table, 2, multi(alloc)?)?;
+fn sets(alloc: Global, table: &mut Plain, txn: &Txn) -> Result<bool, NoMemory> {
+    let told = apply(table, txn)?;
     let err = told.err;
     Ok(is_shown(alloc, &told.parts.into_vec(), SET) && err == 0)
 }
 
-/// Whether it opens a session, and tells no answer.
-fn opens(table: &mut Plain, timeout: i32) -> bool {
-    table.absorb(&txn_of(3, Op::OpenSession { timeout })) == Ok(())
-}
-
 /// Whether a read of the node's content is told it.
-fn reads(alloc: Global, table: &Plain) -> Result<bool, NoMemory> {
-    let path = path_of(alloc, "/a")?;
-    let told = table.read(&ReadCall::GetData { path }, &[]);
-    Ok(is_shown(alloc, &told, READ))
+fn reads(alloc: Global, table: &Plain) -> bool {
+    let Ok(path) = Path::read(alloc, "/a") else {
+        return false;
+    };
+    is_shown(alloc, &table.read(&ReadCall::GetData { path }, &[]), READ)
 }
 
-/// Whether a new table does all this, and stands before and after it as it is to.
-fn goes(alloc: Global, table: &mut Plain) -> Result<bool, NoMemory> {
+/// Whether a new table takes these transactions, the last without an answer, and stands before and after them as it is to.
+fn takes(alloc: Global, table: &mut Plain, txns: &[Txn]) -> Result<bool, NoMemory> {
+    let [make, set, open] = txns else {
+        return Ok(false);
+    };
     Ok(
         stands(alloc, table, NEW)
-            && makes(alloc, table)?
-            && sets(alloc, table)?
-            && opens(table, 200)
+            && makes(alloc, table, make)?
+            && sets(alloc, table, set)?
+            && table.absorb(open) == Ok(())
             && stands(alloc, table, STANDS)
-            && reads(alloc, table)?,
+            && reads(alloc, table),
     )
+}
+
+/// The same of what is assembled.
+fn goes(alloc: Global, table: &mut Plain) -> Result<bool, NoMemory> {
+    let txns = assembled(alloc)?;
+    takes(alloc, table, txns.as_slice())
+}
+
+#[test]
+fn parts_are_given_back(rt: HostRuntime) {
+    assert!(rt; Subs::new(Vec::new(rt.alloc())).into_vec().is_empty());
 }
 
 #[test]
