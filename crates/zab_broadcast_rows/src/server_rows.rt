@@ -1,6 +1,6 @@
 //! Servers that hear what no run brings them, that say what no run shows, and whose primary is refused memory: for a call, after
-//! which they take later ones; and where it begins behind a call of its own term, since it begins once a term, however long its
-//! history is.
+//! which a leader takes later ones; and where it begins behind a call of its own term, since it begins once a term, however long
+//! its history is.
 
 ghost use Rattle.std.specs.Prelude.{refl, pos};
 ghost use Rattle.zab_broadcast.specs.Echoes.{echo_of};
@@ -10,7 +10,7 @@ use crate::asked::{are_shown, ends_below, entry, has_zxids, history_of, is_short
 use std::alloc::Global;
 use zab_broadcast::{EchoCall, Primary, Server};
 use zab_epoch::{
-    Body, Entries, Entry, History, Majority, Message, Messages, Peer, Role, RuleFault, Stable, Vote,
+    Body, Entries, Entry, History, Majority, Message, Messages, RuleFault, Stable, Vote,
 };
 use zk_path::NoMemory;
 
@@ -71,76 +71,63 @@ impl Primary for Refusing {
     ghost closing_tag = { λ tag session now. refl };
 }
 
-/// What a server hears, or is told to do. Who leads is server 1.
+/// What a server hears, or is told to do. Server 1 leads, and a follower hears what is of epoch 1.
 #[derive(Clone, Copy)]
 enum Heard {
     Lead,
     Follow,
     CEpoch(usize, u32),
-    AckEpoch(usize, u32, Vote),
-    /// In epoch 1: to keep the entries up to a zxid, and take others with these.
+    /// A vote in an epoch: a current epoch and a last zxid.
+    AckEpoch(usize, u32, (u32, i64)),
+    /// To keep the entries up to a zxid, and to take others behind them.
     NewLeader(i64, &'static [i64]),
     AckLeader(u32, u64),
     Submit(u64),
-    /// In epoch 1: the second entry, with this zxid.
+    /// The second entry, with this zxid.
     Propose(i64),
 }
 
-/// What it says then, of the entries behind those that it is to keep.
-fn rejoins(
-    alloc: Global,
-    server: &mut Server<Refusing>,
-    keep: i64,
-    rest: &History,
-) -> Result<Messages<EchoCall>, RuleFault> {
+/// What a server says, or why it refuses to.
+type Told = Result<Messages<EchoCall>, RuleFault>;
+
+/// What it says of entries that it is to take.
+fn joins(alloc: Global, server: &mut Server<Refusing>, keep: i64, rest: &History) -> Told {
     Ok(server.new_leader(alloc, 1, 1, keep, rest)?)
 }
 
-/// What it says then, of a call.
-fn submits(
-    alloc: Global,
-    quorums: &Majority,
-    server: &mut Server<Refusing>,
-    tag: u64,
-) -> Result<Messages<EchoCall>, RuleFault> {
+/// What it says of a call.
+fn submits(alloc: Global, server: &mut Server<Refusing>, quorums: &Majority, tag: u64) -> Told {
     if !ends_below(server) {
         return Err(RuleFault::EpochFull);
     }
     server.submit(alloc, quorums, EchoCall { tag })
 }
 
-/// What it says then, of an entry that is proposed.
-fn accepts(
-    alloc: Global,
-    server: &mut Server<Refusing>,
-    entry: &Entry,
-) -> Result<Messages<EchoCall>, RuleFault> {
+/// What it says of an entry that is proposed.
+fn accepts(alloc: Global, server: &mut Server<Refusing>, entry: &Entry) -> Told {
     if !is_short(entry) {
         return Err(RuleFault::EpochFull);
     }
     Ok(server.propose(alloc, 1, 1, 2, entry)?)
 }
 
-/// What it says then, or why it says nothing.
-fn told(
-    alloc: Global,
-    server: &mut Server<Refusing>,
-    heard: Heard,
-) -> Result<Messages<EchoCall>, RuleFault> {
+/// What it says of what it hears.
+fn told(alloc: Global, server: &mut Server<Refusing>, heard: Heard) -> Told {
     let servers = server.state().peer.servers;
     let quorums = Majority { servers };
     match heard {
         Heard::Lead => Ok(server.lead(alloc)?),
         Heard::Follow => Ok(server.follow(alloc, 1)?),
         Heard::CEpoch(from, promised) => server.c_epoch(alloc, &quorums, from, promised),
-        Heard::AckEpoch(from, epoch, said) => {
+        Heard::AckEpoch(from, epoch, (current, last)) => {
+            let said = Vote { current, last };
             Ok(server.ack_epoch(alloc, &quorums, from, epoch, true, said)?)
         }
-        Heard::NewLeader(keep, zxids) => rejoins(alloc, server, keep, &history_of(alloc, zxids)?),
+        Heard::NewLeader(keep, zxids) => joins(alloc, server, keep, &history_of(alloc, zxids)?),
         Heard::AckLeader(epoch, length) => {
             Ok(server.ack_leader(alloc, &quorums, 1, epoch, length)?)
         }
-        Heard::Submit(tag) => submits(alloc, &quorums, server, tag),
+        Heard::Submit(tag) => submits(alloc, server, &quorums, tag),
         Heard::Propose(zxid) => accepts(alloc, server, &entry(2, zxid)),
     }
 }
@@ -150,13 +137,13 @@ fn told(
 enum Said {
     /// Messages, as they are shown for debugging.
     Shown(&'static str),
-    /// A NewLeader of epoch 1 to server 3: to keep the entries up to a zxid, and take others with these.
+    /// A NewLeader of epoch 1 to server 3: to keep the entries up to a zxid, and to take others behind them.
     Suffix(i64, &'static [i64]),
     Refused(RuleFault),
 }
 
 /// Whether messages tell server 3 this, and nothing else.
-fn have_suffix(messages: &[Message<EchoCall>], expected: i64, zxids: &[i64]) -> bool {
+fn are_suffix(messages: &[Message<EchoCall>], expected: i64, zxids: &[i64]) -> bool {
     let [message] = messages else {
         return false;
     };
@@ -168,44 +155,47 @@ fn have_suffix(messages: &[Message<EchoCall>], expected: i64, zxids: &[i64]) -> 
     }
 }
 
-/// Whether it says this.
-fn is_said(alloc: Global, told: &Result<Messages<EchoCall>, RuleFault>, said: Said) -> bool {
+/// Whether this is said.
+fn is_said(alloc: Global, told: &Told, said: Said) -> bool {
     match (told, said) {
         (Ok(messages), Said::Shown(shown)) => are_shown(alloc, messages, shown),
-        (Ok(messages), Said::Suffix(keep, zxids)) => have_suffix(messages.as_slice(), keep, zxids),
+        (Ok(messages), Said::Suffix(keep, zxids)) => are_suffix(messages.as_slice(), keep, zxids),
         (Err(fault), Said::Refused(expected)) => *fault == expected,
         _ => false,
     }
 }
 
-/// What a server has: its current epoch, its zxids, and how many entries it has delivered.
-type Has = (u32, &'static [i64], usize);
+/// What a server is to have in the end: its current epoch, its zxids, how many entries it has delivered, and its role, as that is
+/// shown for debugging.
+type End = (u32, &'static [i64], usize, &'static str);
 
-/// What a server hears, what it says, and what it has then.
-type Row = (Heard, Said, Has);
-
-/// The place of the first row after which a server does otherwise; none where it does all as it is to.
-fn wrong_row(alloc: Global, server: &mut Server<Refusing>, rows: &[Row]) -> Option<usize> {
-    for (place, (heard, said, (current, zxids, delivered))) in rows.iter().enumerate() {
-        if !is_said(alloc, &told(alloc, server, *heard), *said) {
-            return Some(place);
-        }
-        let stable = &server.state().peer.stable;
-        if stable.current != *current || !has_zxids(&stable.history, zxids) {
-            return Some(place);
-        }
-        if server.delivered().len() != *delivered {
-            return Some(place);
-        }
-    }
-    None
+/// Whether it has this.
+fn has(alloc: Global, server: &Server<Refusing>, (current, zxids, delivered, role): End) -> bool {
+    let peer = &server.state().peer;
+    peer.stable.current == current
+        && has_zxids(&peer.stable.history, zxids)
+        && server.delivered().len() == delivered
+        && matches!(format!(in alloc; "{:?}", peer.role), Ok(text) if text.as_str() == role)
 }
 
-/// A server that starts: of so many servers, its number, its promise, its current epoch, and its zxids.
+/// What a server hears, and is to say.
+type Row = (Heard, Said);
+
+/// Whether a server says all this, and has that in the end.
+fn does(alloc: Global, server: &mut Server<Refusing>, rows: &[Row], end: End) -> bool {
+    for (heard, said) in rows {
+        if !is_said(alloc, &told(alloc, server, *heard), *said) {
+            return false;
+        }
+    }
+    has(alloc, server, end)
+}
+
+/// A server that starts: of how many it is one, its number, its promise, its current epoch, and its zxids.
 type Start = (usize, usize, u32, u32, &'static [i64]);
 
-/// The place of the first row after which such a server does otherwise.
-fn play(alloc: Global, start: Start, rows: &[Row]) -> Result<Option<usize>, NoMemory> {
+/// The same of one that starts so.
+fn plays(alloc: Global, start: Start, rows: &[Row], end: End) -> Result<bool, NoMemory> {
     let (servers, me, promised, current, zxids) = start;
     let history = history_of(alloc, zxids)?;
     let stable = Stable {
@@ -214,5 +204,149 @@ fn play(alloc: Global, start: Start, rows: &[Row]) -> Result<Option<usize>, NoMe
         history,
     };
     let mut server = Server::restored(alloc, servers, me, stable);
-    Ok(wrong_row(alloc, &mut server, rows))
+    Ok(does(alloc, &mut server, rows, end))
+}
+
+const SILENT: Said = Said::Shown("[]");
+
+const FOLLOWS: Row = (
+    Heard::Follow,
+    Said::Shown("[Message { sender: 2, addressee: 1, body: CEpoch { promised: 1 } }]"),
+);
+
+const CHOOSES: Said = Said::Shown(
+    "[Message { sender: 1, addressee: 2, body: NewEpoch { epoch: 1 } }]",
+);
+
+const HAS_ONE: Said = Said::Shown(
+    "[Message { sender: 2, addressee: 1, body: AckLeader { epoch: 1, length: 1 } }]",
+);
+
+const HAS_THREE: Said = Said::Shown(
+    "[Message { sender: 2, addressee: 1, body: AckLeader { epoch: 1, length: 3 } }]",
+);
+
+const TAKES_TWO: Said = Said::Shown(
+    "[Message { sender: 2, addressee: 1, body: Ack { epoch: 1, length: 2 } }]",
+);
+
+const JOINING: &str = "Following { leader: 1, synced: false }";
+
+const SYNCED: &str = "Following { leader: 1, synced: true }";
+
+/// Server 2, with zxids 1, 3 and 4 of epoch 0, has promised epoch 1.
+const OLD: Start = (3, 2, 1, 0, &[1, 3, 4]);
+
+/// What it is told to keep, and the zxids of the rest; what it says, and what it has then.
+static JOINS: [(i64, &[i64], Said, End); 10] = [
+    (0, &[2], HAS_ONE, (1, &[2], 0, SYNCED)),
+    (1, &[], HAS_ONE, (1, &[1], 0, SYNCED)),
+    (1, &[5, 6], HAS_THREE, (1, &[1, 5, 6], 0, SYNCED)),
+    (3, &[5], HAS_THREE, (1, &[1, 3, 5], 0, SYNCED)),
+    (4, &[], HAS_THREE, (1, &[1, 3, 4], 0, SYNCED)),
+    // a_follower_ignores_what_does_not_fit: it has no entry with the zxid that it is to keep,
+    (2, &[5], SILENT, (0, &[1, 3, 4], 0, JOINING)),
+    (5, &[6], SILENT, (0, &[1, 3, 4], 0, JOINING)),
+    (2, &[], SILENT, (0, &[1, 3, 4], 0, JOINING)),
+    // or the rest does not begin above that
+    (3, &[3], SILENT, (0, &[1, 3, 4], 0, JOINING)),
+    (4, &[2, 5], SILENT, (0, &[1, 3, 4], 0, JOINING)),
+];
+
+#[test]
+fn a_follower_cuts_to_what_it_keeps(rt: HostRuntime) {
+    for (keep, rest, said, end) in &JOINS {
+        let rows = [FOLLOWS, (Heard::NewLeader(*keep, rest), *said)];
+        assert_eq!(rt; plays(rt.alloc(), OLD, &rows, *end), Ok(true), "{keep}");
+    }
+}
+
+/// Server 1, with zxids 5 and 7 of epoch 0, has promised none.
+const LONGER: Start = (3, 1, 0, 0, &[5, 7]);
+
+/// The last zxid that server 3 tells, once server 1 leads and has heard server 2, and what it is told.
+static SUFFIXES: [(i64, Said); 5] = [
+    (0, Said::Suffix(0, &[5, 7])),
+    (4, Said::Suffix(0, &[5, 7])),
+    (5, Said::Suffix(5, &[7])),
+    (6, Said::Suffix(5, &[7])),
+    (7, Said::Suffix(7, &[])),
+];
+
+#[test]
+fn a_leader_tells_what_a_joiner_lacks(rt: HostRuntime) {
+    for (last, said) in &SUFFIXES {
+        let rows = [
+            (Heard::Lead, SILENT),
+            (Heard::CEpoch(2, 0), CHOOSES),
+            (Heard::AckEpoch(3, 1, (0, *last)), *said),
+        ];
+        let end = (1, LONGER.4, 0, "Sync");
+        assert_eq!(rt; plays(rt.alloc(), LONGER, &rows, end), Ok(true), "{last}");
+    }
+}
+
+/// The first zxids of epochs 1 and 2.
+const A: i64 = 0x1_0000_0001;
+
+const D: i64 = 0x2_0000_0001;
+
+/// How servers start, what they hear and are to say, and what they are to have in the end.
+static PLAYS: [(Start, &[Row], End); 4] = [
+    // the_greatest_promise_is_the_last: a leader is refused an epoch behind it, and leads no more
+    (
+        (3, 1, 2_147_483_647, 0, &[]),
+        &[
+            (Heard::Lead, SILENT),
+            (Heard::CEpoch(2, 0), Said::Refused(RuleFault::EpochFull)),
+        ],
+        (0, &[], 0, "Looking"),
+    ),
+    // a_proposal_is_taken_above_the_last_zxid, and is ignored where its zxid is not above that
+    (
+        (3, 2, 1, 1, &[A]),
+        &[
+            FOLLOWS,
+            (Heard::NewLeader(A, &[]), HAS_ONE),
+            (Heard::Propose(A), SILENT),
+            (Heard::Propose(A - 1), SILENT),
+            (Heard::Propose(0), SILENT),
+            (Heard::Propose(A + 1), TAKES_TWO),
+        ],
+        (1, &[A, A + 1], 0, SYNCED),
+    ),
+    // a_call_after_one_that_was_refused_memory, at a leader that is alone
+    (
+        (1, 1, 0, 0, &[]),
+        &[
+            (Heard::Lead, SILENT),
+            (Heard::CEpoch(1, 0), SILENT),
+            (Heard::AckEpoch(1, 1, (0, 0)), SILENT),
+            (Heard::AckLeader(1, 0), SILENT),
+            (Heard::Submit(13), Said::Refused(RuleFault::NoMemory)),
+            (Heard::Submit(1), SILENT),
+        ],
+        (1, &[A], 1, "Broadcast"),
+    ),
+    // a_primary_is_begun_once_a_term, at a leader that is alone, behind three entries of the term before
+    (
+        (1, 1, 1, 1, &[A, A + 1, A + 2]),
+        &[
+            (Heard::Lead, SILENT),
+            (Heard::CEpoch(1, 1), SILENT),
+            (Heard::AckEpoch(1, 2, (1, A + 2)), SILENT),
+            (Heard::AckLeader(2, 3), SILENT),
+            (Heard::Submit(FIRST), SILENT),
+            (Heard::Submit(FIRST + 1), SILENT),
+            (Heard::Submit(FIRST + 2), SILENT),
+        ],
+        (2, &[A, A + 1, A + 2, D, D + 1, D + 2], 6, "Broadcast"),
+    ),
+];
+
+#[test]
+fn servers_hear_what_no_run_brings(rt: HostRuntime) {
+    for (number, (start, rows, end)) in PLAYS.iter().enumerate() {
+        assert_eq!(rt; plays(rt.alloc(), *start, rows, *end), Ok(true), "{number}");
+    }
 }
