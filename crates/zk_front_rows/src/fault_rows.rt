@@ -12,6 +12,7 @@ use zk_path::NoMemory;
 use zk_reports::{ScriptFault, script_line};
 use zk_run_script::push_told;
 use zk_runs::EnsembleFault;
+use zk_serving::FrontFault;
 
 /// Faults without a place: the orders know these lines, and make none.
 static LOG_FAULTS: [LogFault; 4] = [
@@ -68,6 +69,13 @@ static DEBUG_FAULTS: [(DebugFault, &str); 6] = [
     (DebugFault::Full, "B6"),
 ];
 
+static FRONT_FAULTS: [(FrontFault, &str); 4] = [
+    (FrontFault::Read, "F1"),
+    (FrontFault::Write, "F2"),
+    (FrontFault::Endless, "F3"),
+    (FrontFault::NoMemory, "F4"),
+];
+
 /// Each fault of a world, and that of an ensemble that comes of it.
 static WORLD_FAULTS: [(WorldFault, &str, &str); 9] = [
     (WorldFault::NoServer, "Z1", "E2"),
@@ -102,6 +110,9 @@ fn refusals_have_texts(rt: HostRuntime) {
         assert!(rt; is_shown(alloc, fault, text), "{text}");
     }
     for (fault, text) in &DEBUG_FAULTS {
+        assert!(rt; is_shown(alloc, fault, text), "{text}");
+    }
+    for (fault, text) in &FRONT_FAULTS {
         assert!(rt; is_shown(alloc, fault, text), "{text}");
     }
     for (fault, text, line) in &WORLD_FAULTS {

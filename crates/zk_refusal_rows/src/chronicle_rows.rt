@@ -2,8 +2,9 @@
 
 use crate::events::{FIRST, Happening, event_of, is_told};
 use std::alloc::Global;
+use zk_path::NoMemory;
 use zk_runs::Event;
-use zk_servers::{CallFault, Chronicle};
+use zk_servers::{CallFault, Chronicle, CloseFault};
 
 /// A session is opened by two of three servers, and then events are refused, reads are told, and a server goes down. Each with
 /// its number, its answer and the last transaction of its server.
@@ -100,13 +101,15 @@ fn each_event_is_recorded_with_its_answer(rt: HostRuntime) {
     assert!(rt; are_recorded_from_the_start(rt.alloc()));
 }
 
-/// Whether the two refusals that no test leads to have their numbers.
-fn are_numbered(alloc: Global) -> bool {
+/// The texts of refusals of calls, and of closing.
+fn refusals(alloc: Global) -> Result<String, NoMemory> {
     let (memory, full) = (CallFault::NoMemory, CallFault::Full);
-    matches!(format!(in alloc; "{memory} {full}"), Ok(text) if text.as_str() == "S1 S2")
+    let (count, receipt) = (CloseFault::Count, CloseFault::Receipt(7));
+    let unclosed = CloseFault::NoMemory;
+    Ok(format!(in alloc; "{memory} {full}, {count} {receipt} {unclosed}")?)
 }
 
 #[test]
 fn refusals_have_numbers(rt: HostRuntime) {
-    assert!(rt; are_numbered(rt.alloc()));
+    assert!(rt; matches!(refusals(rt.alloc()), Ok(text) if text.as_str() == "S1 S2, C1 C2 7 C3"));
 }
