@@ -15,10 +15,19 @@ use zk_path::NoMemory;
 ///
 /// Each rule answers the messages to send. Where memory is refused, the server is as it was: the primary may be gone then,
 /// which no value shows, and a leader's next call begins another.
-#[derive(Drop)]
 pub struct Server<P: Primary> {
     state: State,
     primary: Option<P>,
+}
+
+// (by hand, and so proved once: a derived one is proved wherever a value may be dropped)
+impl<P: Primary + Drop> Drop for Server<P> {
+    fn drop(self) {
+        let Server {
+            state: _,
+            primary: _,
+        } = self;
+    }
 }
 
 /// A server is seen as its state. Its primary, if it has one, stands for its history.

@@ -52,12 +52,12 @@ fn push_told<E>(text: &mut String, reply: &Result<ReadReply, E>) -> bool {
 
 /// A copy of a reply, whose names are taken apart and put together again.
 fn copied(reply: &ReadReply) -> Result<ReadReply, NoMemory> {
-    match reply.copy()? {
+    match reply {
         ReadReply::Children { names, stat } => {
-            let names = Names::new(names.into_vec());
-            Ok(ReadReply::Children { names, stat })
+            let names = Names::new(names.copy()?.into_vec());
+            Ok(ReadReply::Children { names, stat: *stat })
         }
-        copy => Ok(copy),
+        other => other.copy(),
     }
 }
 

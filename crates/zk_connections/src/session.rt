@@ -14,7 +14,7 @@ use zk_txn::ReadCall;
 use zk_txn::codes::BAD_ARGUMENTS;
 
 /// A session that a connection has opened.
-#[derive(Debug, Drop)]
+#[derive(Debug)]
 pub struct Session {
     /// The transaction that opened it.
     id: i64,
@@ -24,6 +24,18 @@ pub struct Session {
     cxid: i32,
     /// The parts of the multi that is open.
     parts: Option<Gathered>,
+}
+
+// (by hand, and so proved once: a derived one is proved wherever a value may be dropped)
+impl Drop for Session {
+    fn drop(self) {
+        let Session {
+            id: _,
+            auths: _,
+            cxid: _,
+            parts: _,
+        } = self;
+    }
 }
 
 impl Session {

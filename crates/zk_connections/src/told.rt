@@ -49,10 +49,20 @@ pub enum Reply {
 }
 
 /// What the service tells: the events of the session that it was not told before, and the answer.
-#[derive(Debug, Drop)]
+#[derive(Debug)]
 pub struct Told {
     pub events: Events,
     pub reply: Reply,
+}
+
+// (by hand, and so proved once: a derived one is proved wherever a value may be dropped)
+impl Drop for Told {
+    fn drop(self) {
+        let Told {
+            events: _,
+            reply: _,
+        } = self;
+    }
 }
 
 /// Why an ask is told nothing.

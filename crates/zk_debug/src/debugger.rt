@@ -25,10 +25,19 @@ const MOST_BREAKPOINTS: u32 = 65_535;
 /// A debugger that is refused memory in a move or in [`Debugger::reset`] has failed: until a reset succeeds, moves,
 /// [`Debugger::tree`], [`Debugger::node`] and [`Debugger::last_result`] answer [`DebugFault::Failed`], and the place is
 /// that before the refused call.
-#[derive(Drop)]
 pub struct Debugger {
     walk: Walk,
     breakpoints: Breakpoints,
+}
+
+// (by hand, and so proved once: a derived one is proved wherever a value may be dropped)
+impl Drop for Debugger {
+    fn drop(self) {
+        let Debugger {
+            walk: _,
+            breakpoints: _,
+        } = self;
+    }
 }
 
 impl Model for Debugger {

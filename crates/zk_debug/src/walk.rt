@@ -11,7 +11,6 @@ use zk_txn::Txn;
 
 /// A log, a place in it, and a machine that stands there. What each step answered, what it changed and how it is taken
 /// back is kept, so that a step back costs what the step cost.
-#[derive(Drop)]
 pub(crate) struct Walk {
     alloc: Global,
     txns: Txns,
@@ -19,6 +18,20 @@ pub(crate) struct Walk {
     failed: bool,
     machine: Machine,
     steps: Vec<Applied>,
+}
+
+// (by hand, and so proved once: a derived one is proved wherever a value may be dropped)
+impl Drop for Walk {
+    fn drop(self) {
+        let Walk {
+            alloc: _,
+            txns: _,
+            place: _,
+            failed: _,
+            machine: _,
+            steps: _,
+        } = self;
+    }
 }
 
 impl Model for Walk {

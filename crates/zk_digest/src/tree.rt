@@ -16,11 +16,21 @@ use zk_table::Node;
 use zk_tree::Tree;
 
 /// The digest of a tree: the sum that a server from 3.6 on claims behind a transaction, read as unsigned.
-#[derive(Drop)]
 pub struct TreeDigest {
     alloc: Global,
     sum: u64,
     owners: Owners,
+}
+
+// (by hand, and so proved once: a derived one is proved wherever a value may be dropped)
+impl Drop for TreeDigest {
+    fn drop(self) {
+        let TreeDigest {
+            alloc: _,
+            sum: _,
+            owners: _,
+        } = self;
+    }
 }
 
 impl TreeDigest {

@@ -23,13 +23,24 @@ use zk_watch::Fired;
 ///
 /// An ensemble is always that of a run: a list of events from a new ensemble on. Memory that is refused leaves it as it was, or
 /// makes the event the crash of its server.
-#[derive(Drop)]
 pub struct Ensemble {
     alloc: Global,
     world: World<Preparer, Weighted>,
     replicas: Vec<Replica>,
     /// What each server had delivered before it crashed, while it has delivered nothing since.
     kept: Vec<Option<Kept>>,
+}
+
+// (by hand, and so proved once: a derived one is proved wherever a value may be dropped)
+impl Drop for Ensemble {
+    fn drop(self) {
+        let Ensemble {
+            alloc: _,
+            world: _,
+            replicas: _,
+            kept: _,
+        } = self;
+    }
 }
 
 impl Model for Ensemble {

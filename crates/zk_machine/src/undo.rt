@@ -10,12 +10,24 @@ use zk_table::Node;
 
 /// What a transaction had touched: the data by which the machine that applied it takes it back, as long as it is the
 /// last one. Dropped, its transaction can't be taken back any more.
-#[derive(Debug, Drop)]
+#[derive(Debug)]
 pub struct Undo {
     pub(crate) step: u64,
     pub(crate) last: i64,
     pub(crate) session: Option<(u64, Option<i32>)>,
     pub(crate) touched: Touched,
+}
+
+// (by hand, and so proved once: a derived one is proved wherever a value may be dropped)
+impl Drop for Undo {
+    fn drop(self) {
+        let Undo {
+            step: _,
+            last: _,
+            session: _,
+            touched: _,
+        } = self;
+    }
 }
 
 impl Model for Undo {

@@ -17,11 +17,21 @@ use zk_table::Txn;
 /// is kept is a machine that runs ahead of the committed one by the whole tail, so that a call costs what it touches.
 ///
 /// One that was refused memory in [`Prep::taken`] has failed for good: of its calls only [`Prep::has_failed`] may be made.
-#[derive(Drop)]
 pub struct Prep {
     alloc: Global,
     ahead: Machine,
     failed: bool,
+}
+
+// (by hand, and so proved once: a derived one is proved wherever a value may be dropped)
+impl Drop for Prep {
+    fn drop(self) {
+        let Prep {
+            alloc: _,
+            ahead: _,
+            failed: _,
+        } = self;
+    }
 }
 
 impl Model for Prep {

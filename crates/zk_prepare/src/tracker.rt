@@ -12,9 +12,16 @@ use zk_path::NoMemory;
 /// The deadlines of sessions, in milliseconds: a list in the order of the sessions' sixteen digits.
 ///
 /// ZooKeeper Programmer's Guide, "ZooKeeper Sessions".
-#[derive(Debug, Drop)]
+#[derive(Debug)]
 pub struct Tracker {
     entries: Vec<(u64, i64)>,
+}
+
+// (by hand, and so proved once: a derived one is proved wherever a value may be dropped)
+impl Drop for Tracker {
+    fn drop(self) {
+        let Tracker { entries: _ } = self;
+    }
 }
 
 impl Model for Tracker {

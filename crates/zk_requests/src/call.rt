@@ -10,7 +10,7 @@ use zk_table::Content;
 /// What a client asks of the leader. A version of -1 matches any; flags are 0 plain, 1 ephemeral, 2 sequential, 3 both.
 ///
 /// ZooKeeper Programmer's Guide, "ZNodes", "Ephemeral Nodes" and "Sequence Nodes".
-#[derive(Debug, Drop)]
+#[derive(Debug)]
 pub enum Request {
     /// Makes a node. The path of a sequential one goes on with the number of its parent's creates.
     Create {
@@ -48,8 +48,39 @@ pub enum Request {
     CloseSession,
 }
 
+// (by hand, and so proved once: a derived one is proved wherever a value may be dropped)
+impl Drop for Request {
+    fn drop(self) {
+        match self {
+            Request::Create {
+                path: _,
+                content: _,
+                acl: _,
+                flags: _,
+            } => (),
+            Request::Delete {
+                path: _,
+                version: _,
+            } => (),
+            Request::SetData {
+                path: _,
+                content: _,
+                version: _,
+            } => (),
+            Request::SetAcl {
+                path: _,
+                acl: _,
+                version: _,
+            } => (),
+            Request::Multi { parts: _ } => (),
+            Request::OpenSession { timeout: _ } => (),
+            Request::CloseSession => (),
+        }
+    }
+}
+
 /// A part of a multi, as it is asked for. The fields are those of [`Request`].
-#[derive(Debug, Drop)]
+#[derive(Debug)]
 pub enum Part {
     Create {
         path: Text,
@@ -71,6 +102,33 @@ pub enum Part {
         path: Text,
         version: i32,
     },
+}
+
+// (by hand, and so proved once: a derived one is proved wherever a value may be dropped)
+impl Drop for Part {
+    fn drop(self) {
+        match self {
+            Part::Create {
+                path: _,
+                content: _,
+                acl: _,
+                flags: _,
+            } => (),
+            Part::Delete {
+                path: _,
+                version: _,
+            } => (),
+            Part::SetData {
+                path: _,
+                content: _,
+                version: _,
+            } => (),
+            Part::Check {
+                path: _,
+                version: _,
+            } => (),
+        }
+    }
 }
 
 /// The parts of a multi, seen as their list.
@@ -116,7 +174,7 @@ impl Parts {
 }
 
 /// A request, and who asks.
-#[derive(Debug, Drop)]
+#[derive(Debug)]
 pub struct Call {
     /// By which the call is told from every other.
     pub tag: u64,
@@ -129,6 +187,20 @@ pub struct Call {
     /// Milliseconds.
     pub now: i64,
     pub request: Request,
+}
+
+// (by hand, and so proved once: a derived one is proved wherever a value may be dropped)
+impl Drop for Call {
+    fn drop(self) {
+        let Call {
+            tag: _,
+            session: _,
+            cxid: _,
+            auths: _,
+            now: _,
+            request: _,
+        } = self;
+    }
 }
 
 /// The call that closes a session whose deadline has come. It takes no memory.

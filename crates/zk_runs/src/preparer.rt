@@ -12,9 +12,15 @@ use zk_prepare::{Call, Prep, closing_call};
 
 /// The primary of an ensemble. A call becomes an entry with its tag, and with the transaction that it comes to on the tree
 /// of the whole history, whether or not that is delivered yet.
-#[derive(Drop)]
 pub struct Preparer {
     prep: Prep,
+}
+
+// (by hand, and so proved once: a derived one is proved wherever a value may be dropped)
+impl Drop for Preparer {
+    fn drop(self) {
+        let Preparer { prep: _ } = self;
+    }
 }
 
 impl Primary for Preparer {

@@ -151,7 +151,7 @@ fn ask_one(
 ) -> Result<Result<(i64, bool), ViewFault>, NoMemory> {
     let path = Path::read(alloc, "/q").ok().ok_or(NoMemory)?;
     match reader.read(pass, &ReadCall::Exists { path }, &[]) {
-        Ok(seen) => Ok(Ok((seen.zxid, matches!(seen.reply, ReadReply::Found(_))))),
+        Ok(seen) => Ok(Ok((seen.zxid, matches!(&seen.reply, ReadReply::Found(_))))),
         Err(fault) => Ok(Err(fault)),
     }
 }

@@ -17,12 +17,24 @@ const PAGE: usize = 65_536;
 
 /// Where a connection is: how it stands, the line that has not ended, the answers that are not written, and how many lines
 /// were answered.
-#[derive(Debug, Drop)]
+#[derive(Debug)]
 pub(crate) struct Connection {
     pub standing: Standing,
     pub pending: Pending,
     pub page: String,
     pub lines: u64,
+}
+
+// (by hand, and so proved once: a derived one is proved wherever a value may be dropped)
+impl Drop for Connection {
+    fn drop(self) {
+        let Connection {
+            standing: _,
+            pending: _,
+            page: _,
+            lines: _,
+        } = self;
+    }
 }
 
 impl Connection {

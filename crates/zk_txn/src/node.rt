@@ -16,7 +16,7 @@ use zk_path::NoMemory;
 /// A node of the tree, without its children. Times are milliseconds.
 ///
 /// ZooKeeper Programmer's Guide, "ZNodes" and "ZooKeeper Stat Structure".
-#[derive(Debug, Drop)]
+#[derive(Debug)]
 pub struct Node {
     /// What the node holds; null content is none.
     pub content: Option<Content>,
@@ -37,6 +37,25 @@ pub struct Node {
     pub aversion: i32,
     /// The session that owns the node, and 0 for a persistent one.
     pub owner: i64,
+}
+
+// (by hand, and so proved once: a derived one is proved wherever a value may be dropped)
+impl Drop for Node {
+    fn drop(self) {
+        let Node {
+            content: _,
+            acl: _,
+            czxid: _,
+            mzxid: _,
+            pzxid: _,
+            ctime: _,
+            mtime: _,
+            version: _,
+            creates: _,
+            aversion: _,
+            owner: _,
+        } = self;
+    }
 }
 
 impl Node {

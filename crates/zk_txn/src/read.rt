@@ -10,7 +10,7 @@ use zk_path::{NoMemory, Path};
 /// What is asked of a tree without changing it.
 ///
 /// ZooKeeper Programmer's Guide, "Data Access".
-#[derive(Debug, Drop)]
+#[derive(Debug)]
 pub enum ReadCall {
     /// A node's content.
     GetData { path: Path },
@@ -20,6 +20,18 @@ pub enum ReadCall {
     GetChildren { path: Path },
     /// A node's access control list.
     GetAcl { path: Path },
+}
+
+// (by hand, and so proved once: a derived one is proved wherever a value may be dropped)
+impl Drop for ReadCall {
+    fn drop(self) {
+        match self {
+            ReadCall::GetData { path: _ } => (),
+            ReadCall::Exists { path: _ } => (),
+            ReadCall::GetChildren { path: _ } => (),
+            ReadCall::GetAcl { path: _ } => (),
+        }
+    }
 }
 
 impl ReadCall {
@@ -52,7 +64,7 @@ impl ReadCall {
 /// What a read is told: each answer with the node's stat.
 ///
 /// ZooKeeper Programmer's Guide, "Data Access" and "ZooKeeper Stat Structure".
-#[derive(Debug, Drop)]
+#[derive(Debug)]
 pub enum ReadReply {
     /// What the node holds; null content is none.
     Content {
@@ -73,6 +85,22 @@ pub enum ReadReply {
     },
     /// The code of a refusal.
     Refused(i32),
+}
+
+// (by hand, and so proved once: a derived one is proved wherever a value may be dropped)
+impl Drop for ReadReply {
+    fn drop(self) {
+        match self {
+            ReadReply::Content {
+                content: _,
+                stat: _,
+            } => (),
+            ReadReply::Found(_) => (),
+            ReadReply::Children { names: _, stat: _ } => (),
+            ReadReply::AclIs { acl: _, stat: _ } => (),
+            ReadReply::Refused(_) => (),
+        }
+    }
 }
 
 impl ReadReply {

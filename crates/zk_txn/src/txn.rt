@@ -35,7 +35,7 @@ impl Txn {
 /// What a transaction does.
 ///
 /// `zookeeper.jute`, module `org.apache.zookeeper.txn`.
-#[derive(Debug, Drop)]
+#[derive(Debug)]
 pub enum Op {
     /// Makes a node. `count` is what the parent's count of creates becomes; -1 counts one more.
     Create {
@@ -84,6 +84,42 @@ pub enum Op {
     Error {
         code: i32,
     },
+}
+
+// (by hand, and so proved once: a derived one is proved wherever a value may be dropped)
+impl Drop for Op {
+    fn drop(self) {
+        match self {
+            Op::Create {
+                path: _,
+                content: _,
+                acl: _,
+                ephemeral: _,
+                count: _,
+            } => (),
+            Op::CreateOld {
+                path: _,
+                content: _,
+                acl: _,
+                ephemeral: _,
+            } => (),
+            Op::Delete { path: _ } => (),
+            Op::SetData {
+                path: _,
+                content: _,
+                version: _,
+            } => (),
+            Op::SetAcl {
+                path: _,
+                acl: _,
+                version: _,
+            } => (),
+            Op::OpenSession { timeout: _ } => (),
+            Op::CloseSession => (),
+            Op::Multi { parts: _ } => (),
+            Op::Error { code: _ } => (),
+        }
+    }
 }
 
 impl Op {

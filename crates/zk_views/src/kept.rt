@@ -10,10 +10,19 @@ use zk_path::NoMemory;
 use zk_txn::Txn;
 
 /// The view of a server, and whether it is late: whether memory was refused to the last try to publish.
-#[derive(Drop)]
 pub struct Kept {
     publisher: ManuallyDrop<Publisher>,
     late: bool,
+}
+
+// (by hand, and so proved once: a derived one is proved wherever a value may be dropped)
+impl Drop for Kept {
+    fn drop(self) {
+        let Kept {
+            publisher: _,
+            late: _,
+        } = self;
+    }
 }
 
 impl Kept {
