@@ -52,13 +52,12 @@ fn push_told<E>(text: &mut String, reply: &Result<ReadReply, E>) -> bool {
 
 /// A copy of a reply, whose names are taken apart and put together again.
 fn copied(reply: &ReadReply) -> Result<ReadReply, NoMemory> {
-    match reply {
-        ReadReply::Children { names, stat } => {
-            let names = Names::new(names.copy()?.into_vec());
-            Ok(ReadReply::Children { names, stat: *stat })
-        }
-        other => other.copy(),
+    let copy = reply.copy()?;
+    if let ReadReply::Children { names, stat } = &copy {
+        let names = Names::new(names.copy()?.into_vec());
+        return Ok(ReadReply::Children { names, stat: *stat });
     }
+    Ok(copy)
 }
 
 /// Appends a reply, if there is one, by its copy.
