@@ -1,16 +1,19 @@
 #!/usr/bin/env python3
 """Tries wrong bodies that the prover must refuse, a crate's edits together: those of `checks/edits`.
 
-usage: checks/edits.py [CRATE..]     in a checkout where `rt ci` has left the libraries
+usage: checks/edits.py [CRATE..]             in a checkout where `rt ci` has left the libraries
+       checks/edits.py --right [CRATE..]     tries the text as it stands in the same way: nothing may be refused
 
 An edit is a file `checks/edits/CRATE/NAME.edit`. Its first line names the function that it turns, as a check prints it without
 the crate. A line `file: src/..` and pairs of lines `old: TEXT`, `new: TEXT` follow, each old text standing once in that file.
 
-The edits of a crate that turn different functions are tried in one check, of these functions and of what they call. A proof
-rests on a function's own body and on the contracts of what it calls, and no edit changes a contract; so each turned function is
-refused for its own edit or not at all. It must be refused at a goal or an answer of its own: one that only calls what is not
-proved is tried again by itself. The edits of one function are tried one after the other. The checks of a crate go on from what
-the ones before proved, in a folder of this run.
+The edits of a crate that turn different functions are tried in one check of these functions. A proof rests on a function's own
+body and on the contracts of what it calls, and no edit changes a contract; so each turned function is refused for its own edit
+or not at all, and the bodies of the crate's other functions, which `rt ci` has proved, need not be looked at again: they stand
+aside, each with a hole for its proof. (Those of traits' methods and closures, and what is derived, are checked as they are.) A
+turned function must be refused at a goal or an answer of its own: one that only calls what is refused is tried again by itself.
+The edits of one function are tried one after the other. The checks of a crate go on from what the ones before proved, in a
+folder of this run.
 """
 import os
 import re
@@ -95,16 +98,90 @@ def words_of(crate):
     return [top + "/bin/rattle", "check", *words, "--jobs", "1", "--links", crate + "="]
 
 
-def check(crate, edits, kept):
+def blanked(text):
+    """A file's text with its comments, strings and characters blanked, so that each brace left is one of the code."""
+    blank = lambda it: re.sub(r"[^\n]", " ", it[0])
+    return re.sub(r"//[^\n]*|\"(?:\\.|[^\"\\])*\"|'(?:\\.[^']*|[^'\\])'", blank, text)
+
+
+def closing(text, at):
+    """Where the brace that opens at a place closes."""
+    depth = 0
+    for it in re.compile("[{}]").finditer(text, at):
+        depth += 1 if it[0] == "{" else -1
+        if depth == 0:
+            return it.start()
+    raise ValueError("a brace is not closed")
+
+
+# What begins a function that stands free or in a block, and what begins a block.
+BEGINS = re.compile(r"^(?P<block>(?:pub )?(?:impl|trait)\b[^{;]*)\{|^ *(?:pub(?:\([a-z]+\))? )?(?:const )?fn (?P<name>\w+)", re.M)
+OWN = re.compile(r"impl(?:<.*?>(?= ))? (?!.*\bfor\b)(\w+)")
+CLAUSE = re.compile(r"\b(requires|ensures|ghost)\b[^{}]*\Z")
+
+
+def bodies(text):
+    """The functions of a file that stand free or in an `impl` of a type alone: each one's path in the file, and its body's braces."""
+    text = blanked(text)
+    found, passed, owner, ends = [], 0, [], 0
+    for it in BEGINS.finditer(text):
+        if it.start() < passed:
+            continue
+        if it["block"]:
+            own, ends = OWN.match(" ".join(it["block"].split())), closing(text, it.end() - 1)
+            owner, passed = ([own[1]], it.end()) if own else ([], ends)
+            continue
+        begun = opens = it.end()
+        while CLAUSE.search(text[begun : (opens := text.index("{", opens))]):
+            begun = opens = closing(text, opens) + 1
+        passed = closing(text, opens)
+        found.append(([*owner, it["name"]] if it.start() < ends else [it["name"]], opens, passed))
+    return found
+
+
+HOLE = "use Rattle.%s.proofs.%s.Statement.{statement}\n\npub %s_spec : {M : Type 1} → statement M\n%s_spec = ?\n"
+
+
+def put_aside(crate, room, kept):
+    """Empties the bodies of a copy's functions, but of those with one of these names, and leaves a hole where each one's proof stood."""
+    texts, home = {}, {}
+    for at, _, names in os.walk(os.path.join(room, "src")):
+        for file in [os.path.join(at, name) for name in names]:
+            with open(file, encoding="utf-8") as it:
+                texts[file] = it.read()
+            module = [it for it in os.path.relpath(file, os.path.join(room, "src"))[: -len(".rt")].split("/") if it != "lib"]
+            # (a method's proof stands with its type, wherever its `impl` is)
+            home.update({it: module for it in re.findall(r"^(?:pub(?:\([a-z]+\))? )?(?:struct|enum) (\w+)", texts[file], re.M)})
+            home[file] = module
+    for file, text in texts.items():
+        for path, opens, closes in reversed(bodies(text)):
+            if path[-1] in kept:
+                continue
+            text = text[:opens] + "{ unreachable!() " + text[closes:]
+            path = [*home[path[0] if len(path) > 1 else file], *path]
+            proof = os.path.join(room, "proofs", *path)
+            os.makedirs(proof, exist_ok=True)
+            for old in ("Answers.antt", "Invariants.antt"):
+                if os.path.isfile(os.path.join(proof, old)):
+                    os.remove(os.path.join(proof, old))
+            with open(os.path.join(proof, "Proof.antt"), "w", encoding="utf-8") as it:
+                it.write(HOLE % (crate, ".".join(path), path[-1], path[-1]))
+        with open(file, "w", encoding="utf-8") as it:
+            it.write(text)
+
+
+def check(crate, edits, kept, is_right=False):
     """What a check of the edited functions says, line by line, and its status. It goes on from what is kept, and keeps its own."""
     with tempfile.TemporaryDirectory(prefix="edits-") as room:
         for part in PARTS:
             if os.path.isdir(os.path.join(ROOT, "crates", crate, part)):
                 shutil.copytree(os.path.join(ROOT, "crates", crate, part), os.path.join(room, part))
-        for edit in edits:
+        for edit in edits if not is_right else []:
             edit.apply(room)
-        only = [word for function in sorted({it.function for it in edits}) for word in ("--only", function)]
-        words = [*words_of(crate), "--incremental", kept, *only]
+        functions = sorted({it.function for it in edits})
+        put_aside(crate, room, {word for it in functions for word in it.split("::")})
+        only = [word for function in functions for word in ("--only", function)]
+        words = [*words_of(crate), "--incremental", kept, *only, "--allow-holes", "--short-goals"]
         ran = subprocess.run(words, cwd=room, stdin=subprocess.DEVNULL, capture_output=True, text=True, errors="replace")
     return (ran.stdout + ran.stderr).splitlines(), ran.returncode
 
@@ -156,12 +233,20 @@ def trial(crate, edits, kept):
     return told, missed
 
 
-def trials(crate, edits):
+def trial_of_right(crate, edits, kept):
+    """Tries what a group's edits turn, as it stands. Answers what to print, and how many of these functions are refused."""
+    lines, _ = check(crate, edits, kept, is_right=True)
+    said = {it.function: next((line for line in lines if line.startswith("fn %s::%s: " % (crate, it.function))), "no line") for it in edits}
+    wrong = ["%s: %s" % (function, line) for function, line in said.items() if not re.search(r": (no holes|depends on a hole in [^;]+)\Z", line)]
+    return ["%s: %d functions stand, %d do not" % (crate, len(said) - len(wrong), len(wrong)), *wrong], len(wrong)
+
+
+def trials(crate, edits, one=trial):
     """Tries a crate's groups one after the other. Answers what to print, and how many were not refused."""
     told, missed = [], 0
     with tempfile.TemporaryDirectory(prefix="edits-kept-") as kept:
         for group in groups(edits):
-            more, lost = trial(crate, group, kept)
+            more, lost = one(crate, group, kept)
             told, missed = told + more, missed + lost
     return told, missed
 
@@ -172,7 +257,8 @@ def lanes():
     return max(1, min(len(os.sched_getaffinity(0)), free // NEED))
 
 
-def main(crates):
+def main(words):
+    is_right, crates = "--right" in words, [it for it in words if it != "--right"]
     every = sorted(os.listdir(os.path.join(HERE, "edits")))
     work = []
     for crate in crates or every:
@@ -182,10 +268,11 @@ def main(crates):
     work.sort(key=lambda it: DEAREST.index(it[0]) if it[0] in DEAREST else len(DEAREST))
     missed = 0
     with ThreadPoolExecutor(lanes()) as pool:
-        for told, of in pool.map(lambda it: trials(*it), work):
+        for told, of in pool.map(lambda it: trials(*it, trial_of_right if is_right else trial), work):
             print("\n".join(told), flush=True)
             missed += of
-    print("%d edits refused, %d not" % (sum(len(it) for _, it in work) - missed, missed))
+    if not is_right:
+        print("%d edits refused, %d not" % (sum(len(it) for _, it in work) - missed, missed))
     return 1 if missed else 0
 
 
