@@ -5,7 +5,9 @@ usage: checks/edits.py [CRATE..]             in a checkout where `rt ci` has lef
        checks/edits.py --right [CRATE..]     tries the text as it stands in the same way: nothing may be refused
 
 An edit is a file `checks/edits/CRATE/NAME.edit`. Its first line names the function that it turns, as a check prints it without
-the crate. A line `file: src/..` and pairs of lines `old: TEXT`, `new: TEXT` follow, each old text standing once in that file.
+the crate. A line `file: src/..` and pairs of lines `old: TEXT`, `new: TEXT` follow, each old text standing once in that file. Lines
+`goal: NAME ARGUMENTS` tell the goals at which it is refused where that spares time: they are then searched for as answers of the
+function's own, and where these fail the prover offers none, which takes it up to half of such a check.
 
 The edits of a crate that turn different functions are tried in one check of these functions. A proof rests on a function's own
 body and on the contracts of what it calls, and no edit changes a contract; so each turned function is refused for its own edit
@@ -34,12 +36,14 @@ NEED = 3_000_000_000
 
 class Edit:
     def __init__(self, crate, name):
-        self.crate, self.name, self.pairs, self.function = crate, name, [], None
+        self.crate, self.name, self.pairs, self.goals, self.function = crate, name, [], [], None
         file = old = None
         with open(os.path.join(HERE, "edits", crate, name), encoding="utf-8") as it:
             for line in it.read().splitlines():
                 if line.startswith("function: "):
                     self.function = line[10:].strip()
+                elif line.startswith("goal: "):
+                    self.goals.append(line[6:].strip().split(" ", 1))
                 elif line.startswith("file: "):
                     file = line[6:].strip()
                 elif line.startswith("old: "):
@@ -58,6 +62,17 @@ class Edit:
                 sys.exit("%s/%s: its old text stands %d times in %s" % (self.crate, self.name, text.count(old), file))
             with open(os.path.join(room, file), "w", encoding="utf-8") as it:
                 it.write(text.replace(old, new))
+
+    def ask(self, room):
+        """Writes answers for the goals that it tells, each of them a search."""
+        path = self.function.split("::")
+        folder = os.path.join(room, "proofs", *path)
+        if os.path.exists(os.path.join(folder, "Answers.antt")):
+            sys.exit("%s/%s: `%s` has answers, so no goal is to be told" % (self.crate, self.name, self.function))
+        os.makedirs(folder, exist_ok=True)
+        with open(os.path.join(folder, "Answers.antt"), "w", encoding="utf-8") as it:
+            it.write("use Rattle.std.proofs.Common.{rules}\nuse Rattle.%s.proofs.%s.Goals as goal\n" % (self.crate, ".".join(path)))
+            it.writelines("\npub %s : goal.%s\n%s %s = search rules\n" % (name, name, name, arguments) for name, arguments in self.goals)
 
 
 def kit():
@@ -178,6 +193,8 @@ def check(crate, edits, kept, is_right=False):
                 shutil.copytree(os.path.join(ROOT, "crates", crate, part), os.path.join(room, part))
         for edit in edits if not is_right else []:
             edit.apply(room)
+        for edit in [it for it in edits if it.goals]:
+            edit.ask(room)
         functions = sorted({it.function for it in edits})
         put_aside(crate, room, {word for it in functions for word in it.split("::")})
         only = [word for function in functions for word in ("--only", function)]
