@@ -28,8 +28,8 @@ from concurrent.futures import ThreadPoolExecutor
 HERE = os.path.dirname(os.path.abspath(__file__))
 ROOT = os.path.dirname(HERE)
 PARTS = ("src", "specs", "proofs")
-# The crates whose edits took longest by the clock, one beside three others: from 140 seconds down to 50.
-DEAREST = ["zab_world", "zk_serving", "zk_tree", "zk_requests", "zk_table", "zk_debug", "zab_places", "zk_runs", "zk_chronicle"]
+# The crates whose edits took longest by the clock, one beside three others.
+DEAREST = ["zab_world", "zk_serving", "zk_requests", "zk_table", "zk_debug", "zk_runs", "zk_chronicle"]
 # The memory that is left to each check: a third more than one has been seen to take.
 NEED = 3_000_000_000
 
