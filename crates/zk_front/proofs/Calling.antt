@@ -129,6 +129,10 @@ pub on_ok : {A E : Type 0} (P : Type 0) (r : Result A E) → P → OnOk r P
 on_ok P (Ok x) is = is
 on_ok P (Err e) is = tt
 
+pub on_ok_from : {A E : Type 0} {P Q : Type 0} (r : Result A E) → (P → Q) → OnOk r P → OnOk r Q
+on_ok_from (Ok x) then is = then is
+on_ok_from (Err e) then is = tt
+
 pub length_zero : {A : Type 0} (xs : List A) → length xs ≡ 0 → xs ≡ []
 length_zero [] is = refl
 length_zero (x ∷ xs) is = absurd (omega (arith, is))

@@ -1,11 +1,13 @@
 //! What an ask makes happen, and what it is told.
 
-ghost use Rattle.std.specs.Prelude.{◌≡◌, ◌+◌, ◌∷◌, [], length, IfOk, OnOk, OnErr};
+ghost use Rattle.std.specs.Prelude.{◌≡◌, ◌⊎◌, ◌+◌, ◌∷◌, [], length, IfOk, OnOk, OnErr};
 ghost use Rattle.zk_front.specs.Calling.{Calls, CallsSome};
+ghost use Rattle.zk_front.specs.Keeping.{IsCutShort, KeepsOrNot, LetsGo, all_let_go, heard, keeping_of, keeps_on, kept, let_go, settled, turn_of};
 ghost use Rattle.zk_front.specs.Remotes.{IsTold, events_for, expiries, expiry};
-ghost use Rattle.zk_serving.specs.Asks.{event_of, sought_by};
+ghost use Rattle.zk_serving.specs.Asks.{event_of, session_of, sought_by};
 ghost use Rattle.zk_serving.specs.declared.sought.Sought.TheVariants as seeks;
 ghost use Rattle.zk_prepare.specs.Deadlines.{expired_at};
+ghost use Rattle.zk_requests.specs.Timeouts.{clamp};
 
 use crate::caller::Caller;
 use crate::clients::Clients;
@@ -45,6 +47,8 @@ impl<L: Ledger, R: Wait> Asker<'_, L, R> {
         ensures called { OnOk result (Calls self.old.caller (expiries (self.old.caller.tag + 1) now (expired_at self.old.clients.tracker now)) self.new.caller) }
         ensures tag { OnOk result (self.new.caller.tag ≡ self.old.caller.tag + length (expired_at self.old.clients.tracker now)) }
         ensures some { OnErr result (CallsSome self.old.caller (expiries (self.old.caller.tag + 1) now (expired_at self.old.clients.tracker now)) self.new.caller) }
+        ensures let_go { OnOk result (keeping_of self.new.clients ≡ all_let_go (expired_at self.old.clients.tracker now) (keeping_of self.old.clients)) }
+        ensures left { OnErr result (LetsGo (expired_at self.old.clients.tracker now) (keeping_of self.old.clients) (keeping_of self.new.clients)) }
     {
         let due = self.clients.tracker.expired(now)?;
         self.expire_all(due, now)
@@ -54,6 +58,8 @@ impl<L: Ledger, R: Wait> Asker<'_, L, R> {
         ensures called { OnOk result (Calls self.old.caller (expiries (self.old.caller.tag + 1) now due.items) self.new.caller) }
         ensures tag { OnOk result (self.new.caller.tag ≡ self.old.caller.tag + length due.items) }
         ensures some { OnErr result (CallsSome self.old.caller (expiries (self.old.caller.tag + 1) now due.items) self.new.caller) }
+        ensures let_go { OnOk result (keeping_of self.new.clients ≡ all_let_go due.items (keeping_of self.old.clients)) }
+        ensures left { OnErr result (LetsGo due.items (keeping_of self.old.clients) (keeping_of self.new.clients)) }
     {
         for session in due {
             self.expire(session, now)?;
@@ -66,6 +72,8 @@ impl<L: Ledger, R: Wait> Asker<'_, L, R> {
         ensures called { OnOk result (Calls self.old.caller (expiry (self.old.caller.tag + 1) session now ∷ []) self.new.caller) }
         ensures tag { OnOk result (self.new.caller.tag ≡ self.old.caller.tag + 1) }
         ensures some { OnErr result (CallsSome self.old.caller (expiry (self.old.caller.tag + 1) session now ∷ []) self.new.caller) }
+        ensures let_go { OnOk result (keeping_of self.new.clients ≡ let_go session (keeping_of self.old.clients)) }
+        ensures left { OnErr result (LetsGo (session ∷ []) (keeping_of self.old.clients) (keeping_of self.new.clients)) }
     {
         let tag = self.caller.next_tag()?;
         self.caller.make(Event::World(zab_runs::Event::Expire {
@@ -91,6 +99,9 @@ impl<L: Ledger, R: Wait> Asker<'_, L, R> {
         ensures called { OnOk result (Calls self.old.caller (event_of ask (self.old.caller.tag + 1) now ∷ []) self.new.caller) }
         ensures asked { IfOk result (λ asked. asked.sought ≡ sought_by ask) }
         ensures some { OnErr result (CallsSome self.old.caller (event_of ask (self.old.caller.tag + 1) now ∷ []) self.new.caller) }
+        ensures turn { IfOk result (λ asked. (asked.turn ≡ turn_of ask) × (asked.session ≡ session_of ask) × (asked.now ≡ now)) }
+        ensures heard { OnOk result (keeping_of self.new.clients ≡ heard (session_of ask) now (keeping_of self.old.clients)) }
+        ensures left { OnErr result ((keeping_of self.new.clients ≡ keeping_of self.old.clients) ⊎ (keeping_of self.new.clients ≡ heard (session_of ask) now (keeping_of self.old.clients))) }
     {
         let session = session_of(&ask);
         self.clients.hear(session, now)?;
@@ -113,6 +124,8 @@ impl<L: Ledger, R: Wait + time::Clock> Asker<'_, L, R> {
     pub(crate) fn ask(&mut self, ask: Ask, now: i64) -> Result<Told, ServiceFault>
         ensures told { IfOk result (λ told. Calls self.old.caller (events_for (self.old.caller.tag + 1) now (expired_at self.old.clients.tracker now) ask) self.new.caller × IsTold (sought_by ask) self.new.caller.receipts told.reply) }
         ensures some { OnErr result (CallsSome self.old.caller (events_for (self.old.caller.tag + 1) now (expired_at self.old.clients.tracker now) ask) self.new.caller) }
+        ensures kept { IfOk result (λ told. keeping_of self.new.clients ≡ keeps_on now (keeping_of self.old.clients) ask told.reply) }
+        ensures left { OnErr result (IsCutShort now (keeping_of self.old.clients) ask (keeping_of self.new.clients)) }
     {
         self.expire_due(now)?;
         let asked = self.make_own(ask, now)?;
@@ -123,6 +136,8 @@ impl<L: Ledger, R: Wait + time::Clock> Asker<'_, L, R> {
     fn told(&mut self, asked: Asked) -> Result<Told, ServiceFault>
         ensures told { IfOk result (λ told. IsTold asked.sought self.new.caller.receipts told.reply) }
         ensures same { self.new.caller ≡ self.old.caller }
+        ensures kept { IfOk result (λ told. keeping_of self.new.clients ≡ settled asked.turn asked.session asked.now told.reply (keeping_of self.old.clients)) }
+        ensures left { OnErr result (KeepsOrNot (keeping_of self.old.clients) (keeping_of self.new.clients)) }
     {
         let Asked {
             session,
@@ -153,6 +168,8 @@ impl<L: Ledger, R: Wait + time::Clock> Asker<'_, L, R> {
     ) -> Result<Reply, ServiceFault>
         ensures told { IfOk result (λ reply. IsTold asked.sought self.new.caller.receipts reply) }
         ensures same { self.new.caller ≡ self.old.caller }
+        ensures kept { IfOk result (λ reply. keeping_of self.new.clients ≡ settled asked.turn asked.session asked.now reply (keeping_of self.old.clients)) }
+        ensures left { OnErr result (KeepsOrNot (keeping_of self.old.clients) (keeping_of self.new.clients)) }
     {
         match asked.sought {
             Sought::Written => self.wrote(asked, answered),
@@ -165,6 +182,8 @@ impl<L: Ledger, R: Wait + time::Clock> Asker<'_, L, R> {
     fn wrote(&mut self, asked: Asked, answered: Option<Answered>) -> Result<Reply, ServiceFault>
         ensures told { IfOk result (λ reply. IsTold seeks.Written self.new.caller.receipts reply) }
         ensures same { self.new.caller ≡ self.old.caller }
+        ensures kept { IfOk result (λ reply. keeping_of self.new.clients ≡ settled asked.turn asked.session asked.now reply (keeping_of self.old.clients)) }
+        ensures left { OnErr result (KeepsOrNot (keeping_of self.old.clients) (keeping_of self.new.clients)) }
     {
         let Some(Answered { result: wrote, .. }) = answered else {
             return Err(ServiceFault::Server);
@@ -182,9 +201,11 @@ impl<L: Ledger, R: Wait + time::Clock> Asker<'_, L, R> {
     /// A session is kept from now on, and is told of what happens from now on.
     fn keep(&mut self, session: i64, timeout: i32, now: i64) -> Result<(), ServiceFault>
         ensures same { self.new.caller ≡ self.old.caller }
+        ensures kept { OnOk result (keeping_of self.new.clients ≡ kept session (clamp timeout) now (keeping_of self.old.clients)) }
+        ensures left { OnErr result (KeepsOrNot (keeping_of self.old.clients) (keeping_of self.new.clients)) }
     {
-        self.clients.keep(session, clamp(timeout), now)?;
-        self.clients.tell(session, self.mark.events)?;
+        self.clients
+            .keep(session, clamp(timeout), now, self.mark.events)?;
         Ok(())
     }
 }

@@ -1,5 +1,8 @@
 //! The sessions of a service: when each is due, and how far it was told events.
 
+ghost use Rattle.std.specs.Prelude.{◌≡◌, OnOk, OnErr};
+ghost use Rattle.zk_front.specs.Keeping.{KeepsOrNot, heard, keeping_of, kept, let_go, none_kept};
+
 use std::alloc::Global;
 use std::collections::BTreeMap;
 use zk_path::NoMemory;
@@ -25,7 +28,10 @@ impl Drop for Clients {
 }
 
 impl Clients {
-    pub(crate) fn new(alloc: Global) -> Clients {
+    /// No session.
+    pub(crate) fn new(alloc: Global) -> Clients
+        ensures { keeping_of result ≡ none_kept }
+    {
         Clients {
             tracker: Tracker::new(alloc),
             timeouts: BTreeMap::new(alloc),
@@ -33,22 +39,39 @@ impl Clients {
         }
     }
 
-    /// A session that is kept was heard of now.
-    pub(crate) fn hear(&mut self, session: i64, now: i64) -> Result<(), NoMemory> {
+    /// A session that is kept was heard of now. After [`NoMemory`] it was not.
+    pub(crate) fn hear(&mut self, session: i64, now: i64) -> Result<(), NoMemory>
+        ensures heard { OnOk result (keeping_of self.new ≡ heard session now (keeping_of self.old)) }
+        ensures refused { OnErr result (keeping_of self.new ≡ keeping_of self.old) }
+    {
         match self.timeouts.get(&session) {
             Some(timeout) => self.tracker.touch(session, *timeout, now),
             None => Ok(()),
         }
     }
 
-    /// A session is kept from now on.
-    pub(crate) fn keep(&mut self, session: i64, timeout: i32, now: i64) -> Result<(), NoMemory> {
+    /// A session is kept from now on, and was told of all of the server's events, so many. After [`NoMemory`] it is not kept, but it
+    /// may be due: then it is closed once its time has come.
+    pub(crate) fn keep(
+        &mut self,
+        session: i64,
+        timeout: i32,
+        now: i64,
+        events: usize,
+    ) -> Result<(), NoMemory>
+        ensures kept { OnOk result (keeping_of self.new ≡ kept session timeout now (keeping_of self.old)) }
+        ensures refused { OnErr result (KeepsOrNot (keeping_of self.old) (keeping_of self.new)) }
+    {
+        self.tracker.touch(session, timeout, now)?;
+        self.tell(session, events)?;
         self.timeouts.insert(session, timeout)?;
-        self.tracker.touch(session, timeout, now)
+        Ok(())
     }
 
     /// A session is not kept any more.
-    pub(crate) fn forget(&mut self, session: i64) {
+    pub(crate) fn forget(&mut self, session: i64)
+        ensures { keeping_of self.new ≡ let_go session (keeping_of self.old) }
+    {
         self.tracker.forget(session);
         self.timeouts.remove(&session);
     }
@@ -63,13 +86,17 @@ impl Clients {
     }
 
     /// A session is told of all of the server's events, so many.
-    pub(crate) fn tell(&mut self, session: i64, events: usize) -> Result<(), NoMemory> {
+    pub(crate) fn tell(&mut self, session: i64, events: usize) -> Result<(), NoMemory>
+        ensures { keeping_of self.new ≡ keeping_of self.old }
+    {
         self.told.insert(session, events)?;
         Ok(())
     }
 
     /// A session that has closed is told nothing more.
-    pub(crate) fn close(&mut self, session: i64) {
+    pub(crate) fn close(&mut self, session: i64)
+        ensures { keeping_of self.new ≡ let_go session (keeping_of self.old) }
+    {
         self.forget(session);
         self.told.remove(&session);
     }

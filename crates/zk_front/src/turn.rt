@@ -1,3 +1,6 @@
+ghost use Rattle.std.specs.Prelude.{◌≡◌};
+ghost use Rattle.zk_front.specs.Keeping.{turn_of};
+
 use zk_prepare::Request;
 use zk_serving::Ask;
 
@@ -11,7 +14,10 @@ pub(crate) enum Turn {
     Neither,
 }
 
-pub(crate) fn turn_of(ask: &Ask) -> Turn {
+/// What an ask is to do to sessions.
+pub(crate) fn turn_of(ask: &Ask) -> Turn
+    ensures { result ≡ turn_of ask.now }
+{
     match ask {
         Ask::Write {
             request: Request::OpenSession { timeout },

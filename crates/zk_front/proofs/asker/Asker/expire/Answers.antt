@@ -3,6 +3,7 @@ use Rattle.std.proofs.lemmas.Int.{to_z-of_z}
 use Rattle.zk_front.specs.Calling.{Calling, Calls, CallsOne, CallsSome}
 use Rattle.zk_front.specs.Remotes.{expiry}
 use Rattle.zk_front.proofs.Calling.{on_err, on_ok, one_from, some_all, some_none}
+use Rattle.zk_front.proofs.Keeping.{all_go}
 use Rattle.zk_front.proofs.asker.Asker.expire.Goals as goal
 
 pub returns-in_err-tag-clause-some : goal.returns-in_err-tag-clause-some
@@ -44,3 +45,6 @@ returns-clause-some g c =
     let all : Calls old (expiry (old.tag + 1) c.args.session c.args.now ∷ []) new =
     subst (λ (n : ℕ). Calls old (expiry n c.args.session c.args.now ∷ []) new) c.in_ok-tag.ensures.next (one_from old between new (expiry tag c.args.session c.args.now) c.next_tag.ensures.same.0 c.next_tag.ensures.same.1 one) in
     on_err _ c.accepted.result (some_all old (expiry (old.tag + 1) c.args.session c.args.now ∷ []) new all)
+
+pub returns-clause-left : goal.returns-clause-left
+returns-clause-left g c = on_err _ c.accepted.result (all_go (c.args.session ∷ []) _ _ (search rules))

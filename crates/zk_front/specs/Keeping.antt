@@ -1,0 +1,98 @@
+-- The sessions that a service keeps, and when each is due: ZooKeeper Programmer's Guide, "ZooKeeper Sessions". All times are milliseconds.
+use Rattle.std.specs.Prelude.{◌≡◌, ◌⊎◌, ℤ, pos, List, [], ◌∷◌, ◌++◌, Option, Some, None, if◌then◌else◌}
+use Rattle.std.specs.FinMap as finite
+use Rattle.std.specs.FinMap.{FinMap}
+use Rattle.std.specs.Ordering.{int_cmp, int_eq}
+use Rattle.zk_connections.specs.declared.ask.Ask.{Ask}
+use Rattle.zk_connections.specs.declared.ask.Ask.TheVariants as asks
+use Rattle.zk_connections.specs.declared.told.Reply.{Reply}
+use Rattle.zk_connections.specs.declared.told.Reply.TheVariants as replies
+use Rattle.zk_requests.specs.declared.call.Request.TheVariants as requests
+use Rattle.zk_requests.specs.Timeouts.{clamp}
+use Rattle.zk_txn.specs.declared.result.TxnResult.{TxnResult}
+use Rattle.zk_prepare.specs.Deadlines.{DeadlineMap, touched, forgotten, expired_at}
+use Rattle.zk_serving.specs.Asks.{session_of}
+use Rattle.zk_front.specs.declared.clients.Clients.{Clients}
+use Rattle.zk_front.specs.declared.turn.Turn.{Turn}
+use Rattle.zk_front.specs.declared.turn.Turn.TheVariants as turns
+
+-- the timeout of each session that is kept, and when each is due
+pub record Keeping : Type 0 where
+  pub timeouts : FinMap int_cmp ℤ
+  pub deadlines : DeadlineMap
+
+abbrev pub keeping_of : Clients → Keeping
+keeping_of clients = record { timeouts = finite.from_entries clients.timeouts.entries; deadlines = clients.tracker }
+
+abbrev pub none_kept : Keeping
+none_kept = record { timeouts = finite.empty; deadlines = finite.empty }
+
+-- ---- one session
+
+abbrev pub heard_by : Option ℤ → ℤ → ℤ → DeadlineMap → DeadlineMap
+heard_by None session now deadlines = deadlines
+heard_by (Some timeout) session now deadlines = touched deadlines session timeout now
+
+-- it was heard of: where it is kept, it is due its timeout later
+abbrev pub heard : ℤ → ℤ → Keeping → Keeping
+heard session now it = record { timeouts = it.timeouts; deadlines = heard_by (finite.get it.timeouts session) session now it.deadlines }
+
+-- it is kept from now on
+abbrev pub kept : ℤ → ℤ → ℤ → Keeping → Keeping
+kept session timeout now it = record { timeouts = finite.insert it.timeouts session timeout; deadlines = touched it.deadlines session timeout now }
+
+-- it is due once, and not kept
+abbrev pub due_once : ℤ → ℤ → ℤ → Keeping → Keeping
+due_once session timeout now it = record { timeouts = it.timeouts; deadlines = touched it.deadlines session timeout now }
+
+-- it is kept no more
+abbrev pub let_go : ℤ → Keeping → Keeping
+let_go session it = record { timeouts = finite.remove it.timeouts session; deadlines = forgotten it.deadlines session }
+
+-- each of them is
+abbrev pub all_let_go : List ℤ → Keeping → Keeping
+all_let_go [] it = it
+all_let_go (session ∷ due) it = all_let_go due (let_go session it)
+
+-- ---- an ask
+
+-- what it does to sessions where it is not refused
+abbrev pub turn_of : Ask → Turn
+turn_of (asks.Write session cxid auths (requests.OpenSession timeout)) = turns.Opens timeout
+turn_of (asks.Write session cxid auths requests.CloseSession) = turns.Closes
+turn_of ask = turns.Neither
+
+-- A write that was not refused: a session that it opened, whose number is that of the transaction, is kept, and one that it closed is
+-- let go.
+abbrev pub settled_by : Turn → ℤ → ℤ → TxnResult → Keeping → Keeping
+settled_by (turns.Opens timeout) session now wrote it = if int_eq wrote.err (pos 0) then kept wrote.zxid (clamp timeout) now it else it
+settled_by turns.Closes session now wrote it = if int_eq wrote.err (pos 0) then let_go session it else it
+settled_by turns.Neither session now wrote it = it
+
+abbrev pub settled : Turn → ℤ → ℤ → Reply → Keeping → Keeping
+settled turn session now (replies.Wrote wrote) it = settled_by turn session now wrote it
+settled turn session now (replies.Looked reply zxid) it = it
+settled turn session now replies.Caught it = it
+
+-- the sessions that are due are let go, and then the one that asks was heard of
+abbrev pub ready : ℤ → Keeping → Ask → Keeping
+ready now it ask = heard (session_of ask) now (all_let_go (expired_at it.deadlines now) it)
+
+-- what an ask that is told leaves
+abbrev pub keeps_on : ℤ → Keeping → Ask → Reply → Keeping
+keeps_on now it ask reply = settled (turn_of ask) (session_of ask) now reply (ready now it ask)
+
+-- some sessions, from the first on, are let go
+pub record LetsGo (due : List ℤ) (old new : Keeping) : Type 0 where
+  pub first : List ℤ
+  pub rest : List ℤ
+  pub parts : due ≡ first ++ rest
+  pub left : new ≡ all_let_go first old
+
+-- Where memory was refused for a session that it opened, that is due once, and is closed then.
+abbrev pub KeepsOrNot : Keeping → Keeping → Type 0
+KeepsOrNot old new = (new ≡ old) ⊎ ((session : ℤ) × (timeout : ℤ) × (now : ℤ) × (new ≡ due_once session timeout now old))
+
+-- what an ask that is told a fault leaves
+abbrev pub IsCutShort : ℤ → Keeping → Ask → Keeping → Type 0
+IsCutShort now old ask new = LetsGo (expired_at old.deadlines now) old new ⊎ KeepsOrNot (ready now old ask) new
