@@ -11,7 +11,7 @@ use Rattle.zk_chronicle.specs.Calls.{made}
 use Rattle.zk_servers.specs.Turns.{events_of, numbers_of, numbers_told}
 use Rattle.zk_chronicle.specs.declared.record.Receipt.{Receipt}
 use Rattle.zk_chronicle.specs.declared.calls.Made.{Made}
-use Rattle.zk_front.specs.Calling.{Calling, Calls, CallsOne, CallsSome, IsGiven, IsKept}
+use Rattle.zk_front.specs.Calling.{Calling, Calls, CallsOne, IsGiven, IsKept}
 
 -- ---- tags
 
@@ -85,38 +85,6 @@ calls_then old xs between ys new a b = record {
   added = b.added ∙ ap (λ l. l ++ b.calls) a.added ∙ append_assoc old.calls a.calls b.calls;
   kept = b.kept ∙ ap (λ l. l ++ b.receipts) a.kept ∙ append_assoc old.receipts a.receipts b.receipts;
   made = map-append (λ (m : Made). m.event) a.calls b.calls ∙ ap (λ l. l ++ events_of b.calls) a.made ∙ ap (λ l. xs ++ l) b.made;
-}
-
-pub some_all : (old : Calling) (xs : List Event) (new : Calling) → Calls old xs new → CallsSome old xs new
-some_all old xs new calls = record {
-  first = xs;
-  rest = [];
-  parts = sym (append-nil xs);
-  calls = calls;
-}
-
-pub some_none : (old : Calling) (xs : List Event) (new : Calling) → new.calls ≡ old.calls → new.receipts ≡ old.receipts → CallsSome old xs new
-some_none old xs new calls receipts = record {
-  first = [];
-  rest = xs;
-  parts = refl;
-  calls = calls_none old new calls receipts;
-}
-
-pub some_first : (old : Calling) (xs ys : List Event) (new : Calling) → CallsSome old xs new → CallsSome old (xs ++ ys) new
-some_first old xs ys new some = record {
-  first = some.first;
-  rest = some.rest ++ ys;
-  parts = ap (λ l. l ++ ys) some.parts ∙ append_assoc some.first some.rest ys;
-  calls = some.calls;
-}
-
-pub some_then : (old : Calling) (xs : List Event) (between : Calling) (ys : List Event) (new : Calling) → Calls old xs between → CallsSome between ys new → CallsSome old (xs ++ ys) new
-some_then old xs between ys new calls some = record {
-  first = xs ++ some.first;
-  rest = some.rest;
-  parts = ap (λ l. xs ++ l) some.parts ∙ sym (append_assoc xs some.first some.rest);
-  calls = calls_then old xs between some.first new calls some.calls;
 }
 
 -- ---- what a call answers

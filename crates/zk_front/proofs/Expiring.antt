@@ -1,28 +1,23 @@
 -- Sessions that are due, one more; and then what is asked.
-use Rattle.std.proofs.Common.{◌≡◌, ℕ, ℤ, ◌+◌, List, [], ◌∷◌, ◌++◌, length, refl, sym, ap, subst, ◌∙◌, arith}
+use Rattle.std.proofs.Common.{◌≡◌, inl, inr, ℕ, ℤ, ◌+◌, List, [], ◌∷◌, ◌++◌, length, refl, sym, ap, subst, ◌∙◌, arith}
 use Rattle.std.specs.Prelude.{Result, Ok, Err, OnErr, IfOk}
 use Rattle.std.proofs.lemmas.List.{length-append, append_assoc, append-nil}
 use Rattle.zk_connections.specs.declared.ask.Ask.{Ask}
 use Rattle.zk_connections.specs.declared.ask.Ask.TheVariants as asks
 use Rattle.zk_connections.specs.declared.told.ServiceFault.{ServiceFault}
 use Rattle.zk_connections.specs.declared.told.Told.{Told}
-use Rattle.zk_serving.specs.Asks.{event_of, sought_by}
+use Rattle.zk_serving.specs.Asks.{event_of, session_of, sought_by}
 use Rattle.zk_serving.specs.declared.sought.Sought.{Sought}
-use Rattle.zk_prepare.specs.Deadlines.{DeadlineMap, expired_at}
+use Rattle.zk_prepare.specs.Deadlines.{expired_at}
 use Rattle.zk_runs.specs.declared.event.Event.{Event}
-use Rattle.zk_front.specs.Calling.{Calling, Calls, CallsOne, CallsSome, IsGiven}
-use Rattle.zk_front.specs.Remotes.{AsksAt, IsTold, events_for, expiries, expiry}
-use Rattle.zk_front.proofs.Calling.{calls_none, calls_then, some_all, some_first, some_then}
+use Rattle.zk_front.specs.Calling.{Calling, Calls, IsGiven}
+use Rattle.zk_front.specs.Keeping.{Keeping, KeepsOrNot, all_let_go, heard, let_go, ready, settled, turn_of}
+use Rattle.zk_front.specs.Remotes.{AsksAt, Expires, IsCutShort, IsTold, Misses, Serving, Stops, events_for, expiries, expiry}
+use Rattle.zk_front.specs.declared.turn.Turn.{Turn}
+use Rattle.zk_front.proofs.Calling.{calls_none, calls_then}
+use Rattle.zk_front.proofs.Keeping.{all_let_go_more}
 
 -- ---- sessions that are due
-
-expiries_more : (tag : ℕ) (now : ℤ) (due : List ℤ) (session : ℤ) → expiries tag now (due ++ session ∷ []) ≡ expiries tag now due ++ expiry (tag + length due) session now ∷ []
-expiries_more tag now [] session =
-    let same : tag ≡ tag + 0 = omega arith in
-    ap (λ (n : ℕ). expiry n session now ∷ []) same
-expiries_more tag now (first ∷ due) session =
-    let same : tag + 1 + length due ≡ tag + length (first ∷ due) = omega arith in
-    ap (λ (l : List Event). expiry tag first now ∷ l) (expiries_more (tag + 1) now due session ∙ ap (λ (n : ℕ). expiries (tag + 1) now due ++ expiry n session now ∷ []) same)
 
 expiries_parts : (tag : ℕ) (now : ℤ) (due more : List ℤ) → expiries tag now (due ++ more) ≡ expiries tag now due ++ expiries (tag + length due) now more
 expiries_parts tag now [] more =
@@ -32,47 +27,79 @@ expiries_parts tag now (first ∷ due) more =
     let same : tag + 1 + length due ≡ tag + length (first ∷ due) = omega arith in
     ap (λ (l : List Event). expiry tag first now ∷ l) (expiries_parts (tag + 1) now due more ∙ ap (λ (n : ℕ). expiries (tag + 1) now due ++ expiries n now more) same)
 
--- some of them are closed, and these are left
-pub record Expiring (old : Calling) (now : ℤ) (due left : List ℤ) (new : Calling) : Type 0 where
+-- some of them are closed and let go, and these are left
+pub record Expiring (now : ℤ) (due left : List ℤ) (old new : Serving) : Type 0 where
   pub done : List ℤ
   pub parts : due ≡ done ++ left
-  pub calls : Calls old (expiries (old.tag + 1) now done) new
-  pub tag : new.tag ≡ old.tag + length done
+  pub calls : Calls old.calling (expiries (old.calling.tag + 1) now done) new.calling
+  pub tag : new.calling.tag ≡ old.calling.tag + length done
+  pub are : new.keeping ≡ all_let_go done old.keeping
 
-pub expiring_first : (old : Calling) (now : ℤ) (due : List ℤ) → Expiring old now due due old
-expiring_first old now due = record {
+pub expiring_first : (now : ℤ) (due : List ℤ) (old : Serving) → Expiring now due due old old
+expiring_first now due old = record {
   done = [];
   parts = refl;
-  calls = calls_none old old refl refl;
+  calls = calls_none old.calling old.calling refl refl;
   tag = omega arith;
+  are = refl;
 }
 
-pub expiring_more : (old : Calling) (now : ℤ) (due left : List ℤ) (session : ℤ) (between new : Calling) → Expiring old now due (session ∷ left) between
-    → Calls between (expiry (between.tag + 1) session now ∷ []) new → new.tag ≡ between.tag + 1 → Expiring old now due left new
-expiring_more old now due left session between new so_far calls tag =
-    let next : between.tag + 1 ≡ old.tag + 1 + length so_far.done = omega (arith, so_far.tag) in
-    let all : Calls old (expiries (old.tag + 1) now so_far.done ++ expiry (between.tag + 1) session now ∷ []) new = calls_then old (expiries (old.tag + 1) now so_far.done) between (expiry (between.tag + 1) session now ∷ []) new so_far.calls calls in
+-- some more are
+expiring_more_calls : (now : ℤ) (due left more : List ℤ) (old between : Serving) (new : Calling) → (so_far : Expiring now due left old between) → Calls between.calling (expiries (between.calling.tag + 1) now more) new
+    → Calls old.calling (expiries (old.calling.tag + 1) now (so_far.done ++ more)) new
+expiring_more_calls now due left more old between new so_far calls =
+    let next : between.calling.tag + 1 ≡ old.calling.tag + 1 + length so_far.done = omega (arith, so_far.tag) in
+    let first : List Event = expiries (old.calling.tag + 1) now so_far.done in
+    subst (λ (l : List Event). Calls old.calling l new) (ap (λ (n : ℕ). first ++ expiries n now more) next ∙ sym (expiries_parts (old.calling.tag + 1) now so_far.done more))
+    (calls_then old.calling first between.calling (expiries (between.calling.tag + 1) now more) new so_far.calls calls)
+
+pub expiring_more : (now : ℤ) (due left : List ℤ) (session : ℤ) (old between new : Serving) → Expiring now due (session ∷ left) old between
+    → Calls between.calling (expiry (between.calling.tag + 1) session now ∷ []) new.calling → new.calling.tag ≡ between.calling.tag + 1 → new.keeping ≡ let_go session between.keeping → Expiring now due left old new
+expiring_more now due left session old between new so_far calls tag gone = record {
+  done = so_far.done ++ session ∷ [];
+  parts = so_far.parts ∙ sym (append_assoc so_far.done (session ∷ []) left);
+  calls = expiring_more_calls now due (session ∷ left) (session ∷ []) old between new.calling so_far calls;
+  tag = omega (arith, tag, so_far.tag, length-append so_far.done (session ∷ []));
+  are = gone ∙ ap (let_go session) so_far.are ∙ sym (all_let_go_more so_far.done (session ∷ []) old.keeping);
+}
+
+-- it stopped before this session, or behind it
+pub expiring_stopped : (now : ℤ) (due left : List ℤ) (session : ℤ) (old between new : Serving) → Expiring now due (session ∷ left) old between → Stops now (session ∷ []) between new → Stops now due old new
+expiring_stopped now due left session old between new so_far some = record {
+  first = so_far.done ++ some.first;
+  rest = some.rest ++ left;
+  parts = so_far.parts ∙ ap (λ l. so_far.done ++ l) (ap (λ l. l ++ left) some.parts ∙ append_assoc some.first some.rest left) ∙ sym (append_assoc so_far.done some.first (some.rest ++ left));
+  calls = expiring_more_calls now due (session ∷ left) some.first old between new.calling so_far some.calls;
+  left = some.left ∙ ap (all_let_go some.first) so_far.are ∙ sym (all_let_go_more so_far.done some.first old.keeping);
+}
+
+pub expiring_ended : (now : ℤ) (due : List ℤ) (old new : Serving) → Expiring now due [] old new → Expires now due old new
+expiring_ended now due old new all =
+    let whole : all.done ≡ due = sym (all.parts ∙ append-nil all.done) in
     record {
-      done = so_far.done ++ session ∷ [];
-      parts = so_far.parts ∙ sym (append_assoc so_far.done (session ∷ []) left);
-      calls = subst (λ (l : List Event). Calls old l new) (ap (λ (n : ℕ). expiries (old.tag + 1) now so_far.done ++ expiry n session now ∷ []) next ∙ sym (expiries_more (old.tag + 1) now so_far.done session)) all;
-      tag = omega (arith, tag, so_far.tag, length-append so_far.done (session ∷ []));
+      calls = subst (λ (l : List ℤ). Calls old.calling (expiries (old.calling.tag + 1) now l) new.calling) whole all.calls;
+      tag = all.tag ∙ ap (λ (l : List ℤ). old.calling.tag + length l) whole;
+      left = all.are ∙ ap (λ (l : List ℤ). all_let_go l old.keeping) whole;
     }
 
-pub expiring_stopped : (old : Calling) (now : ℤ) (due left : List ℤ) (session : ℤ) (between new : Calling) → Expiring old now due (session ∷ left) between
-    → CallsSome between (expiry (between.tag + 1) session now ∷ []) new → CallsSome old (expiries (old.tag + 1) now due) new
-expiring_stopped old now due left session between new so_far some =
-    let next : between.tag + 1 ≡ old.tag + 1 + length so_far.done = omega (arith, so_far.tag) in
-    let first : CallsSome between (expiries (between.tag + 1) now (session ∷ left)) new = some_first between (expiry (between.tag + 1) session now ∷ []) (expiries (between.tag + 1 + 1) now left) new some in
-    let whole : CallsSome old (expiries (old.tag + 1) now so_far.done ++ expiries (between.tag + 1) now (session ∷ left)) new = some_then old (expiries (old.tag + 1) now so_far.done) between (expiries (between.tag + 1) now (session ∷ left)) new so_far.calls first in
-    subst (λ (l : List Event). CallsSome old l new)
-    (ap (λ (n : ℕ). expiries (old.tag + 1) now so_far.done ++ expiries n now (session ∷ left)) next ∙ sym (expiries_parts (old.tag + 1) now so_far.done (session ∷ left)) ∙ sym (ap (λ (l : List ℤ). expiries (old.tag + 1) now l) so_far.parts)) whole
+pub none_stops : (now : ℤ) (due : List ℤ) (old new : Serving) → new.calling.calls ≡ old.calling.calls → new.calling.receipts ≡ old.calling.receipts → new.keeping ≡ old.keeping → Stops now due old new
+none_stops now due old new calls receipts same = record {
+  first = [];
+  rest = due;
+  parts = refl;
+  calls = calls_none old.calling new.calling calls receipts;
+  left = same;
+}
 
-pub expiring_ended : (old : Calling) (now : ℤ) (due : List ℤ) (new : Calling) → Expiring old now due [] new → Calls old (expiries (old.tag + 1) now due) new
-expiring_ended old now due new all = subst (λ (l : List ℤ). Calls old (expiries (old.tag + 1) now l) new) (sym (all.parts ∙ append-nil all.done)) all.calls
-
-pub expiring_tag : (old : Calling) (now : ℤ) (due : List ℤ) (new : Calling) → Expiring old now due [] new → new.tag ≡ old.tag + length due
-expiring_tag old now due new all = all.tag ∙ ap (λ (l : List ℤ). old.tag + length l) (sym (all.parts ∙ append-nil all.done))
+-- one was closed and let go, and refused
+pub one_stops : (now session : ℤ) (old new : Serving) → Calls old.calling (expiry (old.calling.tag + 1) session now ∷ []) new.calling → new.keeping ≡ let_go session old.keeping → Stops now (session ∷ []) old new
+one_stops now session old new calls gone = record {
+  first = session ∷ [];
+  rest = [];
+  parts = refl;
+  calls = calls;
+  left = gone;
+}
 
 -- ---- what is asked
 
@@ -81,35 +108,54 @@ given_own (asks.Write session cxid auths request) tag now = omega arith
 given_own (asks.Read session seen auths call watch) tag now = tt
 given_own (asks.Sync session) tag now = omega arith
 
-asked_whole : (old : Calling) (now : ℤ) (due : List ℤ) (ask : Ask) (between new : Calling) → Calls old (expiries (old.tag + 1) now due) between → between.tag ≡ old.tag + length due
-    → Calls between (event_of ask (between.tag + 1) now ∷ []) new → Calls old (events_for (old.tag + 1) now due ask) new
-asked_whole old now due ask between new before tag own =
-    let next : between.tag + 1 ≡ old.tag + 1 + length due = omega (arith, tag) in
-    subst (λ (n : ℕ). Calls old (expiries (old.tag + 1) now due ++ event_of ask n now ∷ []) new) next (calls_then old (expiries (old.tag + 1) now due) between (event_of ask (between.tag + 1) now ∷ []) new before own)
+asked_whole : (now : ℤ) (due : List ℤ) (ask : Ask) (old between : Serving) (new : Calling) → Expires now due old between → Calls between.calling (event_of ask (between.calling.tag + 1) now ∷ []) new
+    → Calls old.calling (events_for (old.calling.tag + 1) now due ask) new
+asked_whole now due ask old between new before own =
+    let next : between.calling.tag + 1 ≡ old.calling.tag + 1 + length due = omega (arith, before.tag) in
+    let first : List Event = expiries (old.calling.tag + 1) now due in
+    subst (λ (n : ℕ). Calls old.calling (first ++ event_of ask n now ∷ []) new) next (calls_then old.calling first between.calling (event_of ask (between.calling.tag + 1) now ∷ []) new before.calls own)
 
-pub asked_part : (old : Calling) (now : ℤ) (due : List ℤ) (ask : Ask) (between new : Calling) → Calls old (expiries (old.tag + 1) now due) between → between.tag ≡ old.tag + length due
-    → CallsSome between (event_of ask (between.tag + 1) now ∷ []) new → CallsSome old (events_for (old.tag + 1) now due ask) new
-asked_part old now due ask between new before tag own =
-    let next : between.tag + 1 ≡ old.tag + 1 + length due = omega (arith, tag) in
-    subst (λ (n : ℕ). CallsSome old (expiries (old.tag + 1) now due ++ event_of ask n now ∷ []) new) next (some_then old (expiries (old.tag + 1) now due) between (event_of ask (between.tag + 1) now ∷ []) new before own)
+-- nothing more was called
+after_due : (now : ℤ) (due : List ℤ) (old between : Serving) (new : Calling) → Expires now due old between → Calls between.calling [] new → Calls old.calling (expiries (old.calling.tag + 1) now due) new
+after_due now due old between new before none =
+    let first : List Event = expiries (old.calling.tag + 1) now due in
+    subst (λ (l : List Event). Calls old.calling l new) (append-nil first) (calls_then old.calling first between.calling [] new before.calls none)
+
+is_ready : (now : ℤ) (due : List ℤ) (ask : Ask) (old between : Serving) (kept : Keeping) → due ≡ expired_at old.keeping.deadlines now → Expires now due old between → kept ≡ heard (session_of ask) now between.keeping → kept ≡ ready now old.keeping ask
+is_ready now due ask old between kept is before own = own ∙ ap (heard (session_of ask) now) (before.left ∙ ap (λ l. all_let_go l old.keeping) is)
+
+pub asked_missed : (now : ℤ) (due : List ℤ) (ask : Ask) (old between new : Serving) → due ≡ expired_at old.keeping.deadlines now → Expires now due old between → Misses now between ask new → IsCutShort now due old ask new
+asked_missed now due ask old between new is before (inl (none, inl same)) = inl (record {
+  first = due;
+  rest = [];
+  parts = sym (append-nil due);
+  calls = after_due now due old between new.calling before none;
+  left = same ∙ before.left;
+})
+asked_missed now due ask old between new is before (inl (none, inr own)) = inr (inl (after_due now due old between new.calling before none, is_ready now due ask old between new.keeping is before own))
+asked_missed now due ask old between new is before (inr (own, was)) = inr (inr (asked_whole now due ask old between new.calling before own, inl (is_ready now due ask old between new.keeping is before was)))
+
+keeps_or_not : (a b new : Keeping) → a ≡ b → KeepsOrNot a new → KeepsOrNot b new
+keeps_or_not a b new same kept = subst (λ x. KeepsOrNot x new) same kept
 
 -- once the own event was called, what is told decides
-pub asked_told : (old : Calling) (now : ℤ) (due : List ℤ) (ask : Ask) (between after new : Calling) (seeks : Sought) (r : Result Told ServiceFault) → Calls old (expiries (old.tag + 1) now due) between → between.tag ≡ old.tag + length due
-    → Calls between (event_of ask (between.tag + 1) now ∷ []) after → seeks ≡ sought_by ask → new ≡ after → IfOk r (λ told. IsTold seeks new.receipts told.reply)
-    → IfOk r (λ told. Calls old (events_for (old.tag + 1) now due ask) new × IsTold (sought_by ask) new.receipts told.reply)
-asked_told old now due ask between after new seeks (Ok told) before tag own is same fits = (
-  subst (λ (x : Calling). Calls old (events_for (old.tag + 1) now due ask) x) (sym same) (asked_whole old now due ask between after before tag own),
-  subst (λ (s : Sought). IsTold s new.receipts told.reply) is fits,
+pub asked_told : (now : ℤ) (due : List ℤ) (ask : Ask) (old between after new : Serving) (seeks : Sought) (turn : Turn) (session at : ℤ) (r : Result Told ServiceFault) → due ≡ expired_at old.keeping.deadlines now → Expires now due old between
+    → Calls between.calling (event_of ask (between.calling.tag + 1) now ∷ []) after.calling → after.keeping ≡ heard (session_of ask) now between.keeping
+    → seeks ≡ sought_by ask → turn ≡ turn_of ask → session ≡ session_of ask → at ≡ now → new.calling ≡ after.calling → IfOk r (λ told. IsTold seeks new.calling.receipts told.reply)
+    → IfOk r (λ told. new.keeping ≡ settled turn session at told.reply after.keeping) → OnErr r (KeepsOrNot after.keeping new.keeping) → AsksAt now due old ask r new
+asked_told now due ask old between after new seeks turn session at (Ok told) is before own was sought turns who when same fits kept left = (
+  subst (λ (x : Calling). Calls old.calling (events_for (old.calling.tag + 1) now due ask) x) (sym same) (asked_whole now due ask old between after.calling before own),
+  subst (λ (s : Sought). IsTold s new.calling.receipts told.reply) sought fits,
+  kept
+  ∙ ap (λ t. settled t session at told.reply after.keeping) turns
+  ∙ ap (λ s. settled (turn_of ask) s at told.reply after.keeping) who
+  ∙ ap (λ n. settled (turn_of ask) (session_of ask) n told.reply after.keeping) when
+  ∙ ap (settled (turn_of ask) (session_of ask) now told.reply) (is_ready now due ask old between after.keeping is before was),
 )
-asked_told old now due ask between after new seeks (Err fault) before tag own is same fits = tt
+asked_told now due ask old between after new seeks turn session at (Err fault) is before own was sought turns who when same fits kept left = inr (inr (
+  subst (λ (x : Calling). Calls old.calling (events_for (old.calling.tag + 1) now due ask) x) (sym same) (asked_whole now due ask old between after.calling before own),
+  keeps_or_not after.keeping (ready now old.keeping ask) new.keeping (is_ready now due ask old between after.keeping is before was) left,
+))
 
-pub asked_in_vain : (old : Calling) (now : ℤ) (due : List ℤ) (ask : Ask) (between after new : Calling) → Calls old (expiries (old.tag + 1) now due) between → between.tag ≡ old.tag + length due
-    → Calls between (event_of ask (between.tag + 1) now ∷ []) after → new ≡ after → CallsSome old (events_for (old.tag + 1) now due ask) new
-asked_in_vain old now due ask between after new before tag own same =
-    some_all old (events_for (old.tag + 1) now due ask) new (subst (λ (x : Calling). Calls old (events_for (old.tag + 1) now due ask) x) (sym same) (asked_whole old now due ask between after before tag own))
-
-pub asks_at : (now : ℤ) (deadlines : DeadlineMap) (old : Calling) (ask : Ask) (r : Result Told ServiceFault) (new : Calling)
-    → IfOk r (λ told. Calls old (events_for (old.tag + 1) now (expired_at deadlines now) ask) new × IsTold (sought_by ask) new.receipts told.reply)
-    → OnErr r (CallsSome old (events_for (old.tag + 1) now (expired_at deadlines now) ask) new) → AsksAt now deadlines old ask r new
-asks_at now deadlines old ask (Ok told) new when_ok when_err = when_ok
-asks_at now deadlines old ask (Err fault) new when_ok when_err = when_err
+pub asked_fault : (now : ℤ) (due : List ℤ) (ask : Ask) (old new : Serving) (r : Result Told ServiceFault) (fault : ServiceFault) → r ≡ Err fault → IsCutShort now due old ask new → AsksAt now due old ask r new
+asked_fault now due ask old new r fault is cut = subst (λ (x : Result Told ServiceFault). AsksAt now due old ask x new) (sym is) cut

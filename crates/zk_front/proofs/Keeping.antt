@@ -1,13 +1,12 @@
 -- What becomes of the sessions that are kept.
 use Rattle.std.proofs.Common.{◌≡◌, ℤ, Bool, true, cond, List, [], ◌∷◌, ◌++◌, Option, Some, None, int_cmp, refl, sym, ap, subst, ◌∙◌}
-use Rattle.std.proofs.lemmas.List.{append_assoc, append-nil}
 use Rattle.std.specs.BTreeMap as tree
 use Rattle.std.specs.BTreeMap.{BTreeMap}
 use Rattle.std.specs.FinMap as finite
 use Rattle.std.specs.FinMap.{FinMap}
 use Rattle.zk_prepare.specs.Deadlines.{DeadlineMap, touched, forgotten}
 use Rattle.zk_tree.proofs.Kept.{get-sessions, sessions_inserted, sessions_removed}
-use Rattle.zk_front.specs.Keeping.{Keeping, LetsGo, all_let_go, heard, heard_by, kept, let_go}
+use Rattle.zk_front.specs.Keeping.{Keeping, all_let_go, heard, heard_by, kept, let_go}
 
 abbrev pub keeping : FinMap int_cmp ℤ → DeadlineMap → Keeping
 keeping timeouts deadlines = record { timeouts = timeouts; deadlines = deadlines }
@@ -46,37 +45,3 @@ heard_is session key now timeouts found before after same is due =
 pub all_let_go_more : (first more : List ℤ) (it : Keeping) → all_let_go (first ++ more) it ≡ all_let_go more (all_let_go first it)
 all_let_go_more [] more it = refl
 all_let_go_more (session ∷ first) more it = all_let_go_more first more (let_go session it)
-
--- some of them are, and these are left
-pub record LettingGo (due left : List ℤ) (old new : Keeping) : Type 0 where
-  pub first : List ℤ
-  pub parts : due ≡ first ++ left
-  pub are : new ≡ all_let_go first old
-
-pub letting_go_first : (due : List ℤ) (old : Keeping) → LettingGo due due old old
-letting_go_first due old = record { first = []; parts = refl; are = refl }
-
-pub letting_go_more : (due left : List ℤ) (session : ℤ) (old between new : Keeping) → LettingGo due (session ∷ left) old between → new ≡ let_go session between → LettingGo due left old new
-letting_go_more due left session old between new so_far one = record {
-  first = so_far.first ++ session ∷ [];
-  parts = so_far.parts ∙ sym (append_assoc so_far.first (session ∷ []) left);
-  are = one ∙ ap (let_go session) so_far.are ∙ sym (all_let_go_more so_far.first (session ∷ []) old);
-}
-
--- it stopped before this session, or behind it
-pub letting_go_stopped : (due left : List ℤ) (session : ℤ) (old between new : Keeping) → LettingGo due (session ∷ left) old between → LetsGo (session ∷ []) between new → LetsGo due old new
-letting_go_stopped due left session old between new so_far some = record {
-  first = so_far.first ++ some.first;
-  rest = some.rest ++ left;
-  parts = so_far.parts ∙ ap (λ l. so_far.first ++ l) (ap (λ l. l ++ left) some.parts ∙ append_assoc some.first some.rest left) ∙ sym (append_assoc so_far.first some.first (some.rest ++ left));
-  left = some.left ∙ ap (all_let_go some.first) so_far.are ∙ sym (all_let_go_more so_far.first some.first old);
-}
-
-pub letting_go_ended : (due : List ℤ) (old new : Keeping) → LettingGo due [] old new → new ≡ all_let_go due old
-letting_go_ended due old new all = all.are ∙ ap (λ l. all_let_go l old) (sym (all.parts ∙ append-nil all.first))
-
-pub none_go : (due : List ℤ) (old new : Keeping) → new ≡ old → LetsGo due old new
-none_go due old new same = record { first = []; rest = due; parts = refl; left = same }
-
-pub all_go : (due : List ℤ) (old new : Keeping) → new ≡ all_let_go due old → LetsGo due old new
-all_go due old new is = record { first = due; rest = []; parts = sym (append-nil due); left = is }

@@ -43,10 +43,3 @@ pub record Calls (old : Calling) (events : List Event) (new : Calling) : Type 0 
   pub added : new.calls ≡ old.calls ++ calls
   pub kept : new.receipts ≡ old.receipts ++ receipts
   pub made : events_of calls ≡ events
-
--- the first of these events were, and no others
-pub record CallsSome (old : Calling) (events : List Event) (new : Calling) : Type 0 where
-  pub first : List Event
-  pub rest : List Event
-  pub parts : events ≡ first ++ rest
-  pub calls : Calls old first new

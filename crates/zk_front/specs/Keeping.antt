@@ -82,17 +82,6 @@ ready now it ask = heard (session_of ask) now (all_let_go (expired_at it.deadlin
 abbrev pub keeps_on : ℤ → Keeping → Ask → Reply → Keeping
 keeps_on now it ask reply = settled (turn_of ask) (session_of ask) now reply (ready now it ask)
 
--- some sessions, from the first on, are let go
-pub record LetsGo (due : List ℤ) (old new : Keeping) : Type 0 where
-  pub first : List ℤ
-  pub rest : List ℤ
-  pub parts : due ≡ first ++ rest
-  pub left : new ≡ all_let_go first old
-
 -- Where memory was refused for a session that it opened, that is due once, and is closed then.
 abbrev pub KeepsOrNot : Keeping → Keeping → Type 0
 KeepsOrNot old new = (new ≡ old) ⊎ ((session : ℤ) × (timeout : ℤ) × (now : ℤ) × (new ≡ due_once session timeout now old))
-
--- what an ask that is told a fault leaves
-abbrev pub IsCutShort : ℤ → Keeping → Ask → Keeping → Type 0
-IsCutShort now old ask new = LetsGo (expired_at old.deadlines now) old new ⊎ KeepsOrNot (ready now old ask) new

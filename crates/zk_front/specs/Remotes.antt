@@ -1,21 +1,23 @@
 -- What an ask of a service over servers that run makes happen at server 1, and what it is told. Own; deadlines are those of the
 -- ZooKeeper Programmer's Guide, "ZooKeeper Sessions".
-use Rattle.std.specs.Prelude.{◌≡◌, ℕ, ℤ, ◌+◌, ◌-◌, List, [], ◌∷◌, ◌++◌, length, slice_get, Some, Result, Ok, Err}
+use Rattle.std.specs.Prelude.{◌≡◌, ◌⊎◌, ℕ, ℤ, ◌+◌, ◌-◌, List, [], ◌∷◌, ◌++◌, length, slice_get, Some, Result, Ok, Err}
 use Rattle.zab_runs.specs.declared.event.Event.TheVariants.{Expire}
 use Rattle.zk_connections.specs.declared.ask.Ask.{Ask}
 use Rattle.zk_connections.specs.declared.told.Reply.{Reply}
 use Rattle.zk_connections.specs.declared.told.Reply.TheVariants as replies
 use Rattle.zk_connections.specs.declared.told.ServiceFault.{ServiceFault}
 use Rattle.zk_connections.specs.declared.told.Told.{Told}
-use Rattle.zk_serving.specs.Asks.{event_of, sought_by}
+use Rattle.zk_serving.specs.Asks.{event_of, session_of, sought_by}
 use Rattle.zk_serving.specs.declared.sought.Sought.{Sought}
 use Rattle.zk_serving.specs.declared.sought.Sought.TheVariants as seeks
-use Rattle.zk_prepare.specs.Deadlines.{DeadlineMap, expired_at}
+use Rattle.zk_prepare.specs.Deadlines.{expired_at}
 use Rattle.zk_runs.specs.declared.answer.Answer.TheVariants.{Looked}
 use Rattle.zk_runs.specs.declared.event.Event.{Event}
 use Rattle.zk_runs.specs.declared.event.Event.TheVariants as events
 use Rattle.zk_chronicle.specs.declared.record.Receipt.{Receipt}
-use Rattle.zk_front.specs.Calling.{Calling, Calls, CallsSome}
+use Rattle.zk_front.specs.Calling.{Calling, Calls}
+use Rattle.zk_front.specs.Keeping.{Keeping, KeepsOrNot, all_let_go, heard, keeping_of, keeps_on, ready}
+use Rattle.zk_front.specs.declared.clients.Clients.{Clients}
 
 -- ---- what an ask makes happen
 
@@ -52,13 +54,50 @@ IsTold _ receipts reply = ⊥
 
 -- ---- an ask
 
--- The tags are those behind the last one that was given out: no call of the seat has them. Where an ask is told nothing, the first
--- of its events happened.
-abbrev pub AsksAt : ℤ → DeadlineMap → Calling → Ask → Result Told ServiceFault → Calling → Type 0
-AsksAt now deadlines old ask (Ok told) new =
-    Calls old (events_for (old.tag + 1) now (expired_at deadlines now) ask) new × IsTold (sought_by ask) new.receipts told.reply
-AsksAt now deadlines old ask (Err fault) new = CallsSome old (events_for (old.tag + 1) now (expired_at deadlines now) ask) new
+-- what a service called, and the sessions that it keeps
+pub record Serving : Type 0 where
+  pub calling : Calling
+  pub keeping : Keeping
 
--- at the time that the clock tells
-abbrev pub Asks : {C : Type 0} → (C → ℤ → C → Type 0) → C → C → DeadlineMap → Calling → Ask → Result Told ServiceFault → Calling → Type 0
-Asks tells clock clock' deadlines old ask told new = (now : ℤ) × tells clock now clock' × AsksAt now deadlines old ask told new
+abbrev pub serving : Calling → Clients → Serving
+serving calling clients = record { calling = calling; keeping = keeping_of clients }
+
+-- each session that is due is closed, and let go
+pub record Expires (now : ℤ) (due : List ℤ) (old new : Serving) : Type 0 where
+  pub calls : Calls old.calling (expiries (old.calling.tag + 1) now due) new.calling
+  pub tag : new.calling.tag ≡ old.calling.tag + length due
+  pub left : new.keeping ≡ all_let_go due old.keeping
+
+-- the first of them are, and no others
+pub record Stops (now : ℤ) (due : List ℤ) (old new : Serving) : Type 0 where
+  pub first : List ℤ
+  pub rest : List ℤ
+  pub parts : due ≡ first ++ rest
+  pub calls : Calls old.calling (expiries (old.calling.tag + 1) now first) new.calling
+  pub left : new.keeping ≡ all_let_go first old.keeping
+
+-- What is asked does not happen, and the one that asks was heard of or not; or it does, and is refused.
+abbrev pub Misses : ℤ → Serving → Ask → Serving → Type 0
+Misses now old ask new =
+    (Calls old.calling [] new.calling × ((new.keeping ≡ old.keeping) ⊎ (new.keeping ≡ heard (session_of ask) now old.keeping)))
+    ⊎ (Calls old.calling (event_of ask (old.calling.tag + 1) now ∷ []) new.calling × (new.keeping ≡ heard (session_of ask) now old.keeping))
+
+-- An ask that is told a fault stops among the sessions that are due; or before what is asked happens, when the one that asks was heard
+-- of; or behind it.
+abbrev pub IsCutShort : ℤ → List ℤ → Serving → Ask → Serving → Type 0
+IsCutShort now due old ask new =
+    Stops now due old new
+    ⊎ (Calls old.calling (expiries (old.calling.tag + 1) now due) new.calling × (new.keeping ≡ ready now old.keeping ask))
+    ⊎ (Calls old.calling (events_for (old.calling.tag + 1) now due ask) new.calling × KeepsOrNot (ready now old.keeping ask) new.keeping)
+
+-- The tags are those behind the last one that was given out: no call of the seat has them.
+abbrev pub AsksAt : ℤ → List ℤ → Serving → Ask → Result Told ServiceFault → Serving → Type 0
+AsksAt now due old ask (Ok told) new =
+    Calls old.calling (events_for (old.calling.tag + 1) now due ask) new.calling
+    × IsTold (sought_by ask) new.calling.receipts told.reply
+    × (new.keeping ≡ keeps_on now old.keeping ask told.reply)
+AsksAt now due old ask (Err fault) new = IsCutShort now due old ask new
+
+-- at the time that the clock tells, and with the sessions that are due then
+abbrev pub Asks : {C : Type 0} → (C → ℤ → C → Type 0) → C → C → Serving → Ask → Result Told ServiceFault → Serving → Type 0
+Asks tells clock clock' old ask told new = (now : ℤ) × tells clock now clock' × AsksAt now (expired_at old.keeping.deadlines now) old ask told new

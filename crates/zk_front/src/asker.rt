@@ -1,9 +1,9 @@
 //! What an ask makes happen, and what it is told.
 
-ghost use Rattle.std.specs.Prelude.{◌≡◌, ◌⊎◌, ◌+◌, ◌∷◌, [], length, IfOk, OnOk, OnErr};
-ghost use Rattle.zk_front.specs.Calling.{Calls, CallsSome};
-ghost use Rattle.zk_front.specs.Keeping.{IsCutShort, KeepsOrNot, LetsGo, all_let_go, heard, keeping_of, keeps_on, kept, let_go, settled, turn_of};
-ghost use Rattle.zk_front.specs.Remotes.{IsTold, events_for, expiries, expiry};
+ghost use Rattle.std.specs.Prelude.{◌≡◌, ◌+◌, ◌∷◌, [], IfOk, OnOk, OnErr};
+ghost use Rattle.zk_front.specs.Calling.{Calls};
+ghost use Rattle.zk_front.specs.Keeping.{KeepsOrNot, heard, keeping_of, kept, let_go, settled, turn_of};
+ghost use Rattle.zk_front.specs.Remotes.{AsksAt, Expires, IsTold, Misses, Stops, expiry, serving};
 ghost use Rattle.zk_serving.specs.Asks.{event_of, session_of, sought_by};
 ghost use Rattle.zk_serving.specs.declared.sought.Sought.TheVariants as seeks;
 ghost use Rattle.zk_prepare.specs.Deadlines.{expired_at};
@@ -44,22 +44,16 @@ pub(crate) struct Asked {
 impl<L: Ledger, R: Wait> Asker<'_, L, R> {
     /// Each session that is due is closed, and forgotten.
     fn expire_due(&mut self, now: i64) -> Result<(), ServiceFault>
-        ensures called { OnOk result (Calls self.old.caller (expiries (self.old.caller.tag + 1) now (expired_at self.old.clients.tracker now)) self.new.caller) }
-        ensures tag { OnOk result (self.new.caller.tag ≡ self.old.caller.tag + length (expired_at self.old.clients.tracker now)) }
-        ensures some { OnErr result (CallsSome self.old.caller (expiries (self.old.caller.tag + 1) now (expired_at self.old.clients.tracker now)) self.new.caller) }
-        ensures let_go { OnOk result (keeping_of self.new.clients ≡ all_let_go (expired_at self.old.clients.tracker now) (keeping_of self.old.clients)) }
-        ensures left { OnErr result (LetsGo (expired_at self.old.clients.tracker now) (keeping_of self.old.clients) (keeping_of self.new.clients)) }
+        ensures expired { OnOk result (Expires now (expired_at self.old.clients.tracker now) (serving self.old.caller self.old.clients) (serving self.new.caller self.new.clients)) }
+        ensures stopped { OnErr result (Stops now (expired_at self.old.clients.tracker now) (serving self.old.caller self.old.clients) (serving self.new.caller self.new.clients)) }
     {
         let due = self.clients.tracker.expired(now)?;
         self.expire_all(due, now)
     }
 
     fn expire_all(&mut self, due: Vec<i64>, now: i64) -> Result<(), ServiceFault>
-        ensures called { OnOk result (Calls self.old.caller (expiries (self.old.caller.tag + 1) now due.items) self.new.caller) }
-        ensures tag { OnOk result (self.new.caller.tag ≡ self.old.caller.tag + length due.items) }
-        ensures some { OnErr result (CallsSome self.old.caller (expiries (self.old.caller.tag + 1) now due.items) self.new.caller) }
-        ensures let_go { OnOk result (keeping_of self.new.clients ≡ all_let_go due.items (keeping_of self.old.clients)) }
-        ensures left { OnErr result (LetsGo due.items (keeping_of self.old.clients) (keeping_of self.new.clients)) }
+        ensures expired { OnOk result (Expires now due.items (serving self.old.caller self.old.clients) (serving self.new.caller self.new.clients)) }
+        ensures stopped { OnErr result (Stops now due.items (serving self.old.caller self.old.clients) (serving self.new.caller self.new.clients)) }
     {
         for session in due {
             self.expire(session, now)?;
@@ -71,9 +65,8 @@ impl<L: Ledger, R: Wait> Asker<'_, L, R> {
     fn expire(&mut self, session: i64, now: i64) -> Result<(), ServiceFault>
         ensures called { OnOk result (Calls self.old.caller (expiry (self.old.caller.tag + 1) session now ∷ []) self.new.caller) }
         ensures tag { OnOk result (self.new.caller.tag ≡ self.old.caller.tag + 1) }
-        ensures some { OnErr result (CallsSome self.old.caller (expiry (self.old.caller.tag + 1) session now ∷ []) self.new.caller) }
         ensures let_go { OnOk result (keeping_of self.new.clients ≡ let_go session (keeping_of self.old.clients)) }
-        ensures left { OnErr result (LetsGo (session ∷ []) (keeping_of self.old.clients) (keeping_of self.new.clients)) }
+        ensures stopped { OnErr result (Stops now (session ∷ []) (serving self.old.caller self.old.clients) (serving self.new.caller self.new.clients)) }
     {
         let tag = self.caller.next_tag()?;
         self.caller.make(Event::World(zab_runs::Event::Expire {
@@ -98,10 +91,9 @@ impl<L: Ledger, R: Wait> Asker<'_, L, R> {
     fn make_own(&mut self, ask: Ask, now: i64) -> Result<Asked, ServiceFault>
         ensures called { OnOk result (Calls self.old.caller (event_of ask (self.old.caller.tag + 1) now ∷ []) self.new.caller) }
         ensures asked { IfOk result (λ asked. asked.sought ≡ sought_by ask) }
-        ensures some { OnErr result (CallsSome self.old.caller (event_of ask (self.old.caller.tag + 1) now ∷ []) self.new.caller) }
         ensures turn { IfOk result (λ asked. (asked.turn ≡ turn_of ask) × (asked.session ≡ session_of ask) × (asked.now ≡ now)) }
         ensures heard { OnOk result (keeping_of self.new.clients ≡ heard (session_of ask) now (keeping_of self.old.clients)) }
-        ensures left { OnErr result ((keeping_of self.new.clients ≡ keeping_of self.old.clients) ⊎ (keeping_of self.new.clients ≡ heard (session_of ask) now (keeping_of self.old.clients))) }
+        ensures missed { OnErr result (Misses now (serving self.old.caller self.old.clients) ask (serving self.new.caller self.new.clients)) }
     {
         let session = session_of(&ask);
         self.clients.hear(session, now)?;
@@ -122,10 +114,7 @@ impl<L: Ledger, R: Wait> Asker<'_, L, R> {
 impl<L: Ledger, R: Wait + time::Clock> Asker<'_, L, R> {
     /// An ask at this time.
     pub(crate) fn ask(&mut self, ask: Ask, now: i64) -> Result<Told, ServiceFault>
-        ensures told { IfOk result (λ told. Calls self.old.caller (events_for (self.old.caller.tag + 1) now (expired_at self.old.clients.tracker now) ask) self.new.caller × IsTold (sought_by ask) self.new.caller.receipts told.reply) }
-        ensures some { OnErr result (CallsSome self.old.caller (events_for (self.old.caller.tag + 1) now (expired_at self.old.clients.tracker now) ask) self.new.caller) }
-        ensures kept { IfOk result (λ told. keeping_of self.new.clients ≡ keeps_on now (keeping_of self.old.clients) ask told.reply) }
-        ensures left { OnErr result (IsCutShort now (keeping_of self.old.clients) ask (keeping_of self.new.clients)) }
+        ensures { AsksAt now (expired_at self.old.clients.tracker now) (serving self.old.caller self.old.clients) ask result (serving self.new.caller self.new.clients) }
     {
         self.expire_due(now)?;
         let asked = self.make_own(ask, now)?;

@@ -2,7 +2,8 @@
 
 ghost use Rattle.std.specs.Prelude.{◌≡◌, [], IfOk, IfErr};
 ghost use Rattle.zk_front.specs.Calling.{unused};
-ghost use Rattle.zk_front.specs.Remotes.{Asks};
+ghost use Rattle.zk_front.specs.Keeping.{keeping_of, none_kept};
+ghost use Rattle.zk_front.specs.Remotes.{Asks, serving};
 ghost use Rattle.zk_front.specs.Starting.{Begins};
 ghost use Rattle.zk_servers.specs.Turns.{numbers_of, numbers_told};
 
@@ -51,6 +52,7 @@ impl<'s, L: Ledger, R: Wait, C: Clock> Remote<'s, L, R, C> {
     ) -> Result<Remote<'s, L, R, C>, Unstarted<L>>
         requires first { seat ≡ [] }
         ensures begun { IfOk result (λ it. Begins servers unused it.asker.caller) }
+        ensures none { IfOk result (λ it. keeping_of it.asker.clients ≡ none_kept) }
         ensures refused { IfErr result (λ it. numbers_told it.receipts.items ≡ numbers_of it.seat) }
     {
         let mut caller = Caller {
@@ -91,9 +93,8 @@ impl<'s, L: Ledger, R: Wait, C: Clock> Remote<'s, L, R, C> {
 }
 
 impl<L: Ledger, R: Wait + time::Clock, C: Clock> Service for Remote<'_, L, R, C> {
-    ghost does = { λ old ask told new. Asks C.tells old.clock new.clock old.asker.clients.tracker old.asker.caller ask told new.asker.caller };
+    ghost does = { λ old ask told new. Asks C.tells old.clock new.clock (serving old.asker.caller old.asker.clients) ask told (serving new.asker.caller new.asker.clients) };
 
-    #[tactic(auto, using(crate::proofs::Expiring::asks_at))]
     fn ask(&mut self, ask: Ask) -> Result<Told, ServiceFault> {
         let now = self.clock.now();
         self.asker.ask(ask, now)

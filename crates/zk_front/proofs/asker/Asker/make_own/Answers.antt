@@ -1,30 +1,33 @@
-use Rattle.std.proofs.Common.{rules, ◌≡◌, ◌+◌, ◌∷◌, [], List, ℕ, ℤ, length, sym, subst, ap, refl, ◌∙◌, arith, to_z, of_z, w64}
+use Rattle.std.proofs.Common.{rules, ◌≡◌, ◌⊎◌, inl, inr, ◌+◌, ◌∷◌, [], ℕ, ℤ, subst, ap, refl, ◌∙◌, to_z, of_z, w64}
 use Rattle.std.proofs.lemmas.Int.{to_z-of_z}
-use Rattle.zk_front.specs.Calling.{Calling, Calls, CallsOne, CallsSome}
-use Rattle.zk_serving.specs.Asks.{event_of}
-use Rattle.zk_front.proofs.Calling.{on_err, on_ok, one_from, some_all, some_none}
+use Rattle.zk_front.specs.Calling.{Calling, Calls, CallsOne}
+use Rattle.zk_front.specs.Keeping.{heard, keeping_of}
+use Rattle.zk_serving.specs.Asks.{event_of, session_of}
+use Rattle.zk_front.proofs.Calling.{calls_none, on_err, one_from}
 use Rattle.zk_runs.specs.declared.event.Event.{Event}
 use Rattle.zk_front.proofs.asker.Asker.make_own.Goals as goal
 
-pub returns-in_err-hear-clause-some : goal.returns-in_err-hear-clause-some
-returns-in_err-hear-clause-some g c =
+pub returns-in_err-hear-clause-missed : goal.returns-in_err-hear-clause-missed
+returns-in_err-hear-clause-missed g c =
     let old : Calling = c.args.self.now.caller in
-    on_err _ c.from_residual.result (some_none old (event_of c.args.ask (old.tag + 1) c.args.now ∷ []) old refl refl)
+    on_err _ c.from_residual.result (inl (calls_none old old refl refl, inl (search rules)))
 
-pub returns-in_err-tag-clause-some : goal.returns-in_err-tag-clause-some
-returns-in_err-tag-clause-some g c =
-    let old : Calling = c.args.self.now.caller in
-    on_err _ c.from_residual-in_err-tag.result (some_none old (event_of c.args.ask (old.tag + 1) c.args.now ∷ []) c.next_tag.new.self c.next_tag.ensures.same.0 c.next_tag.ensures.same.1)
+pub returns-in_err-tag-clause-missed : goal.returns-in_err-tag-clause-missed
+returns-in_err-tag-clause-missed g c =
+    let heard_of : keeping_of c.hear.new.self ≡ heard (session_of c.args.ask) c.args.now (keeping_of c.args.self.now.clients) = search rules in
+    on_err _ c.from_residual-in_err-tag.result (inl (calls_none c.args.self.now.caller c.next_tag.new.self c.next_tag.ensures.same.0 c.next_tag.ensures.same.1, inr heard_of))
 
-pub returns-in_err-make-clause-some : goal.returns-in_err-make-clause-some
-returns-in_err-make-clause-some g c =
-    let old : Calling = c.args.self.now.caller in
+pub returns-in_err-make-clause-missed : goal.returns-in_err-make-clause-missed
+returns-in_err-make-clause-missed g c =
     let same : c.make.new.self ≡ c.next_tag.new.self = c.in_err-make.ensures.refused in
-    on_err _ c.from_residual-in_err-make.result (some_none old (event_of c.args.ask (old.tag + 1) c.args.now ∷ []) c.make.new.self
-    (ap (λ (x : Calling). x.calls) same ∙ c.next_tag.ensures.same.0) (ap (λ (x : Calling). x.receipts) same ∙ c.next_tag.ensures.same.1))
+    let heard_of : keeping_of c.hear.new.self ≡ heard (session_of c.args.ask) c.args.now (keeping_of c.args.self.now.clients) = search rules in
+    on_err _ c.from_residual-in_err-make.result (inl (
+      calls_none c.args.self.now.caller c.make.new.self (ap (λ (x : Calling). x.calls) same ∙ c.next_tag.ensures.same.0) (ap (λ (x : Calling). x.receipts) same ∙ c.next_tag.ensures.same.1),
+      inr heard_of,
+    ))
 
-pub returns-in_err-accepted-clause-some : goal.returns-in_err-accepted-clause-some
-returns-in_err-accepted-clause-some g c =
+pub returns-in_err-accepted-clause-missed : goal.returns-in_err-accepted-clause-missed
+returns-in_err-accepted-clause-missed g c =
     let old : Calling = c.args.self.now.caller in
     let between : Calling = c.next_tag.new.self in
     let new : Calling = c.make.new.self in
@@ -32,6 +35,9 @@ returns-in_err-accepted-clause-some g c =
     let now : ℤ = to_z w64 (of_z w64 c.args.now) in
     let raw : CallsOne between (event_of c.args.ask tag now) new = subst (λ (e : Event). CallsOne between e new) c.event_of.ensures c.in_ok-make.ensures.called in
     let own : CallsOne between (event_of c.args.ask tag c.args.now) new = subst (λ (n : ℤ). CallsOne between (event_of c.args.ask tag n) new) (to_z-of_z w64 c.args.now c.ranges.now) raw in
-    on_err _ c.from_residual-in_err-accepted.result (some_all old (event_of c.args.ask (old.tag + 1) c.args.now ∷ []) new
-    (subst (λ (n : ℕ). Calls old (event_of c.args.ask n c.args.now ∷ []) new) c.in_ok-tag.ensures.next
-    (one_from old between new (event_of c.args.ask tag c.args.now) c.next_tag.ensures.same.0 c.next_tag.ensures.same.1 own)))
+    let heard_of : keeping_of c.hear.new.self ≡ heard (session_of c.args.ask) c.args.now (keeping_of c.args.self.now.clients) = search rules in
+    on_err _ c.from_residual-in_err-accepted.result (inr (
+      subst (λ (n : ℕ). Calls old (event_of c.args.ask n c.args.now ∷ []) new) c.in_ok-tag.ensures.next
+          (one_from old between new (event_of c.args.ask tag c.args.now) c.next_tag.ensures.same.0 c.next_tag.ensures.same.1 own),
+      heard_of,
+    ))
