@@ -147,10 +147,10 @@ asked_told now due ask old between after new seeks turn session at (Ok told) is 
   subst (λ (x : Calling). Calls old.calling (events_for (old.calling.tag + 1) now due ask) x) (sym same) (asked_whole now due ask old between after.calling before own),
   subst (λ (s : Sought). IsTold s new.calling.receipts told.reply) sought fits,
   kept
-  ∙ ap (λ t. settled t session at told.reply after.keeping) turns
-  ∙ ap (λ s. settled (turn_of ask) s at told.reply after.keeping) who
-  ∙ ap (λ n. settled (turn_of ask) (session_of ask) n told.reply after.keeping) when
-  ∙ ap (settled (turn_of ask) (session_of ask) now told.reply) (is_ready now due ask old between after.keeping is before was),
+      ∙ ap (λ t. settled t session at told.reply after.keeping) turns
+      ∙ ap (λ s. settled (turn_of ask) s at told.reply after.keeping) who
+      ∙ ap (λ n. settled (turn_of ask) (session_of ask) n told.reply after.keeping) when
+      ∙ ap (settled (turn_of ask) (session_of ask) now told.reply) (is_ready now due ask old between after.keeping is before was),
 )
 asked_told now due ask old between after new seeks turn session at (Err fault) is before own was sought turns who when same fits kept left = inr (inr (
   subst (λ (x : Calling). Calls old.calling (events_for (old.calling.tag + 1) now due ask) x) (sym same) (asked_whole now due ask old between after.calling before own),
