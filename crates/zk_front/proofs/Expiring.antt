@@ -15,7 +15,7 @@ use Rattle.zk_front.specs.Keeping.{Keeping, KeepsOrNot, all_let_go, heard, let_g
 use Rattle.zk_front.specs.Remotes.{AsksAt, Expires, IsCutShort, IsTold, Misses, Serving, Stops, events_for, expiries, expiry}
 use Rattle.zk_front.specs.declared.turn.Turn.{Turn}
 use Rattle.zk_front.proofs.Calling.{calls_none, calls_then}
-use Rattle.zk_front.proofs.Keeping.{all_let_go_more}
+use Rattle.zk_front.proofs.Keeping.{all_let_go_more, none_opened}
 
 -- ---- sessions that are due
 
@@ -133,16 +133,16 @@ asked_missed now due ask old between new is before (inl (none, inl same)) = inl 
   left = same ∙ before.left;
 })
 asked_missed now due ask old between new is before (inl (none, inr own)) = inr (inl (after_due now due old between new.calling before none, is_ready now due ask old between new.keeping is before own))
-asked_missed now due ask old between new is before (inr (own, was)) = inr (inr (asked_whole now due ask old between new.calling before own, inl (is_ready now due ask old between new.keeping is before was)))
+asked_missed now due ask old between new is before (inr (own, was)) = inr (inr (asked_whole now due ask old between new.calling before own, none_opened (turn_of ask) now (ready now old.keeping ask) new.keeping (is_ready now due ask old between new.keeping is before was)))
 
-keeps_or_not : (a b new : Keeping) → a ≡ b → KeepsOrNot a new → KeepsOrNot b new
-keeps_or_not a b new same kept = subst (λ x. KeepsOrNot x new) same kept
+keeps_or_not : (turn turn' : Turn) (at now : ℤ) (a b new : Keeping) → turn ≡ turn' → at ≡ now → a ≡ b → KeepsOrNot turn at a new → KeepsOrNot turn' now b new
+keeps_or_not turn turn' at now a b new turns when same kept = subst (λ t. KeepsOrNot t now b new) turns (subst (λ n. KeepsOrNot turn n b new) when (subst (λ x. KeepsOrNot turn at x new) same kept))
 
 -- once the own event was called, what is told decides
 pub asked_told : (now : ℤ) (due : List ℤ) (ask : Ask) (old between after new : Serving) (seeks : Sought) (turn : Turn) (session at : ℤ) (r : Result Told ServiceFault) → due ≡ expired_at old.keeping.deadlines now → Expires now due old between
     → Calls between.calling (event_of ask (between.calling.tag + 1) now ∷ []) after.calling → after.keeping ≡ heard (session_of ask) now between.keeping
     → seeks ≡ sought_by ask → turn ≡ turn_of ask → session ≡ session_of ask → at ≡ now → new.calling ≡ after.calling → IfOk r (λ told. IsTold seeks new.calling.receipts told.reply)
-    → IfOk r (λ told. new.keeping ≡ settled turn session at told.reply after.keeping) → OnErr r (KeepsOrNot after.keeping new.keeping) → AsksAt now due old ask r new
+    → IfOk r (λ told. new.keeping ≡ settled turn session at told.reply after.keeping) → OnErr r (KeepsOrNot turn at after.keeping new.keeping) → AsksAt now due old ask r new
 asked_told now due ask old between after new seeks turn session at (Ok told) is before own was sought turns who when same fits kept left = (
   subst (λ (x : Calling). Calls old.calling (events_for (old.calling.tag + 1) now due ask) x) (sym same) (asked_whole now due ask old between after.calling before own),
   subst (λ (s : Sought). IsTold s new.calling.receipts told.reply) sought fits,
@@ -154,7 +154,7 @@ asked_told now due ask old between after new seeks turn session at (Ok told) is 
 )
 asked_told now due ask old between after new seeks turn session at (Err fault) is before own was sought turns who when same fits kept left = inr (inr (
   subst (λ (x : Calling). Calls old.calling (events_for (old.calling.tag + 1) now due ask) x) (sym same) (asked_whole now due ask old between after.calling before own),
-  keeps_or_not after.keeping (ready now old.keeping ask) new.keeping (is_ready now due ask old between after.keeping is before was) left,
+  keeps_or_not turn (turn_of ask) at now after.keeping (ready now old.keeping ask) new.keeping turns when (is_ready now due ask old between after.keeping is before was) left,
 ))
 
 pub asked_fault : (now : ℤ) (due : List ℤ) (ask : Ask) (old new : Serving) (r : Result Told ServiceFault) (fault : ServiceFault) → r ≡ Err fault → IsCutShort now due old ask new → AsksAt now due old ask r new

@@ -1,12 +1,14 @@
 -- What becomes of the sessions that are kept.
-use Rattle.std.proofs.Common.{◌≡◌, ℤ, Bool, true, cond, List, [], ◌∷◌, ◌++◌, Option, Some, None, int_cmp, refl, sym, ap, subst, ◌∙◌}
+use Rattle.std.proofs.Common.{◌≡◌, inl, ℤ, Bool, true, cond, List, [], ◌∷◌, ◌++◌, Option, Some, None, int_cmp, refl, sym, ap, subst, ◌∙◌}
 use Rattle.std.specs.BTreeMap as tree
 use Rattle.std.specs.BTreeMap.{BTreeMap}
 use Rattle.std.specs.FinMap as finite
 use Rattle.std.specs.FinMap.{FinMap}
 use Rattle.zk_prepare.specs.Deadlines.{DeadlineMap, touched, forgotten}
 use Rattle.zk_tree.proofs.Kept.{get-sessions, sessions_inserted, sessions_removed}
-use Rattle.zk_front.specs.Keeping.{Keeping, all_let_go, heard, heard_by, kept, let_go}
+use Rattle.zk_front.specs.Keeping.{Keeping, KeepsOrNot, all_let_go, heard, heard_by, kept, let_go}
+use Rattle.zk_front.specs.declared.turn.Turn.{Turn}
+use Rattle.zk_front.specs.declared.turn.Turn.TheVariants as turns
 
 abbrev pub keeping : FinMap int_cmp ℤ → DeadlineMap → Keeping
 keeping timeouts deadlines = record { timeouts = timeouts; deadlines = deadlines }
@@ -45,3 +47,9 @@ heard_is session key now timeouts found before after same is due =
 pub all_let_go_more : (first more : List ℤ) (it : Keeping) → all_let_go (first ++ more) it ≡ all_let_go more (all_let_go first it)
 all_let_go_more [] more it = refl
 all_let_go_more (session ∷ first) more it = all_let_go_more first more (let_go session it)
+
+-- nothing is left of a session that was opened
+pub none_opened : (turn : Turn) (now : ℤ) (old new : Keeping) → new ≡ old → KeepsOrNot turn now old new
+none_opened (turns.Opens timeout) now old new same = inl same
+none_opened turns.Closes now old new same = same
+none_opened turns.Neither now old new same = same

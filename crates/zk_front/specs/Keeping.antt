@@ -82,6 +82,8 @@ ready now it ask = heard (session_of ask) now (all_let_go (expired_at it.deadlin
 abbrev pub keeps_on : ℤ → Keeping → Ask → Reply → Keeping
 keeps_on now it ask reply = settled (turn_of ask) (session_of ask) now reply (ready now it ask)
 
--- Where memory was refused for a session that it opened, that is due once, and is closed then.
-abbrev pub KeepsOrNot : Keeping → Keeping → Type 0
-KeepsOrNot old new = (new ≡ old) ⊎ ((session : ℤ) × (timeout : ℤ) × (now : ℤ) × (new ≡ due_once session timeout now old))
+-- where it is told a fault: one that it opened is due once, or nothing is left of it
+abbrev pub KeepsOrNot : Turn → ℤ → Keeping → Keeping → Type 0
+KeepsOrNot (turns.Opens timeout) now old new = (new ≡ old) ⊎ ((session : ℤ) × (new ≡ due_once session (clamp timeout) now old))
+KeepsOrNot turns.Closes now old new = new ≡ old
+KeepsOrNot turns.Neither now old new = new ≡ old

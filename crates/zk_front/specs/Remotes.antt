@@ -16,7 +16,7 @@ use Rattle.zk_runs.specs.declared.event.Event.{Event}
 use Rattle.zk_runs.specs.declared.event.Event.TheVariants as events
 use Rattle.zk_chronicle.specs.declared.record.Receipt.{Receipt}
 use Rattle.zk_front.specs.Calling.{Calling, Calls}
-use Rattle.zk_front.specs.Keeping.{Keeping, KeepsOrNot, all_let_go, heard, keeping_of, keeps_on, ready}
+use Rattle.zk_front.specs.Keeping.{Keeping, KeepsOrNot, all_let_go, heard, keeping_of, keeps_on, ready, turn_of}
 use Rattle.zk_front.specs.declared.clients.Clients.{Clients}
 
 -- ---- what an ask makes happen
@@ -88,7 +88,7 @@ abbrev pub IsCutShort : ℤ → List ℤ → Serving → Ask → Serving → Typ
 IsCutShort now due old ask new =
     Stops now due old new
     ⊎ (Calls old.calling (expiries (old.calling.tag + 1) now due) new.calling × (new.keeping ≡ ready now old.keeping ask))
-    ⊎ (Calls old.calling (events_for (old.calling.tag + 1) now due ask) new.calling × KeepsOrNot (ready now old.keeping ask) new.keeping)
+    ⊎ (Calls old.calling (events_for (old.calling.tag + 1) now due ask) new.calling × KeepsOrNot (turn_of ask) now (ready now old.keeping ask) new.keeping)
 
 -- The tags are those behind the last one that was given out: no call of the seat has them.
 abbrev pub AsksAt : ℤ → List ℤ → Serving → Ask → Result Told ServiceFault → Serving → Type 0

@@ -1,8 +1,8 @@
 //! What an ask makes happen, and what it is told.
 
-ghost use Rattle.std.specs.Prelude.{◌≡◌, ◌+◌, ◌∷◌, [], IfOk, OnOk, OnErr};
+ghost use Rattle.std.specs.Prelude.{◌≡◌, ◌⊎◌, ◌+◌, ◌∷◌, [], IfOk, OnOk, OnErr};
 ghost use Rattle.zk_front.specs.Calling.{Calls};
-ghost use Rattle.zk_front.specs.Keeping.{KeepsOrNot, heard, keeping_of, kept, let_go, settled, turn_of};
+ghost use Rattle.zk_front.specs.Keeping.{KeepsOrNot, due_once, heard, keeping_of, kept, let_go, settled, turn_of};
 ghost use Rattle.zk_front.specs.Remotes.{AsksAt, Expires, IsTold, Misses, Stops, expiry, serving};
 ghost use Rattle.zk_serving.specs.Asks.{event_of, session_of, sought_by};
 ghost use Rattle.zk_serving.specs.declared.sought.Sought.TheVariants as seeks;
@@ -122,11 +122,12 @@ impl<L: Ledger, R: Wait + time::Clock> Asker<'_, L, R> {
     }
 
     /// What is told once it is there.
+    #[tactic(auto, using(crate::proofs::Keeping::none_opened))]
     fn told(&mut self, asked: Asked) -> Result<Told, ServiceFault>
         ensures told { IfOk result (λ told. IsTold asked.sought self.new.caller.receipts told.reply) }
         ensures same { self.new.caller ≡ self.old.caller }
         ensures kept { IfOk result (λ told. keeping_of self.new.clients ≡ settled asked.turn asked.session asked.now told.reply (keeping_of self.old.clients)) }
-        ensures left { OnErr result (KeepsOrNot (keeping_of self.old.clients) (keeping_of self.new.clients)) }
+        ensures left { OnErr result (KeepsOrNot asked.turn asked.now (keeping_of self.old.clients) (keeping_of self.new.clients)) }
     {
         let Asked {
             session,
@@ -149,6 +150,7 @@ impl<L: Ledger, R: Wait + time::Clock> Asker<'_, L, R> {
         Ok(Told { events, reply })
     }
 
+    #[tactic(auto, using(crate::proofs::Keeping::none_opened))]
     fn reply(
         &mut self,
         asked: Asked,
@@ -158,7 +160,7 @@ impl<L: Ledger, R: Wait + time::Clock> Asker<'_, L, R> {
         ensures told { IfOk result (λ reply. IsTold asked.sought self.new.caller.receipts reply) }
         ensures same { self.new.caller ≡ self.old.caller }
         ensures kept { IfOk result (λ reply. keeping_of self.new.clients ≡ settled asked.turn asked.session asked.now reply (keeping_of self.old.clients)) }
-        ensures left { OnErr result (KeepsOrNot (keeping_of self.old.clients) (keeping_of self.new.clients)) }
+        ensures left { OnErr result (KeepsOrNot asked.turn asked.now (keeping_of self.old.clients) (keeping_of self.new.clients)) }
     {
         match asked.sought {
             Sought::Written => self.wrote(asked, answered),
@@ -168,11 +170,12 @@ impl<L: Ledger, R: Wait + time::Clock> Asker<'_, L, R> {
     }
 
     /// What a write is told. One that opened or closed a session begins or ends that it is kept.
+    #[tactic(auto, using(crate::proofs::Keeping::none_opened))]
     fn wrote(&mut self, asked: Asked, answered: Option<Answered>) -> Result<Reply, ServiceFault>
         ensures told { IfOk result (λ reply. IsTold seeks.Written self.new.caller.receipts reply) }
         ensures same { self.new.caller ≡ self.old.caller }
         ensures kept { IfOk result (λ reply. keeping_of self.new.clients ≡ settled asked.turn asked.session asked.now reply (keeping_of self.old.clients)) }
-        ensures left { OnErr result (KeepsOrNot (keeping_of self.old.clients) (keeping_of self.new.clients)) }
+        ensures left { OnErr result (KeepsOrNot asked.turn asked.now (keeping_of self.old.clients) (keeping_of self.new.clients)) }
     {
         let Some(Answered { result: wrote, .. }) = answered else {
             return Err(ServiceFault::Server);
@@ -191,7 +194,7 @@ impl<L: Ledger, R: Wait + time::Clock> Asker<'_, L, R> {
     fn keep(&mut self, session: i64, timeout: i32, now: i64) -> Result<(), ServiceFault>
         ensures same { self.new.caller ≡ self.old.caller }
         ensures kept { OnOk result (keeping_of self.new.clients ≡ kept session (clamp timeout) now (keeping_of self.old.clients)) }
-        ensures left { OnErr result (KeepsOrNot (keeping_of self.old.clients) (keeping_of self.new.clients)) }
+        ensures left { OnErr result ((keeping_of self.new.clients ≡ keeping_of self.old.clients) ⊎ (keeping_of self.new.clients ≡ due_once session (clamp timeout) now (keeping_of self.old.clients))) }
     {
         self.clients
             .keep(session, clamp(timeout), now, self.mark.events)?;

@@ -1,7 +1,7 @@
 //! The sessions of a service: when each is due, and how far it was told events.
 
-ghost use Rattle.std.specs.Prelude.{◌≡◌, OnOk, OnErr};
-ghost use Rattle.zk_front.specs.Keeping.{KeepsOrNot, heard, keeping_of, kept, let_go, none_kept};
+ghost use Rattle.std.specs.Prelude.{◌≡◌, ◌⊎◌, OnOk, OnErr};
+ghost use Rattle.zk_front.specs.Keeping.{due_once, heard, keeping_of, kept, let_go, none_kept};
 
 use std::alloc::Global;
 use std::collections::BTreeMap;
@@ -60,7 +60,7 @@ impl Clients {
         events: usize,
     ) -> Result<(), NoMemory>
         ensures kept { OnOk result (keeping_of self.new ≡ kept session timeout now (keeping_of self.old)) }
-        ensures refused { OnErr result (KeepsOrNot (keeping_of self.old) (keeping_of self.new)) }
+        ensures refused { OnErr result ((keeping_of self.new ≡ keeping_of self.old) ⊎ (keeping_of self.new ≡ due_once session timeout now (keeping_of self.old))) }
     {
         self.tracker.touch(session, timeout, now)?;
         self.tell(session, events)?;
