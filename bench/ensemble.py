@@ -4,11 +4,11 @@ what a follower costs that joins its leader again and lacks ten entries of many.
 
 usage: bench/ensemble.py     in a checkout; the first run proves its load, for an hour or so (bench/loads.py)
 
-The load `ensemble` runs five servers under 2,000 calls, waits, and then applies what the last leader has delivered to as many machines as
-it is told; at its end it frees what the servers hold, which no server does while it runs. What the calls took is read while the
+The load `ensemble` runs five servers under 2,000 calls, waits, and then applies what the last leader has delivered to a number
+of machines. At its end it frees what the servers hold, which no server does while it runs. What the calls took is read while the
 load waits. The least of several runs counts; what the machines cost is taken from a run with a hundred of them. What it costs to
-join again is taken from runs in which that happens a thousand times, behind 2,000 and 100,000 calls, each beside a run with as many
-calls in which nobody joins again.
+join again is taken from runs in which that happens a thousand times, after 2,000 and 100,000 calls, each beside a run with as many
+calls in which no server joins again.
 """
 import os
 import subprocess
@@ -51,8 +51,7 @@ def run(calls, machines=0, joins=0):
 
 
 def join(calls, turns):
-    """The CPU seconds that it costs that a follower does not hear ten calls and joins again, behind so many calls, beyond those of ten calls
-    that all hear."""
+    """The CPU seconds of a follower that misses ten calls and joins again, after `calls` calls, beyond those of ten calls that all hear."""
     joined = min(run(calls, 0, JOINS) for _ in range(turns))[0]
     return (joined - min(run(calls + LACKS * JOINS) for _ in range(turns))[0]) / JOINS
 
@@ -72,7 +71,7 @@ def main():
     print("%d calls, %d events: %.3f s, %.1f times as long; with its end %.3f s, %.1f times"
           % (CALLS * MORE, more_events, more, more / seconds, more_whole, more_whole / whole))
     for calls, turns in ((CALLS, TURNS), (MANY, 3)):
-        print("behind %d calls it costs %.3f ms more that a follower lacks ten entries and joins again than that it hears them"
+        print("after %d calls it costs %.3f ms more that a follower lacks ten entries and joins again than that it hears them"
               % (calls, join(calls, turns) * 1e3))
 
 

@@ -1,10 +1,10 @@
 #!/usr/bin/env python3
 """The proved test program of the loads that prepare.py, ensemble.py and readers.py measure.
 
-usage: bench/loads.py     tells where it is, for whoever hands a load other numbers:
+usage: bench/loads.py     prints its path, to run a load with other numbers:
                           ZK_LOAD='2000 100' "$(python3 bench/loads.py)" loads::ensemble
 
-The loads are the files of bench/loads: tests of a crate that is none of the repository's, for the gate proves each one of those. So
+The loads are the files of bench/loads: tests of a crate outside the repository, because the gate proves each crate in it. So
 a copy of the repository's crates is made in the system's folder of temporary files, with this crate beside them, and `rt test` runs
 there. It proves the loads and all that they stand on, for an hour or so where nothing else runs. The copy is named by the sum
 of its files. So what was proved once is found again, and an interrupted proof goes on; where a file changed, a new copy is made.
@@ -21,7 +21,7 @@ LOADS = ROOT / "bench" / "loads"
 COPIED = ("crates", "crates.txt", "HANDLES")
 CRATE = "zk_loads"
 # what the files of bench/loads name
-NAMED = "anyhow zk_servers zk_views zk_prepare zk_machine zab_runs zab_epoch zk_table zk_acl zk_path zk_requests zk_runs"
+NAMED = "anyhow zk_servers zk_views zk_prepare zk_machine zab_model zab_epoch zk_table zk_acl zk_path zk_requests zk_model"
 
 
 def files() -> dict[str, bytes]:

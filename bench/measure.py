@@ -27,7 +27,7 @@ def run(words, output):
 
 
 def measured(commands):
-    """For each command, a name, its words and where its output goes: the least CPU seconds and the peak memory."""
+    """For each command, a name, its words and its output: the least CPU seconds and the peak memory."""
     seconds = {name: [] for name, _, _ in commands}
     memory = {}
     for _ in range(TURNS):
@@ -60,7 +60,7 @@ def there_back_and_there(folder):
 
 
 def of_a_log(folder, total, mix):
-    """`show` and `list` of a log, and `debug` where its tree grows. Answers what they took."""
+    """`show` and `list` of a log, and `debug` where its tree grows. Returns what they took."""
     log, size = make(folder, total, mix)
     commands = [
         ("sha1sum", ["sha1sum", log], os.devnull),

@@ -3,8 +3,8 @@
 
 usage: bench/mend.py     in a checkout where `rt ci`, or `rt run` in crates/zk_cli, has left the proved program
 
-The log is that of a growing tree, as bench/measure.py has it, with a digest behind each record but an error's, as a newer
-server writes them. The sums are made up: each is compared with the table's all the same, and is told as another.
+The log is that of a growing tree, as bench/measure.py has it, with a digest after each record but an error's, as a 3.8
+server writes them. The sums are invented: each is compared with the table's and reported as mismatched.
 """
 import os
 import struct
@@ -22,7 +22,7 @@ ERROR = -1
 
 
 def with_digests(log):
-    """The same log with a digest of version 2 behind each record but an error's."""
+    """The same log with a digest of version 2 after each record but an error's."""
     made = bytearray(log[:HEADER])
     at = HEADER
     while at < len(log):

@@ -1,5 +1,5 @@
 #!/usr/bin/env python3
-"""Tells what the seconds of a crate's proof go into: the kinds of modules that the prover makes of it, and the dearest ones.
+"""Prints what the seconds of a crate's proof go into: the kinds of modules that the prover makes of it, and the slowest ones.
 
 usage: python3 bench/modules.py CRATE     in a checkout where `rt ci` has left the libraries, and while nothing else runs
 

@@ -1,5 +1,5 @@
 #!/usr/bin/env python3
-"""Measures how many reads a second the readers of one server's view answer together, beside a thread that calls; and what a publish
+"""Measures how many reads a second the readers of one server's view make together, beside a thread that calls; and what a publish
 costs beside applying its transactions.
 
 usage: bench/readers.py     in a checkout; the first run proves its load, for an hour or so (bench/loads.py)
@@ -8,9 +8,9 @@ The seconds of reads are those of a clock on the wall, less those of a run witho
 One core is the calling thread's, and as many others as there are readers are free, if the machine has them.
 
 A publish is measured in a view whose tree has some nodes: transactions that set what these hold are published one by one, or several at
-once as after a reconnect. The same transactions are applied to a machine with the same nodes, as a server does that somebody watches. Either is told in CPU microseconds a
+once as after a reconnect. The same transactions are applied to a machine with the same nodes, as a server does whose nodes are watched. Both are in CPU microseconds a
 transaction: those of runs with many transactions, less those of runs with a few, so that what comes before and the first publish, which
-makes the nodes in the second machine, count for neither. What the view's two lists take is a part of a publish; the lock, the chronicle and
+creates the nodes in the second machine, count for neither. What the view's two lists take is a part of a publish; the lock, the chronicle and
 the event are none. The least of several runs counts, and runs of each kind take turns, so that a busy minute strikes all alike.
 """
 import os
@@ -29,7 +29,7 @@ TURNS = 5
 
 
 def run(readers, reads, nodes=0, txns=0, at_once=1, views=0, machines=0):
-    """The seconds by the clock, and the CPU seconds."""
+    """The wall-clock seconds, and the CPU seconds."""
     words = " ".join(str(it) for it in (readers, reads, nodes, txns, at_once, views, machines))
     tests = program()
     before = time.monotonic()

@@ -1,15 +1,16 @@
 #!/usr/bin/env python3
 """Measures what a line costs over one connection to `zk serve` with three servers: creates, sets, gets, and nine gets to one set, with
-1, 16 and 128 lines in flight; and what 100,000 creates cost beside 50,000.
+1, 16 and 128 lines in flight; what 100,000 creates cost beside 50,000; and how many bytes of memory each line leaves, which the servers
+keep until they end: each event with its answer, its call and its receipt, and of a write the entries and messages of all servers.
 
 usage: bench/serve.py [LINES [PORT]]     in a checkout where `rt ci`, or `rt run` in crates/zk_cli, has left the proved program;
 with a PORT the servers that listen there are measured, over one connection, and no program is started
 
-The client is this script, over a raw socket of the loopback: the bytes of all lines are packed before the clock starts, so many of
-them are sent at once as are in flight, and the next ones once all of these are answered. Beside it an echo, which answers each such
-piece with as many bytes, tells what the client and the system cost alone: the floor. Microseconds are those of a clock on the wall, so
-nothing else may run on the machine; the load before and behind is told. Processor microseconds are those of the process that answers.
-The least of several runs counts, in each.
+The client is this script, over a raw socket of the loopback: the bytes of all lines are packed before the clock starts. The
+lines in flight are sent at once, and the next ones once all their replies have come. Beside it an echo, which replies to each such
+chunk with as many bytes, shows what the client and the system cost alone: the floor. Microseconds are wall-clock, so nothing else may
+run on the machine; the load before and after is printed. CPU microseconds are those of the process that replies. The least of several
+runs counts, in each.
 """
 import os
 import socket
@@ -55,12 +56,12 @@ def connected(port):
 
 
 def pieces_of(lines, depth):
-    """The lines in pieces of so many, each with how many answers it has."""
+    """The lines in chunks of `depth`, each with its number of replies."""
     return [(b"".join(lines[at:at + depth]), len(lines[at:at + depth])) for at in range(0, len(lines), depth)]
 
 
 def answered(stream, pieces):
-    """Sends each piece once the one before is answered. The bytes of each piece's answers."""
+    """Sends each chunk once the replies to the one before have come. The bytes of each chunk's replies."""
     lengths = []
     for piece, lines in pieces:
         stream.sendall(piece)
@@ -83,11 +84,32 @@ def processor_seconds(pid):
 
 
 def measured(pid, stream, lines, depth):
-    """Seconds by the clock, processor seconds of the process that answers, and the lengths of answers."""
+    """Wall-clock seconds, CPU seconds of the process that replies, and the lengths of replies."""
     pieces = pieces_of(lines, depth)
     busy, start = processor_seconds(pid), time.monotonic()
     lengths = answered(stream, pieces)
     return time.monotonic() - start, processor_seconds(pid) - busy, lengths
+
+
+def resident_bytes(pid):
+    for line in open("/proc/%d/status" % pid):
+        if line.startswith("VmRSS:"):
+            return int(line.split()[1]) * 1024
+    sys.exit("no resident set is told")
+
+
+def kept(lines):
+    """Returns the resident bytes that each line of the second half adds."""
+    child, port = started()
+    stream = prepared(port)
+    half = len(lines) // 2
+    answered(stream, pieces_of(lines[:half], 128))
+    before = resident_bytes(child.pid)
+    answered(stream, pieces_of(lines[half:], 128))
+    grown = resident_bytes(child.pid) - before
+    stream.close()
+    child.wait()
+    return grown / (len(lines) - half)
 
 
 def free_port():
@@ -115,7 +137,7 @@ def prepared(port):
 
 
 def served(lines, depth):
-    """The least seconds and processor seconds of several runs, each against new servers."""
+    """The least seconds and CPU seconds of several runs, each against new servers."""
     runs = []
     for _ in range(TURNS):
         child, port = started()
@@ -127,7 +149,7 @@ def served(lines, depth):
 
 
 def echo(listener, pieces, lengths):
-    """Answers each piece with so many bytes."""
+    """Replies to each chunk with as many bytes."""
     stream = listener.accept()[0]
     stream.setsockopt(socket.IPPROTO_TCP, socket.TCP_NODELAY, 1)
     for (piece, lines), length in zip(pieces, lengths):
@@ -158,7 +180,7 @@ def echoed(lines, depth, lengths):
 def told(kind, depth, count, seconds, busy, floor):
     each = 1e6 / count
     floor = "" if floor is None else ", the echo %.1f" % (floor * each)
-    print("%-18s %3d in flight: %6.1f microseconds a line, %6.1f of the processor%s" % (kind, depth, seconds * each, busy * each, floor), flush=True)
+    print("%-18s %3d in flight: %6.1f microseconds a line, %6.1f of CPU%s" % (kind, depth, seconds * each, busy * each, floor), flush=True)
 
 
 def of_a_port(count, port):
@@ -188,8 +210,10 @@ def main():
             seconds, busy, lengths = served(lines, depth)
             told(kind, depth, count, seconds, busy, echoed(lines, depth, lengths))
     few, many = (served(creates(it), 128) for it in (50000, 100000))
-    print("100,000 creates cost %.2f times what 50,000 cost by the clock, %.2f times of the processor" % (many[0] / few[0], many[1] / few[1]))
-    print("load behind: %.2f" % os.getloadavg()[0])
+    print("100,000 creates cost %.2f times what 50,000 cost in wall-clock time, %.2f times in CPU time" % (many[0] / few[0], many[1] / few[1]))
+    for kind, lines_of in KINDS.items():
+        print("%-18s keep %7.0f bytes a line, over %s servers" % (kind, kept(lines_of(4 * count)), SERVERS), flush=True)
+    print("load after: %.2f" % os.getloadavg()[0])
 
 
 if __name__ == "__main__":

@@ -1,13 +1,13 @@
 #!/usr/bin/env python3
-"""Clients of `zk serve`, and what they are answered. Each conversation has three servers of its own and is held twice: once each
-line is sent when the one before it is answered, and once all are sent together. Its lines:
+"""Clients of `zk serve`, and the replies to them. Each conversation has three servers of its own and is held twice: once each line is
+sent after the reply to the one before it, and once all are sent together. Its lines:
 
     > LINE      a line that the client sends
     ~ LINE      the same without its newline; where more follows, that is sent a while later
-    LINE        what the line above is answered: the events, and then the answer. T is a time while the check ran
+    LINE        the reply to the line above: the events, and then the reply itself. T is a time while the check ran
 
-Behind the last line the client's input ends. `checks/serve.sh` has connections in turn, and what takes time; run scripts with the
-same requests and reads stand in `checks/rows`.
+After the last line the client's input ends. `checks/serve.sh` has connections in turn, and what takes time; run scripts with the
+same requests and reads stand in `checks/golden`.
 """
 import os
 import re
@@ -25,10 +25,10 @@ from random import randrange
 ROOT = Path(__file__).resolve().parent.parent
 PROGRAM = Path(os.environ.get("ZK", ROOT / "crates" / "zk_cli" / "out" / "zk_cli"))
 
-# So many conversations are held side by side.
+# The number of conversations that are held side by side.
 LANES = 4
 
-# What is between two pieces of a line, in seconds.
+# The pause between two chunks of a line, in seconds.
 PAUSE = 0.02
 
 # How long an answer is waited for, in seconds.
@@ -242,7 +242,7 @@ err -101
 imok
 """
 
-# Each other line without a session, and in one those that are none of the table; reads and syncs of what is no path.
+# Each other line without a session, and in one those that are not in the table; reads and syncs of what is no path.
 EACH_LINE = """
 > addauth digest "alice:secret"
 err -112
@@ -365,7 +365,7 @@ ok x22 0000000100000014 0000000100000014 T T 0 0 0 0000000100000001 1 0 00000001
 ok
 """
 
-# Events of each kind, each told once and before the answer, and none without `-w`.
+# Events of each kind, each sent once and before the reply, and none without `-w`.
 EVENTS = """
 > open 30000
 ok 0000000100000001 30000
@@ -404,7 +404,54 @@ ok
 ok
 """
 
-# How bytes come to lines: pieces of one, an empty line, one that is no text, one that is too long, and an end without a newline.
+# Errors by the state of the tree: a node that only its access control list or its children protect,
+# and one of a session.
+PROTECTED = """
+> open 30000
+ok 0000000100000001 30000
+> create -e "/e" x 1 31 "world" "anyone"
+ok "/e"
+> create "/e/c" x 1 31 "world" "anyone"
+err -108
+> create "/a" x 1 31 "world" "anyone"
+ok "/a"
+> create "/a/b" x 1 31 "world" "anyone"
+ok "/a/b"
+> delete "/a" -1
+err -111
+> create "/r" x 1 30 "world" "anyone"
+ok "/r"
+> get -w "/r"
+err -102
+> ls -w "/r"
+err -102
+> create "/n" x 1 1 "world" "anyone"
+ok "/n"
+> set "/n" x01 0
+err -102
+> create "/n/c" x 1 31 "world" "anyone"
+err -102
+> setacl "/n" 1 31 "world" "anyone" -1
+err -102
+> multi
+> check "/r" 0
+> delete "/a" -1
+> commit
+err -102 ; -102 - - ; -2 - -
+> multi
+> check "/n" 0
+> delete "/a" -1
+> commit
+err -111 ; 0 "/n" - ; -111 - -
+> set "/r" x01 0
+ok 0000000100000007 000000010000000e T T 1 0 0 0000000000000000 1 0 0000000100000007
+> get "/n"
+ok x 0000000100000008 0000000100000008 T T 0 0 0 0000000000000000 0 0 0000000100000008
+> close
+ok
+"""
+
+# How bytes become lines: chunks of one, an empty line, one that is no text, one that is too long, and an end without a newline.
 PIECES = f"""
 > ruok
 imok
@@ -429,7 +476,7 @@ imok
 imok
 """
 
-CONVERSATIONS = (SESSION, MULTIS, IN_A_MULTI, SESSIONS, EACH_LINE, REQUESTS, EVENTS, PIECES)
+CONVERSATIONS = (SESSION, MULTIS, IN_A_MULTI, SESSIONS, EACH_LINE, REQUESTS, EVENTS, PROTECTED, PIECES)
 
 
 class Wrong(Exception):
@@ -438,7 +485,7 @@ class Wrong(Exception):
 
 @dataclass
 class Turn:
-    """What a client sends, and what it is to be answered."""
+    """What a client sends, and the expected replies."""
 
     sent: bytes
     answers: list[str] = field(default_factory=list)
@@ -470,7 +517,7 @@ def masked(line: str) -> str:
 
 
 def want(sent: bytes, told: list[str], wanted: list[str]) -> None:
-    """Refuses answers that are others."""
+    """Fails if the replies are others."""
     told = [masked(line) for line in told]
     if told != wanted:
         raise Wrong(f"{sent[-200:]!r}: {told}\nin place of {wanted}")
@@ -478,7 +525,7 @@ def want(sent: bytes, told: list[str], wanted: list[str]) -> None:
 
 @contextmanager
 def servers() -> Iterator[int]:
-    """Three servers for one connection, and their port. They end by themselves, and tell nothing but the port."""
+    """Three servers for one connection, and their port. They end by themselves, and print nothing but the port."""
     for _ in range(50):
         port = randrange(20_000, 40_000)
         words = [PROGRAM, "serve", str(port), "3", "--conns", "1"]
@@ -498,7 +545,7 @@ def servers() -> Iterator[int]:
 
 
 def line_by_line(client: socket.socket, turns: list[Turn]) -> None:
-    """Sends each line once the one before it is answered."""
+    """Sends each line after the reply to the one before it."""
     answers = client.makefile(encoding="utf-8", newline="\n")
     for number, turn in enumerate(turns, 1):
         client.sendall(turn.sent)
@@ -519,7 +566,7 @@ def at_once(client: socket.socket, turns: list[Turn]) -> None:
 
 
 def hold(conversation: str) -> int:
-    """Holds a conversation both ways. Answers how many lines are sent in it."""
+    """Holds a conversation both ways, and returns the number of its lines."""
     turns = turns_of(conversation)
     for way in (line_by_line, at_once):
         with servers() as port, socket.create_connection(("127.0.0.1", port), timeout=PATIENCE) as client:

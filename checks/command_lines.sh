@@ -1,5 +1,5 @@
 #!/usr/bin/env bash
-# Command lines of the proved program: refused ones end with status 2 and a usage on standard error, and touch no file;
+# Command lines of the proved program: rejected ones end with status 2 and a usage on standard error, and touch no file;
 # the help and the version end with status 0; and the program says `zk`, whatever it is called.
 set -euo pipefail
 work=$(mktemp -d)
@@ -7,7 +7,7 @@ trap 'rm -rf "$work"' EXIT
 zk=crates/zk_cli/out/zk_cli
 listing=examples/first_log.listing
 
-# ends STATUS WORD..: what `zk WORD..` ends with; its output is left in $work/out, and what it tells in $work/err
+# ends STATUS WORD..: what `zk WORD..` ends with; its output is left in $work/out, and its errors in $work/err
 ends() {
     local wanted=$1 status=0
     shift
@@ -15,7 +15,7 @@ ends() {
     [ "$status" = "$wanted" ]
 }
 
-# refuses USAGE WORD..: a refused command line writes nothing, and tells this usage
+# `refuses USAGE WORD..`: a rejected command line writes nothing, and prints this usage on standard error
 refuses() {
     local usage=$1
     shift
@@ -53,7 +53,7 @@ ends 1 asm "$work/none" "$work/kept"
 [ "$(cat "$work/err")" = "zk: read" ]
 [ "$(cat "$work/kept")" = before ]
 
-# behind `--` a word may begin with a dash
+# after `--` a word may begin with a dash
 cp "$listing" "$work/-x"
 (
     zk=$PWD/$zk

@@ -1,7 +1,7 @@
 #!/usr/bin/env bash
-# A session with the debugger: it answers a script's lines as a script is answered, one by one, and reads nothing behind `quit`;
-# a line that says nothing is told, and dropped; a prompt stands where the lines come from a terminal or where it is asked for,
-# and nowhere else; `help`, `list` and `diff`; and what is refused.
+# A session with the debugger: it prints for a script's lines what a script prints, one by one, and reads nothing after `quit`. A
+# malformed line is reported and dropped. A prompt comes at a terminal or if asked for, and nowhere else. `help`, `list` and `diff`;
+# and errors.
 set -euo pipefail
 work=$(mktemp -d)
 trap 'rm -rf "$work"' EXIT
@@ -18,7 +18,7 @@ done
 printf %s "$(cat examples/lock.script)" | "$zk" debug "$log" | cmp - examples/lock.answers
 [ -z "$("$zk" debug "$log" </dev/null)" ]
 
-# each line is answered before the next is there
+# the output of each line comes before the next line is there
 coproc session { exec "$zk" debug "$log"; }
 # (bash forgets the name once the session has ended)
 pid=$session_PID
@@ -30,7 +30,7 @@ done
 echo quit >&"${session[1]}"
 wait "$pid"
 
-# what stands behind `quit` is left to whoever reads next
+# the input after `quit` is left to the next reader
 [ "$(printf 'step\nquit\nleft\n' | { "$zk" debug "$log" && cat; } | tail -n 1)" = left ]
 
 # lines that say nothing
@@ -70,7 +70,7 @@ grep -qF "zk 0 0000000000000000> " "$work/terminal"
 grep -qF "$first" "$work/terminal"
 grep -qF "zk 1 ${first#place 1 }> " "$work/terminal"
 
-# tells PATTERN LINE..: whether a session of these lines tells the pattern
+# `tells PATTERN LINE..`: whether a session of these lines prints the pattern
 # (by a file: a `grep -q` that stops early in a pipe is an output that fails)
 tells() {
     local pattern=$1
@@ -87,7 +87,7 @@ tells '^  quit  ' help
 tells '^>' step 'list 1'
 tells '^+ "/lock' run diff
 
-# ends STATUS WORD..: what `zk WORD..` ends with, and what it tells
+# ends STATUS WORD..: whether `zk WORD..` ends with this status; its errors are left in $work/err
 ends() {
     local wanted=$1 status=0
     shift

@@ -2,20 +2,10 @@
 # Debug scripts by the proved program: the lock that a closed session took away, and a multi with the tree at each place, on
 # files and on standard input; a malformed line, with the answers before it; an empty script; more breakpoints than there are
 # numbers; and what can't be opened, read or written.
-set -euo pipefail
-work=$(mktemp -d)
-trap 'rm -rf "$work"' EXIT
-zk=crates/zk_cli/out/zk_cli
+. checks/lib.sh
 script=examples/lock.script
 answers=examples/lock.answers
 log=$work/lock.log
-
-# ends COMMAND..: its status and its line on standard error, as one text
-ends() {
-    local status=0
-    "$@" 2>"$work/err" >"$work/out" || status=$?
-    echo "$status $(cat "$work/err")"
-}
 
 for example in lock multi; do
     files=examples/$example
@@ -24,6 +14,51 @@ for example in lock multi; do
     "$zk" debug @ "$files.script" <"$work/$example.log" | cmp - "$files.answers"
     "$zk" debug "$work/$example.log" @ <"$files.script" | cmp - "$files.answers"
 done
+
+# the close of a session with 300 nodes is taken back, and done again
+none=0000000000000000
+world='1 31 "world" "anyone"'
+{
+    echo "0000000000000001 0000000000000007 0 1000 createSession 30000"
+    for number in $(seq 300); do
+        printf '%016x 0000000000000007 %d 1000 create "/n%03d" x %s e %d\n' "$((number + 1))" "$number" "$number" "$world" "$number"
+    done
+    printf '%016x 0000000000000007 301 2000 closeSession\n' 302
+} >"$work/many.listing"
+# root CVERSION CHILDREN PZXID: the line of `/`
+root() {
+    echo "\"/\" x $world $none $none 0 0 0 $1 0 $none 0 $2 $3"
+}
+system() {
+    echo "\"/zookeeper\" x $world $none $none 0 0 0 -1 0 $none 0 1 $none"
+    echo "\"/zookeeper/quota\" x $world $none $none 0 0 0 0 0 $none 0 0 $none"
+}
+{
+    echo 'zxid 000000000000012d'
+    echo 'session 0000000000000007 30000'
+    root 299 301 000000000000012d
+    for number in $(seq 300); do
+        zxid=$(printf '%016x' "$((number + 1))")
+        printf '"/n%03d" x %s %s %s 1000 1000 0 0 0 0000000000000007 0 0 %s\n' "$number" "$world" "$zxid" "$zxid" "$zxid"
+    done
+    system
+} >"$work/open"
+{
+    echo 'zxid 000000000000012e'
+    root 599 1 000000000000012e
+    system
+} >"$work/closed"
+printf '%s\n' run tree back tree step tree >"$work/many.script"
+{
+    echo 'place 302 000000000000012e'
+    cat "$work/closed"
+    echo 'place 301 000000000000012d'
+    cat "$work/open"
+    echo 'place 302 000000000000012e'
+    cat "$work/closed"
+} >"$work/many.answers"
+"$zk" asm "$work/many.listing" "$work/many.log"
+"$zk" debug "$work/many.log" "$work/many.script" | cmp - "$work/many.answers"
 
 # a last line without a newline counts
 printf %s "$(cat "$script")" | "$zk" debug "$log" @ | cmp - "$answers"

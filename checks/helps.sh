@@ -1,12 +1,12 @@
 #!/usr/bin/env bash
 # The helps of `zk debug` and `zk run` list the lines of a script, and that of `zk serve` the lines of a connection: every word of the
-# definitions of these lines, and no other.
-# Each order's help names docs/FAULTS.md, which has each number and each word that the definitions of faults have.
+# definitions of these lines, and no other. Each help lists the numbers of its command's errors, and names docs/ERRORS.md, which has
+# each number and each word of the definitions of faults.
 set -euo pipefail
 work=$(mktemp -d)
 trap 'rm -rf "$work"' EXIT
 zk=crates/zk_cli/out/zk_cli
-faults=docs/FAULTS.md
+faults=docs/ERRORS.md
 
 # defining PATTERN: the files whose definitions have a line that begins so
 defining() {
@@ -21,22 +21,22 @@ fault_lines=$(defining 'line_of_(log_fault log_faults\.Header|mend_fault \(fault
 debug_numbers=$(defining 'fault_text faults\.AtEnd')
 run_numbers=$(defining 'fault_text \(faults\.Behind')
 
-# texts_in FILE..: the texts that definitions spell, each on a line; the scheme of an identity is no word of a line
+# texts_in FILE..: the texts in definitions, each on a line; the scheme of an identity is no word of a line
 texts_in() {
     sed '/\.scheme ≡/d' "$@" | grep -o 'codes "[^"]*"' | sed 's/^codes "//; s/"$//'
 }
 
-# words_in_help ORDER: the words in the first column of a help's lists, with flags; what stands in capitals is a field
+# words_in_help COMMAND: the words in the first column of a help's lists, with flags; a word in capitals is a field
 words_in_help() {
     "$zk" "$1" --help </dev/null | grep '^  [a-z]' | sed 's/^  //; s/  .*//' | tr -d '[]' | tr ' ' '\n' | grep '^-\{0,1\}[a-z]' | sort -u
 }
 
-# lists ORDER FILE..: the help has the words of these definitions
+# lists COMMAND FILE..: the help has the words of these definitions
 lists() {
-    local order=$1
+    local command=$1
     shift
     texts_in "$@" | tr ' ' '\n' | grep '^-\{0,1\}[a-z]' | sort -u >"$work/defined"
-    words_in_help "$order" >"$work/helped"
+    words_in_help "$command" >"$work/helped"
     [ -s "$work/defined" ]
     diff "$work/defined" "$work/helped"
 }
@@ -45,12 +45,28 @@ lists debug $debug_lines $session_lines
 lists run $run_lines
 lists serve $serve_lines
 
-for order in show list asm mend debug run serve; do
-    [[ $("$zk" "$order" --help </dev/null) = *"$faults"* ]]
-done
+# the numbers of all faults; an allocation failure has a word, and never G8 or L8
+numbers=$(texts_in $fault_lines $debug_numbers $run_numbers | grep -oE '\b[BEGLN][0-9]+\b' | sort -u | grep -v '[GL]8')
 
-# want of memory is told by a word, whatever was read, and never as G8 or L8
-for number in $(texts_in $fault_lines $debug_numbers $run_numbers | grep -o '\b[BEGLN][0-9]\b' | sort -u | grep -v '[GL]8'); do
+# numbers_in_help COMMAND LETTERS: the help lists each number that begins with one of these letters
+numbers_in_help() {
+    local number
+    "$zk" "$1" --help </dev/null >"$work/help"
+    grep -qF "$faults" "$work/help"
+    for number in $(grep "^[$2]" <<<"$numbers"); do
+        grep -qE "^  $number\b" "$work/help"
+    done
+}
+
+numbers_in_help show G
+numbers_in_help list G
+numbers_in_help asm L
+numbers_in_help mend GN
+numbers_in_help debug BG
+numbers_in_help run E
+grep -qF "$faults" <<<"$("$zk" serve --help </dev/null)"
+
+for number in $numbers; do
     grep -qE "^\\| (\`zk: )?$number\\b" "$faults"
 done
 for word in $(texts_in $fault_lines | grep -o '^zk: [a-z][a-z0-9]*' | sed 's/^zk: //' | sort -u) read write listen memory utf8; do

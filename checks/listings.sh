@@ -1,6 +1,6 @@
 #!/usr/bin/env bash
 # Logs to listings and back by the proved program, on files and on standard streams: the first log against its listing,
-# the real server's log against itself, and what stays of an output where a text is refused.
+# the real server's log against itself, and what is left of an output if a text is rejected.
 set -euo pipefail
 work=$(mktemp -d)
 trap 'rm -rf "$work"' EXIT
@@ -21,7 +21,7 @@ ends() {
 cmp "$work/log" "$log"
 "$zk" asm @ @ <"$listing" | cmp - "$log"
 
-# the real server's log is padded with zeros, which no listing tells
+# the real server's log is padded with zeros, which no listing shows
 "$zk" list examples/real/log.1 >"$work/real.listing"
 "$zk" asm "$work/real.listing" "$work/real.log"
 size=$(stat -c %s "$work/real.log")
@@ -29,7 +29,7 @@ cmp "$work/real.log" <(head -c "$size" examples/real/log.1)
 "$zk" list "$work/real.log" | cmp - "$work/real.listing"
 [ -z "$(tail -c +$((size + 1)) examples/real/log.1 | tr -d '\0' | head -c 1)" ]
 
-# a log that was longer is emptied, and stays empty where the text is refused
+# a longer log is truncated, and stays empty if the text is rejected
 sed 's/ 1000 / +1000 /' "$listing" >"$work/bad"
 [ "$(ends "$zk" asm "$work/bad" "$work/real.log")" = "1 zk: L2 1" ]
 [ ! -s "$work/real.log" ]

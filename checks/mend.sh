@@ -1,8 +1,8 @@
 #!/usr/bin/env bash
-# Newer servers' logs by the proved program. The worked examples of examples/stock are mended byte for byte, with their reports
-# and listings; the tree of a lone server's mended log is what that server itself told, at each zxid for which its word is there,
-# and its digests are the table's. What was mended, and each log of 3.3 and 3.4 here, is mended to itself. A refused log leaves the
-# output empty, and a refused command line leaves it as it was. Nothing in examples/stock was computed by this project.
+# Logs of 3.8 servers by the proved program. The worked examples of examples/stock are mended byte for byte, with their reports
+# and listings; the tree of a lone server's mended log is what that server itself said, at each zxid for which its word is there,
+# and its digests are the table's. What was mended, and each log of 3.3 and 3.4 here, is mended to itself. A rejected log leaves the
+# output empty, and a rejected command line leaves it as it was. Nothing in examples/stock was computed by this project.
 set -euo pipefail
 work=$(mktemp -d)
 trap 'rm -rf "$work"' EXIT
@@ -16,7 +16,7 @@ ends() {
     echo "$status $(head -n 1 "$work/err")"
 }
 
-# comes_back LOG: a log of 3.4 is a front of itself, and every record is told as unchanged
+# comes_back LOG: a log of 3.4 is mended to a prefix of itself, and every record is reported as unchanged
 comes_back() {
     local size
     "$zk" mend "$1" "$work/back" >"$work/told" </dev/null
@@ -64,7 +64,7 @@ comes_back "$work/torn"
 comes_back "$work/padded"
 [ "$(tail -n 1 "$work/told")" = "end padding" ]
 
-# ---- refused logs
+# ---- rejected logs
 # entry RECORD: the entry of a record in hexadecimal digits
 entry() {
     python3 -c 'import struct, sys, zlib
@@ -78,7 +78,7 @@ close=0100004d23ab0000000000020000000000000003000001a20875e3dcfffffff50000000100
 # a failed multi of which both parts kept their bodies
 reasonless=c800003fb34000040000000100000001000000d9000001a20868b1ba0000000e00000002ffffffff0000000b000000072f666d2d342d30ffffffff0000000b000000072f666d2d342d30
 
-# refuses LINE: $work/log is refused with this line, and the output is left empty
+# `refuses LINE`: $work/log is rejected with this line, and the output is left empty
 refuses() {
     printf before >"$work/kept"
     [ "$(ends "$zk" mend "$work/log" "$work/kept")" = "1 $1" ]
@@ -106,7 +106,7 @@ refuses "zk: G2 16"
 head -c 15 "$stock/kinds.log" >"$work/log"
 refuses "zk: G1"
 
-# ---- outputs that fail, and refused command lines
+# ---- outputs that fail, and rejected command lines
 [ "$(ends "$zk" mend "$stock/kinds.log" /dev/full)" = "1 zk: write" ]
 status=0
 "$zk" mend "$stock/kinds.log" "$work/mended" >/dev/full 2>"$work/err" </dev/null || status=$?

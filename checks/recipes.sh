@@ -1,13 +1,14 @@
 #!/usr/bin/env bash
-# Runs each recipe of docs/RECIPES.md as it stands there, over logs of examples/lock.listing: the whole one, one in two files,
-# one with a damaged entry and one that is torn. What it writes is compared with a file of examples/recipes, worked out by hand
-# from the listing and from the lengths of its records.
+# Runs each recipe of docs/CLI.md, over logs of examples/lock.listing: the whole one, one in two files, one with a corrupt entry and
+# one that is torn. The output is compared with a file of examples/recipes, worked out by hand from the listing and from the lengths
+# of its records. The recipes that take logs of any server also run over one of a 3.8 server: their trees are what that server said.
 set -euo pipefail
 work=$(mktemp -d)
 trap 'rm -rf "$work"' EXIT
 listing=examples/lock.listing
 expected=$PWD/examples/recipes
-recipes=docs/RECIPES.md
+recipes=docs/CLI.md
+alone=examples/stock/check_alone
 mkdir "$work/bin" "$work/logs"
 ln -s "$PWD/crates/zk_cli/out/zk_cli" "$work/bin/zk"
 PATH=$work/bin:$PATH
@@ -15,27 +16,41 @@ PATH=$work/bin:$PATH
 zk asm "$listing" "$work/whole"
 head -n 3 "$listing" | zk asm @ "$work/logs/log.100000001"
 tail -n +4 "$listing" | zk asm @ "$work/logs/log.100000004"
-# the third entry begins at byte 155: behind 16 bytes of the header, and entries of 49 and 90 bytes
-{
-    head -c 200 "$work/whole"
+
+# corrupt LOG AT: a log with a wrong byte at AT
+corrupt() {
+    head -c "$2" "$1"
     printf '\377'
-    tail -c +202 "$work/whole"
-} >"$work/damaged"
+    tail -c "+$(($2 + 2))" "$1"
+}
+# the third entry begins at byte 155: after the header's 16 bytes, and entries of 49 and 90 bytes
+corrupt "$work/whole" 200 >"$work/corrupt"
 head -c 200 "$work/whole" >"$work/torn"
 
-# runs HEADING LOG NAME: whether the block below a heading writes the file NAME over a log
-count=0
-runs() {
-    awk -v heading="## $1" '$0 == heading { found = 1 } found && /^```$/ { exit } inside { print } found && /^```sh$/ { inside = 1 }' \
+# prints HEADING LOG [LINE]: what the recipe below a heading prints over a log, and then a line of the shell
+prints() {
+    awk -v heading="### $1" '$0 == heading { found = 1 } found && /^```$/ { exit } inside { print } found && /^```sh$/ { inside = 1 }' \
         "$recipes" >"$work/recipe"
     [ -s "$work/recipe" ]
+    echo "${3-}" >>"$work/recipe"
+    rm -rf "$work/run"
     mkdir "$work/run"
     (
         cd "$work/run"
-        LOG=$2 LOGS=$work/logs bash -u "$work/recipe" 2>"$work/told"
-    ) | cmp - "$expected/$3.expected"
-    rm -r "$work/run"
-    count=$((count + 1))
+        LOG=$2 LOGS=$work/logs bash -u "$work/recipe" 2>"$work/err"
+    )
+}
+
+# runs HEADING LOG NAME: the recipe prints the file NAME over a log
+headings=
+runs() {
+    prints "$1" "$2" | cmp - "$expected/$3.expected"
+    headings+=$1$'\n'
+}
+
+# nodes: the lines of nodes outside /zookeeper, of a report
+nodes() {
+    grep '^"' | grep -v '^"/zookeeper["/]'
 }
 
 runs "The log up to a zxid" "$work/whole" log_up_to_a_zxid
@@ -43,10 +58,35 @@ runs "What names a path" "$work/whole" lines_that_name_a_path
 runs "One path's history" "$work/whole" one_paths_history
 runs "Times as dates" "$work/whole" times_as_dates
 runs "A history over several files" "$work/whole" history_over_files
-runs "Does a log go on from an earlier one?" "$work/logs/log.100000004" goes_on_from_an_earlier_log
-runs "Does a log go on from an earlier one?" "$work/whole" is_a_whole_history
-runs "The tree before a damaged entry" "$work/damaged" tree_before_a_damaged_entry
+runs "Does a log continue an earlier one?" "$work/logs/log.100000004" continues_an_earlier_log
+runs "Does a log continue an earlier one?" "$work/whole" is_a_whole_history
+runs "The tree before a corrupt entry" "$work/corrupt" tree_before_a_corrupt_entry
 runs "How a file ends" "$work/torn" how_a_file_ends
-# one of them was run twice
-[ "$((count - 1))" = "$(grep -c '^```sh$' "$recipes")" ]
-echo "recipes: $count runs, as worked out by hand"
+
+# ---- a log of a 3.8 server
+prints "A log of any server" "$PWD/examples/stock/kinds.log" 'cat "$LOG"' | cmp - examples/stock/kinds.mended
+prints "A log of any server" "$work/whole" 'cat "$LOG"' | cmp - "$work/whole"
+headings+="A log of any server"$'\n'
+prints "How a file ends" "$PWD/$alone/log.1" | grep -qx "$(tail -n 1 "$alone/report")"
+
+# the entry of zxid b, which comes after the node lines of zxid a, begins where the first ten entries end
+at=$(python3 -c 'import struct, sys
+log, at = open(sys.argv[1], "rb").read(), 16
+for _ in range(10):
+    at += 13 + struct.unpack_from(">I", log, at + 8)[0]
+print(at)' "$alone/log.1")
+corrupt "$alone/log.1" $((at + 12)) >"$work/corrupt"
+prints "The tree before a corrupt entry" "$work/corrupt" | nodes | cmp - "$alone/000000000000000a.nodes"
+
+# the same log in two files
+rm "$work"/logs/*
+head -c "$at" "$alone/log.1" >"$work/logs/log.1"
+{
+    head -c 16 "$alone/log.1"
+    tail -c "+$((at + 1))" "$alone/log.1"
+} >"$work/logs/log.b"
+prints "A history over several files" "$work/logs/log.1" | nodes | cmp - "$alone/0000000000000011.nodes"
+
+# each recipe was run
+[ "$(printf '%s' "$headings" | sort -u | wc -l)" = "$(grep -c '^```sh$' "$recipes")" ]
+echo "recipes: as worked out by hand, and as a 3.8 server said"

@@ -1,8 +1,8 @@
 #!/usr/bin/env bash
-# `zk serve`, by a client that is bash alone: a port that is taken is told, and so is an output that fails; each kind of line is
-# answered; lines are read up to 65,536 bytes, and a longer one harms nobody; connections are served one after the other, and the
-# second sees the tree that the first one left; a client that goes away in the middle of a line harms nobody; and a lock that is
-# held by an ephemeral node is told to whoever waits for it, once its holder has gone away and is due.
+# `zk serve`, by a client that is bash alone: errors for a port that is taken and for an output that fails; a reply to each kind of
+# line; lines of up to 65,536 bytes, and longer ones, which do no harm; connections one after the other, of which the second sees the
+# tree that the first one left; a client that disconnects within a line; a lock, held by an ephemeral node, whose watch fires once
+# its holder has disconnected and expired; and a connection that opens another session once its own has expired.
 set -euo pipefail
 work=$(mktemp -d)
 server=
@@ -30,7 +30,7 @@ starts() {
     return 1
 }
 
-# ends: the servers end by themselves, and have told nothing more
+# ends: the servers end by themselves, and have printed nothing more
 ends() {
     wait "$server"
     server=
@@ -46,8 +46,7 @@ goes_away() {
     exec 3>&-
 }
 
-# asks LINE ANSWER..: the line is answered so, before the next is sent; an answer is a pattern, of which only a T is no plain text:
-# it stands for a time
+# asks LINE ANSWER..: the replies to the line, before the next is sent; a reply is plain text, but that a T means a time
 asks() {
     local line=$1 wanted answer
     shift
@@ -98,12 +97,12 @@ asks $'commit\nruok' 'err -8' 'imok'
 goes_away
 ends
 
-# letters COUNT: so many letters
+# letters COUNT: that many letters
 letters() {
     head -c "$1" /dev/zero | tr '\0' y
 }
 
-# is_read BYTES ANSWER: a line of so many bytes, with its newline, is answered so, and the next one is answered
+# is_read BYTES ANSWER: the reply to a line of this length, with its newline; and a reply to the next one
 is_read() {
     local front='create "/l" "' back="\" $open" content
     content=$(letters $(($1 - ${#front} - ${#back} - 1)))
@@ -146,7 +145,7 @@ asks 'ls "/"' 'ok 3 "a" "lock" "zookeeper" 0000000000000000 0000000000000000 0 0
 asks 'get "/a"' 'ok x6869 0000000100000002 0000000100000002 T T 0 0 0 0000000000000000 2 0 0000000100000002'
 asks 'create -e "/lock" "" '"$open" 'err -110'
 asks 'stat -w "/lock"' 'ok 0000000100000003 0000000100000003 T T 0 0 0 0000000100000001 0 0 0000000100000003'
-# the holder is due 4 seconds after its last line
+# the holder expires 4 seconds after its last line
 sleep 4.1
 asks 'create "/woken" "" '"$open" 'event 2 "/lock"' 'ok "/woken"'
 asks 'create -e "/lock" "" '"$open" 'ok "/lock"'
@@ -165,4 +164,24 @@ asks 'commit' 'err -103 ; 0 "/b" - ; -103 - -'
 asks 'close' 'ok'
 goes_away
 ends
-echo "serve: lines, long ones too, connections in turn, a lock that is passed on, a port that is taken and an output that fails"
+# an expired session ends at its connection with the reply to a request that says so, or to a read
+starts
+connects
+asks 'open 1' 'ok 0000000100000001 4000'
+sleep 4.1
+asks 'create "/a" x '"$open" 'err -112'
+asks 'create "/a" x '"$open" 'err -112'
+asks 'close' 'err -112'
+asks 'open 4000' 'ok 0000000100000004 4000'
+asks 'create "/a" x '"$open" 'ok "/a"'
+sleep 4.1
+# it is closed at this line, which does not wait for that
+asks 'sync "/a"' 'ok "/a"'
+sleep 0.5
+asks 'stat "/a"' 'err -112'
+asks 'stat "/a"' 'err -112'
+asks 'open 30000' 'ok 0000000100000007 30000'
+asks 'stat "/a"' 'ok 0000000100000005 0000000100000005 T T 0 0 0 0000000000000000 0 0 0000000100000005'
+goes_away
+ends
+echo "serve: lines, long ones too, connections in turn, a lock that is passed on, sessions that expire, a port that is taken and an output that fails"

@@ -1,8 +1,7 @@
 #!/usr/bin/env bash
-# Looks at the first log from several sides. Run it in a checkout where `rt ci`, or `rt run` in crates/zk_cli, has left
-# the proved program.
+# Looks at the first log from several sides, with `zk`, or with the program that ZK names.
 cd "$(dirname "$0")/.."
-zk=crates/zk_cli/out/zk_cli
+zk=${ZK:-zk}
 
 echo "The tree after the last transaction of the log's first two entries:"
 "$zk" show examples/first_log_head.log last
@@ -20,9 +19,9 @@ echo "The whole first log as text, one line for each transaction:"
 "$zk" list examples/first_log.log
 
 echo
-echo "A log of that text, with the session opened for a minute, and its tree:"
+echo "A log of that text, with a session timeout of a minute, and its tree:"
 sed 's/createSession 30000/createSession 60000/; $d' examples/first_log.listing | "$zk" asm @ @ | "$zk" show @ last
 
 echo
-echo "A lock that a closed session took away, found by a breakpoint on its path, with the tree before and after:"
+echo "A lock that a closed session deleted, found by a breakpoint on its path, with the tree before and after:"
 "$zk" asm examples/lock.listing @ | "$zk" debug @ examples/lock.script

@@ -19,14 +19,14 @@ use Rattle.zab_rule_laws.proofs.Telling.{all_append}
 use Rattle.zab_rule_laws.proofs.Growing.{messages_grow, stands_after, stands_still}
 use Rattle.zab_rule_laws.proofs.Hearing.{CarriesZxid, lead_owes, follow_owes, hears_c_epoch, hears_new_epoch, hears_ack_epoch, hears_new_leader, hears_ack_leader, hears_propose, hears_ack, hears_commit, hears_request, hears_sync_ask, hears_sync_tell, submit_owes, sync_owes}
 use Rattle.zab_rule_laws.proofs.TagFacts.{cases_eq, all_get, same_some}
-use Rattle.zab_runs.specs.declared.event.Event.{Event}
-use Rattle.zab_runs.specs.declared.event.Event.TheVariants.{Lead, Follow, Arrive, Submit, Expire, Sync, Crash, Restart}
-use Rattle.zab_runs.specs.declared.fault.WorldFault.{WorldFault}
-use Rattle.zab_runs.specs.Standings.{Standing, standing}
-use Rattle.zab_runs.specs.Worlds.{World, Profile, Answer, is_server, server_at, running, resting, told, said, with_server, acts, receives, message_at, arrives, spends, submits, spends_sync, syncs, crashed, crashes, restarts, happens}
-use Rattle.zab_runs.specs.Runs.{delivered_list, delivered_of}
+use Rattle.zab_model.specs.declared.event.Event.{Event}
+use Rattle.zab_model.specs.declared.event.Event.TheVariants.{Lead, Follow, Arrive, Submit, Expire, Sync, Crash, Restart}
+use Rattle.zab_model.specs.declared.fault.WorldFault.{WorldFault}
+use Rattle.zab_model.specs.ProcessStates.{ProcessState, standing}
+use Rattle.zab_model.specs.Worlds.{World, Profile, Answer, is_server, server_at, running, resting, told, said, with_server, acts, receives, message_at, arrives, spends, submits, spends_sync, syncs, crashed, crashes, restarts, happens}
+use Rattle.zab_model.specs.Runs.{delivered_list, delivered_of}
 use Rattle.zab_agreement_laws.specs.Moments.{Holds, Synchronizes}
-use Rattle.zab_runs.proofs.ServerLists.{found, same_place, other_place, other_same, up_is, down_is}
+use Rattle.zab_model.proofs.ServerLists.{found, same_place, other_place, other_same, up_is, down_is}
 
 -- ---- what is known of a world
 
@@ -37,15 +37,15 @@ pub record IsNumbered (k : laws.Setting Entry) (g : laws.Ghost Entry) (n : ℕ) 
 
 pub record WorldStands {C : Type 0} (k : laws.Setting Entry) (g : laws.Ghost Entry) (w : World C) : Type 0 where
   pub facts : laws.AreFacts k g
-  pub servers : (n : ℕ) (it : Standing) → server_at w.servers n ≡ Some it → IsNumbered k g n it.state
+  pub servers : (n : ℕ) (it : ProcessState) → server_at w.servers n ≡ Some it → IsNumbered k g n it.state
   pub messages : AllByRecursion (MessageFact k g) w.messages
 
 -- what is newly written is what a server now has
-pub record Writes (g after : laws.Ghost Entry) (servers : List Standing) : Type 0 where
+pub record Writes (g after : laws.Ghost Entry) (servers : List ProcessState) : Type 0 where
   pub held : (n epoch : ℕ) (h : List Entry) → after.held n epoch ≡ Some h → (g.held n epoch ≡ Some h) ⊎ Holds servers n epoch h
   pub began : (epoch : ℕ) (b : laws.Began Entry) → after.began epoch ≡ Some b → (g.began epoch ≡ Some b) ⊎ Synchronizes servers b.leader epoch b.start
 
-nothing_written : (g : laws.Ghost Entry) (servers : List Standing) → Writes g g servers
+nothing_written : (g : laws.Ghost Entry) (servers : List ProcessState) → Writes g g servers
 nothing_written g servers = record { held = λ n epoch h is. inl is; began = λ epoch b is. inl is }
 
 -- an event keeps it, and nobody that it spares delivers less
@@ -67,7 +67,7 @@ same_world k g spares w f = record {
 
 -- ---- a server stands otherwise
 
-numbered_at : (k : laws.Setting Entry) (g y : laws.Ghost Entry) (servers : List Standing) (n s : ℕ) (c : laws.Core Entry) (it stands : Standing) → server_at servers n ≡ Some it → s ≡ n → laws.Keeps k g y s c → ((j : ℕ) (other : Standing) → server_at servers j ≡ Some other → IsNumbered k g j other.state) → IsNumbered k y n stands.state → (j : ℕ) (other : Standing) → server_at (set servers (n - 1) stands) j ≡ Some other → IsNumbered k y j other.state
+numbered_at : (k : laws.Setting Entry) (g y : laws.Ghost Entry) (servers : List ProcessState) (n s : ℕ) (c : laws.Core Entry) (it stands : ProcessState) → server_at servers n ≡ Some it → s ≡ n → laws.Keeps k g y s c → ((j : ℕ) (other : ProcessState) → server_at servers j ≡ Some other → IsNumbered k g j other.state) → IsNumbered k y n stands.state → (j : ℕ) (other : ProcessState) → server_at (set servers (n - 1) stands) j ≡ Some other → IsNumbered k y j other.state
 numbered_at k g y servers n s c it stands is here keeps facts fact j other at =
     let place = found servers n it is in
     elim (cases_eq j n) [
@@ -75,7 +75,7 @@ numbered_at k g y servers n s c it stands is here keeps facts fact j other at =
           (let there : Some stands ≡ Some other =
           sym (same_place servers n it stands place) ∙ (ap (λ u. server_at (set servers (n - 1) stands) u) (sym same) ∙ at) in
           let one : stands ≡ other = same_some stands other there in
-          subst (λ u. IsNumbered k y u other.state) (sym same) (subst (λ (o : Standing). IsNumbered k y n o.state) one fact))
+          subst (λ u. IsNumbered k y u other.state) (sym same) (subst (λ (o : ProcessState). IsNumbered k y n o.state) one fact))
       | inr differs ↦
           (let f = facts j other (other_place servers n j stands other place.above differs at) in
           record {
@@ -84,22 +84,22 @@ numbered_at k g y servers n s c it stands is here keeps facts fact j other at =
           })
     ]
 
-more_at : (servers : List Standing) (n : ℕ) (it stands : Standing) → server_at servers n ≡ Some it → IsPrefix (told_of it.state) (told_of stands.state) → (j : ℕ) → IsPrefix (delivered_list (server_at servers j)) (delivered_list (server_at (set servers (n - 1) stands) j))
+more_at : (servers : List ProcessState) (n : ℕ) (it stands : ProcessState) → server_at servers n ≡ Some it → IsPrefix (told_of it.state) (told_of stands.state) → (j : ℕ) → IsPrefix (delivered_list (server_at servers j)) (delivered_list (server_at (set servers (n - 1) stands) j))
 more_at servers n it stands is more j =
     let place = found servers n it is in
     elim (cases_eq j n) [
       | inl same ↦
           subst (λ u. IsPrefix (delivered_list (server_at servers u)) (delivered_list (server_at (set servers (n - 1) stands) u))) (sym same)
-          (subst (λ (o : Option Standing). IsPrefix (delivered_list o) (delivered_list (server_at (set servers (n - 1) stands) n))) (sym is)
-          (subst (λ (o : Option Standing). IsPrefix (told_of it.state) (delivered_list o)) (sym (same_place servers n it stands place)) more))
+          (subst (λ (o : Option ProcessState). IsPrefix (delivered_list o) (delivered_list (server_at (set servers (n - 1) stands) n))) (sym is)
+          (subst (λ (o : Option ProcessState). IsPrefix (told_of it.state) (delivered_list o)) (sym (same_place servers n it stands place)) more))
       | inr differs ↦
-          subst (λ (o : Option Standing). IsPrefix (delivered_list (server_at servers j)) (delivered_list o))
+          subst (λ (o : Option ProcessState). IsPrefix (delivered_list (server_at servers j)) (delivered_list o))
           (sym (other_same servers n j stands place.above differs)) (prefix_refl (delivered_list (server_at servers j)))
     ]
 
 -- ---- a server acts
 
-told_keeps : {C : Type 0} (k : laws.Setting Entry) (g y : laws.Ghost Entry) (spares : ℕ → Type 0) (w : World C) (n : ℕ) (stands : Standing) (r : Result (List (Message C)) RuleFault) → laws.Grows g y → Writes g y (set w.servers (n - 1) stands) → laws.AreFacts k y → ((j : ℕ) (other : Standing) → server_at (set w.servers (n - 1) stands) j ≡ Some other → IsNumbered k y j other.state) → AllByRecursion (MessageFact k g) w.messages → SentFact k y r → ((j : ℕ) → spares j → IsPrefix (delivered_of w j) (delivered_list (server_at (set w.servers (n - 1) stands) j))) → KeepsAll k g spares w (told (with_server w n stands) (said r)).0
+told_keeps : {C : Type 0} (k : laws.Setting Entry) (g y : laws.Ghost Entry) (spares : ℕ → Type 0) (w : World C) (n : ℕ) (stands : ProcessState) (r : Result (List (Message C)) RuleFault) → laws.Grows g y → Writes g y (set w.servers (n - 1) stands) → laws.AreFacts k y → ((j : ℕ) (other : ProcessState) → server_at (set w.servers (n - 1) stands) j ≡ Some other → IsNumbered k y j other.state) → AllByRecursion (MessageFact k g) w.messages → SentFact k y r → ((j : ℕ) → spares j → IsPrefix (delivered_of w j) (delivered_list (server_at (set w.servers (n - 1) stands) j))) → KeepsAll k g spares w (told (with_server w n stands) (said r)).0
 told_keeps k g y spares w n stands (Ok messages) grows writes facts servers before sent more = record {
   after = y;
   grows = grows;
@@ -120,7 +120,7 @@ told_keeps k g y spares w n stands (Err fault) grows writes facts servers before
 }
 
 -- what a rule writes is what its server now has
-act_writes : {C : Type 0} (k : laws.Setting Entry) (g : laws.Ghost Entry) (servers : List Standing) (n s : ℕ) (it next : Standing) (before : List Entry) (acts : rules.Acts C) → server_at servers n ≡ Some it → s ≡ n → next.state ≡ acts.0 → (o : Owes k g s before acts) → Writes g o.ghost (set servers (n - 1) next)
+act_writes : {C : Type 0} (k : laws.Setting Entry) (g : laws.Ghost Entry) (servers : List ProcessState) (n s : ℕ) (it next : ProcessState) (before : List Entry) (acts : rules.Acts C) → server_at servers n ≡ Some it → s ≡ n → next.state ≡ acts.0 → (o : Owes k g s before acts) → Writes g o.ghost (set servers (n - 1) next)
 act_writes {C} k g servers n s it next before acts is here same o = record {
   held = λ m epoch h at. elim (o.keeps.held_new m epoch h at) [
     | inl old ↦ inl old
@@ -151,13 +151,13 @@ act_writes {C} k g servers n s it next before acts is here same o = record {
     there : (m : ℕ) → m ≡ n → server_at (set servers (n - 1) next) m ≡ Some next
     there m e = subst (λ u. server_at (set servers (n - 1) next) u ≡ Some next) (sym e) (same_place servers n it next (found servers n it is))
 
-acts_keep : {C : Type 0} (k : laws.Setting Entry) (g : laws.Ghost Entry) (spares : ℕ → Type 0) (w : World C) (n : ℕ) (rule : State → rules.Acts C) (r : Result Standing WorldFault) → WorldStands k g w → ((it : Standing) → r ≡ Ok it → server_at w.servers n ≡ Some it) → ((state : State) → n ≡ state.peer.me → Stands k g state → OwesOf k g state (rule state)) → KeepsAll k g spares w (acts w n rule r).0
+acts_keep : {C : Type 0} (k : laws.Setting Entry) (g : laws.Ghost Entry) (spares : ℕ → Type 0) (w : World C) (n : ℕ) (rule : State → rules.Acts C) (r : Result ProcessState WorldFault) → WorldStands k g w → ((it : ProcessState) → r ≡ Ok it → server_at w.servers n ≡ Some it) → ((state : State) → n ≡ state.peer.me → Stands k g state → OwesOf k g state (rule state)) → KeepsAll k g spares w (acts w n rule r).0
 acts_keep k g spares w n rule (Err fault) f is owes = same_world k g spares w f
 acts_keep k g spares w n rule (Ok it) f is owes =
     let here = is it refl in
     let at = f.servers n it here in
     let o = owes it.state (sym at.me) at.stands in
-    let next : Standing = standing it.up (rule it.state).0 in
+    let next : ProcessState = standing it.up (rule it.state).0 in
     let writes : Writes g o.ghost (set w.servers (n - 1) next) = act_writes k g w.servers n it.state.peer.me it next (told_of it.state) (rule it.state) here at.me refl o in
     told_keeps k g o.ghost spares w n next (rule it.state).1 o.keeps.grows writes o.keeps.kept.facts
     (numbered_at k g o.ghost w.servers n it.state.peer.me (core_of (rule it.state).0) it next here at.me o.keeps f.servers
@@ -212,7 +212,7 @@ spends_keep k g spares w t (v, Ok numbers) f = record {
 }
 spends_keep k g spares w t (v, Err fault) f = f
 
-submits_keep : {C : Type 0} (setting : Setting C) → CarriesZxid setting → (g : laws.Ghost Entry) (spares : ℕ → Type 0) (w : World C) (n : ℕ) (call : C) (r : Result Standing WorldFault) → WorldStands (laws_of setting.passes) g w → ((it : Standing) → r ≡ Ok it → server_at w.servers n ≡ Some it) → KeepsAll (laws_of setting.passes) g spares w (submits setting w n call r).0
+submits_keep : {C : Type 0} (setting : Setting C) → CarriesZxid setting → (g : laws.Ghost Entry) (spares : ℕ → Type 0) (w : World C) (n : ℕ) (call : C) (r : Result ProcessState WorldFault) → WorldStands (laws_of setting.passes) g w → ((it : ProcessState) → r ≡ Ok it → server_at w.servers n ≡ Some it) → KeepsAll (laws_of setting.passes) g spares w (submits setting w n call r).0
 submits_keep setting law g spares w n call (Err fault) f is = same_world (laws_of setting.passes) g spares w f
 submits_keep setting law g spares w n call (Ok it) f is =
     by_test (λ (p : World _ × Answer). KeepsAll (laws_of setting.passes) g spares w p.0) (rules.is_serving it.state.peer.role) _ _
@@ -235,7 +235,7 @@ spends_sync_keep k g spares w t (v, Ok numbers) f = record {
 }
 spends_sync_keep k g spares w t (v, Err fault) f = f
 
-syncs_keep : {C : Type 0} (k : laws.Setting Entry) (g : laws.Ghost Entry) (spares : ℕ → Type 0) (w : World C) (n tag : ℕ) (r : Result Standing WorldFault) → WorldStands k g w → ((it : Standing) → r ≡ Ok it → server_at w.servers n ≡ Some it) → KeepsAll k g spares w (syncs w n tag r).0
+syncs_keep : {C : Type 0} (k : laws.Setting Entry) (g : laws.Ghost Entry) (spares : ℕ → Type 0) (w : World C) (n tag : ℕ) (r : Result ProcessState WorldFault) → WorldStands k g w → ((it : ProcessState) → r ≡ Ok it → server_at w.servers n ≡ Some it) → KeepsAll k g spares w (syncs w n tag r).0
 syncs_keep k g spares w n tag (Err fault) f is = same_world k g spares w f
 syncs_keep k g spares w n tag (Ok it) f is =
     by_test (λ (p : World _ × Answer). KeepsAll k g spares w p.0) (rules.is_serving it.state.peer.role) _ _
@@ -248,27 +248,27 @@ syncs_keep k g spares w n tag (Ok it) f is =
 
 -- ---- crashes
 
-crashes_keep : {C : Type 0} (k : laws.Setting Entry) (g : laws.Ghost Entry) (w : World C) (n : ℕ) (r : Result Standing WorldFault) → WorldStands k g w → ((it : Standing) → r ≡ Ok it → server_at w.servers n ≡ Some it) → KeepsAll k g (λ j. j ≢ n) w (crashes w n r).0
+crashes_keep : {C : Type 0} (k : laws.Setting Entry) (g : laws.Ghost Entry) (w : World C) (n : ℕ) (r : Result ProcessState WorldFault) → WorldStands k g w → ((it : ProcessState) → r ≡ Ok it → server_at w.servers n ≡ Some it) → KeepsAll k g (λ j. j ≢ n) w (crashes w n r).0
 crashes_keep k g w n (Err fault) f is = same_world k g (λ j. j ≢ n) w f
 crashes_keep k g w n (Ok it) f is =
     let here = is it refl in
     let at = f.servers n it here in
     let place = found w.servers n it here in
-    let next : Standing = standing false (crashed it.state) in
+    let next : ProcessState = standing false (crashed it.state) in
     let keeps = keeps_crash k g (core_of it.state) it.state.peer.me at.stands.kept in
     told_keeps k g g (λ j. j ≢ n) w n next (Ok []) (grows_refl g) (nothing_written g (set w.servers (n - 1) next)) f.facts
     (numbered_at k g g w.servers n it.state.peer.me (core_of (crashed it.state)) it next here at.me keeps f.servers
     (record { me = at.me; stands = record { kept = keeps.kept; role = tt; within = omega arith; above = at.stands.above } }))
     f.messages tt
-    (λ j other. subst (λ (o : Option Standing). IsPrefix (delivered_list (server_at w.servers j)) (delivered_list o))
+    (λ j other. subst (λ (o : Option ProcessState). IsPrefix (delivered_list (server_at w.servers j)) (delivered_list o))
     (sym (other_same w.servers n j next place.above other)) (prefix_refl (delivered_list (server_at w.servers j))))
 
-restarts_keep : {C : Type 0} (k : laws.Setting Entry) (g : laws.Ghost Entry) (spares : ℕ → Type 0) (w : World C) (n : ℕ) (r : Result Standing WorldFault) → WorldStands k g w → ((it : Standing) → r ≡ Ok it → server_at w.servers n ≡ Some it) → KeepsAll k g spares w (restarts w n r).0
+restarts_keep : {C : Type 0} (k : laws.Setting Entry) (g : laws.Ghost Entry) (spares : ℕ → Type 0) (w : World C) (n : ℕ) (r : Result ProcessState WorldFault) → WorldStands k g w → ((it : ProcessState) → r ≡ Ok it → server_at w.servers n ≡ Some it) → KeepsAll k g spares w (restarts w n r).0
 restarts_keep k g spares w n (Err fault) f is = same_world k g spares w f
 restarts_keep k g spares w n (Ok it) f is =
     let here = is it refl in
     let at = f.servers n it here in
-    let next : Standing = standing true it.state in
+    let next : ProcessState = standing true it.state in
     told_keeps k g g spares w n next (Ok []) (grows_refl g) (nothing_written g (set w.servers (n - 1) next)) f.facts
     (numbered_at k g g w.servers n it.state.peer.me (core_of it.state) it next here at.me
     (stays k g it.state.peer.me (core_of it.state) at.stands.kept) f.servers at)

@@ -10,11 +10,11 @@ use Rattle.zab_laws.proofs.Extending.{agreed}
 use Rattle.zab_laws.proofs.Matching.{one_zxid}
 use Rattle.zab_rule_laws.specs.Told.{laws_of}
 use Rattle.zab_rule_laws.proofs.Hearing.{CarriesZxid}
-use Rattle.zab_runs.specs.declared.event.Event.{Event}
-use Rattle.zab_runs.specs.declared.event.Event.TheVariants.{Crash}
-use Rattle.zab_runs.specs.Standings.{Standing}
-use Rattle.zab_runs.specs.Worlds.{Profile, server_at}
-use Rattle.zab_runs.specs.Runs.{run, delivered_list, delivered_after, history_list, history_after}
+use Rattle.zab_model.specs.declared.event.Event.{Event}
+use Rattle.zab_model.specs.declared.event.Event.TheVariants.{Crash}
+use Rattle.zab_model.specs.ProcessStates.{ProcessState}
+use Rattle.zab_model.specs.Worlds.{Profile, server_at}
+use Rattle.zab_model.specs.Runs.{run, delivered_list, delivered_after, history_list, history_after}
 use Rattle.zab_agreement_laws.specs.Agreement.{Agrees}
 use Rattle.zab_agreement_laws.proofs.WholeRuns.{IsHeld, shares_of, whole}
 use Rattle.zab_agreement_laws.proofs.FactRuns.{not_in_nothing, has_quorum}
@@ -33,7 +33,7 @@ rises_in k g facts list (inr h) =
     let r = rising k g facts (suc h.epoch) h.server h.epoch h.longest (omega arith) h.is in
     rises_front k.key (pos 0) list h.longest r.rises h.within
 
-delivered_in_history : (o : Option Standing) → IsPrefix (delivered_list o) (history_list o)
+delivered_in_history : (o : Option ProcessState) → IsPrefix (delivered_list o) (history_list o)
 delivered_in_history None = prefix_refl []
 delivered_in_history (Some it) = prefix_take it.state.delivered it.state.peer.stable.history
 

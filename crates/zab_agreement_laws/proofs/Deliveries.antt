@@ -9,32 +9,32 @@ use Rattle.zab_broadcast.specs.Calls.{Setting, is_taken}
 use Rattle.zab_broadcast.specs.Rules as rules
 use Rattle.zab_rule_laws.proofs.Common.{by_test}
 use Rattle.zab_rule_laws.proofs.TagFacts.{cases_eq, all_append, all_get, same_some}
-use Rattle.zab_runs.specs.declared.event.Event.{Event}
-use Rattle.zab_runs.specs.declared.event.Event.TheVariants.{Lead, Follow, Arrive, Submit, Expire, Sync, Crash, Restart}
-use Rattle.zab_runs.specs.declared.fault.WorldFault.{WorldFault}
-use Rattle.zab_runs.specs.declared.fault.WorldFault.TheVariants as faults
-use Rattle.zab_runs.specs.Standings.{Standing, standing, new_server, new_servers}
-use Rattle.zab_runs.specs.Worlds.{World, Profile, Answer, new_world, is_server, server_at, if_up, if_down, running, resting, told, said, with_server, acts, receives, message_at, arrives, spends, submits, spends_sync, syncs, crashed, crashes, restarts, happens}
-use Rattle.zab_runs.specs.Runs.{after, run, delivered_list, delivered_of}
-use Rattle.zab_runs.specs.Movers.{mover, addressee_of}
-use Rattle.zab_runs.specs.Running.{is_up, is_running}
-use Rattle.zab_runs.proofs.ServerLists.{found, same_place, other_place, other_same, up_is, down_is}
+use Rattle.zab_model.specs.declared.event.Event.{Event}
+use Rattle.zab_model.specs.declared.event.Event.TheVariants.{Lead, Follow, Arrive, Submit, Expire, Sync, Crash, Restart}
+use Rattle.zab_model.specs.declared.fault.WorldFault.{WorldFault}
+use Rattle.zab_model.specs.declared.fault.WorldFault.TheVariants as faults
+use Rattle.zab_model.specs.ProcessStates.{ProcessState, standing, new_server, new_servers}
+use Rattle.zab_model.specs.Worlds.{World, Profile, Answer, new_world, is_server, server_at, if_up, if_down, running, resting, told, said, with_server, acts, receives, message_at, arrives, spends, submits, spends_sync, syncs, crashed, crashes, restarts, happens}
+use Rattle.zab_model.specs.Runs.{after, run, delivered_list, delivered_of}
+use Rattle.zab_model.specs.Movers.{mover, addressee_of}
+use Rattle.zab_model.specs.Running.{is_up, is_running}
+use Rattle.zab_model.proofs.ServerLists.{found, same_place, other_place, other_same, up_is, down_is}
 
 -- ---- other servers
 
 -- one server stands otherwise
-stands_others : (servers : List Standing) (n p : ℕ) (it stands : Standing) → server_at servers n ≡ Some it → p ≢ n → server_at (set servers (n - 1) stands) p ≡ server_at servers p
+stands_others : (servers : List ProcessState) (n p : ℕ) (it stands : ProcessState) → server_at servers n ≡ Some it → p ≢ n → server_at (set servers (n - 1) stands) p ≡ server_at servers p
 stands_others servers n p it stands is other = other_same servers n p stands (found servers n it is).above other
 
-told_others : {C : Type 0} (w : World C) (n p : ℕ) (it stands : Standing) (r : Result (List (Message C)) RuleFault) → server_at w.servers n ≡ Some it → p ≢ n → server_at (told (with_server w n stands) (said r)).0.servers p ≡ server_at w.servers p
+told_others : {C : Type 0} (w : World C) (n p : ℕ) (it stands : ProcessState) (r : Result (List (Message C)) RuleFault) → server_at w.servers n ≡ Some it → p ≢ n → server_at (told (with_server w n stands) (said r)).0.servers p ≡ server_at w.servers p
 told_others w n p it stands (Ok messages) is other = stands_others w.servers n p it stands is other
 told_others w n p it stands (Err fault) is other = stands_others w.servers n p it stands is other
 
-spends_others : {C : Type 0} (t : ℕ) (w : World C) (n p : ℕ) (it stands : Standing) (r : Result (List (Message C)) RuleFault) → server_at w.servers n ≡ Some it → p ≢ n → server_at (spends t (told (with_server w n stands) (said r))).0.servers p ≡ server_at w.servers p
+spends_others : {C : Type 0} (t : ℕ) (w : World C) (n p : ℕ) (it stands : ProcessState) (r : Result (List (Message C)) RuleFault) → server_at w.servers n ≡ Some it → p ≢ n → server_at (spends t (told (with_server w n stands) (said r))).0.servers p ≡ server_at w.servers p
 spends_others t w n p it stands (Ok messages) is other = stands_others w.servers n p it stands is other
 spends_others t w n p it stands (Err fault) is other = stands_others w.servers n p it stands is other
 
-acts_others : {C : Type 0} (w : World C) (n p : ℕ) (rule : State → rules.Acts C) (r : Result Standing WorldFault) → ((it : Standing) → r ≡ Ok it → server_at w.servers n ≡ Some it) → p ≢ n → server_at (acts w n rule r).0.servers p ≡ server_at w.servers p
+acts_others : {C : Type 0} (w : World C) (n p : ℕ) (rule : State → rules.Acts C) (r : Result ProcessState WorldFault) → ((it : ProcessState) → r ≡ Ok it → server_at w.servers n ≡ Some it) → p ≢ n → server_at (acts w n rule r).0.servers p ≡ server_at w.servers p
 acts_others w n p rule (Ok it) is other = told_others w n p it (standing it.up (rule it.state).0) (rule it.state).1 (is it refl) other
 acts_others w n p rule (Err fault) is other = refl
 
@@ -44,7 +44,7 @@ arrives_others setting w p (Some m) other =
     acts_others w m.addressee p (receives setting m.sender m.body) (running w.servers m.addressee)
     (λ it is. up_is (server_at w.servers m.addressee) it is) other
 
-submits_others : {C : Type 0} (setting : Setting C) (w : World C) (n p : ℕ) (call : C) (r : Result Standing WorldFault) → ((it : Standing) → r ≡ Ok it → server_at w.servers n ≡ Some it) → p ≢ n → server_at (submits setting w n call r).0.servers p ≡ server_at w.servers p
+submits_others : {C : Type 0} (setting : Setting C) (w : World C) (n p : ℕ) (call : C) (r : Result ProcessState WorldFault) → ((it : ProcessState) → r ≡ Ok it → server_at w.servers n ≡ Some it) → p ≢ n → server_at (submits setting w n call r).0.servers p ≡ server_at w.servers p
 submits_others setting w n p call (Err fault) is other = refl
 submits_others setting w n p call (Ok it) is other =
     by_test (λ (q : World _ × Answer). server_at q.0.servers p ≡ server_at w.servers p) (rules.is_serving it.state.peer.role) _ _
@@ -53,11 +53,11 @@ submits_others setting w n p call (Ok it) is other =
     (λ free. spends_others (setting.tag call) w n p it (standing it.up (rules.submit setting it.state call).0) (rules.submit setting it.state call).1 (is it refl) other))
     (λ no. refl)
 
-spends_sync_others : {C : Type 0} (t : ℕ) (w : World C) (n p : ℕ) (it stands : Standing) (r : Result (List (Message C)) RuleFault) → server_at w.servers n ≡ Some it → p ≢ n → server_at (spends_sync t (told (with_server w n stands) (said r))).0.servers p ≡ server_at w.servers p
+spends_sync_others : {C : Type 0} (t : ℕ) (w : World C) (n p : ℕ) (it stands : ProcessState) (r : Result (List (Message C)) RuleFault) → server_at w.servers n ≡ Some it → p ≢ n → server_at (spends_sync t (told (with_server w n stands) (said r))).0.servers p ≡ server_at w.servers p
 spends_sync_others t w n p it stands (Ok messages) is other = stands_others w.servers n p it stands is other
 spends_sync_others t w n p it stands (Err fault) is other = stands_others w.servers n p it stands is other
 
-syncs_others : {C : Type 0} (w : World C) (n p tag : ℕ) (r : Result Standing WorldFault) → ((it : Standing) → r ≡ Ok it → server_at w.servers n ≡ Some it) → p ≢ n → server_at (syncs w n tag r).0.servers p ≡ server_at w.servers p
+syncs_others : {C : Type 0} (w : World C) (n p tag : ℕ) (r : Result ProcessState WorldFault) → ((it : ProcessState) → r ≡ Ok it → server_at w.servers n ≡ Some it) → p ≢ n → server_at (syncs w n tag r).0.servers p ≡ server_at w.servers p
 syncs_others w n p tag (Err fault) is other = refl
 syncs_others {C} w n p tag (Ok it) is other =
     let act : rules.Acts C = rules.sync it.state tag in
@@ -67,11 +67,11 @@ syncs_others {C} w n p tag (Ok it) is other =
     (λ free. spends_sync_others tag w n p it (standing it.up act.0) act.1 (is it refl) other))
     (λ no. refl)
 
-crashes_others : {C : Type 0} (w : World C) (n p : ℕ) (r : Result Standing WorldFault) → ((it : Standing) → r ≡ Ok it → server_at w.servers n ≡ Some it) → p ≢ n → server_at (crashes w n r).0.servers p ≡ server_at w.servers p
+crashes_others : {C : Type 0} (w : World C) (n p : ℕ) (r : Result ProcessState WorldFault) → ((it : ProcessState) → r ≡ Ok it → server_at w.servers n ≡ Some it) → p ≢ n → server_at (crashes w n r).0.servers p ≡ server_at w.servers p
 crashes_others w n p (Ok it) is other = stands_others w.servers n p it (standing false (crashed it.state)) (is it refl) other
 crashes_others w n p (Err fault) is other = refl
 
-restarts_others : {C : Type 0} (w : World C) (n p : ℕ) (r : Result Standing WorldFault) → ((it : Standing) → r ≡ Ok it → server_at w.servers n ≡ Some it) → p ≢ n → server_at (restarts w n r).0.servers p ≡ server_at w.servers p
+restarts_others : {C : Type 0} (w : World C) (n p : ℕ) (r : Result ProcessState WorldFault) → ((it : ProcessState) → r ≡ Ok it → server_at w.servers n ≡ Some it) → p ≢ n → server_at (restarts w n r).0.servers p ≡ server_at w.servers p
 restarts_others w n p (Ok it) is other = stands_others w.servers n p it (standing true it.state) (is it refl) other
 restarts_others w n p (Err fault) is other = refl
 
@@ -97,37 +97,37 @@ others_keep profile w event p other = ap delivered_list (others_stay profile w e
 
 -- ---- servers that are down have delivered nothing
 
-abbrev AreResting : List Standing → Type 0
-AreResting servers = (n : ℕ) (it : Standing) → server_at servers n ≡ Some it → it.up ≡ false → it.state.delivered ≡ 0
+abbrev AreResting : List ProcessState → Type 0
+AreResting servers = (n : ℕ) (it : ProcessState) → server_at servers n ≡ Some it → it.up ≡ false → it.state.delivered ≡ 0
 
 not_both : {A : Type 0} (b : Bool) → b ≡ true → b ≡ false → A
 not_both b up down = absurd (let e : true ≡ false = sym up ∙ down in cc)
 
 -- a running server is up, and one that rests is not
-is_up_if : (o : Option Standing) (it : Standing) → if_up o ≡ Ok it → it.up ≡ true
+is_up_if : (o : Option ProcessState) (it : ProcessState) → if_up o ≡ Ok it → it.up ≡ true
 is_up_if None it is = absurd cc
 is_up_if (Some other) it is = by_up other.up refl is
   where
-    by_up : (b : Bool) → other.up ≡ b → (let r : Result Standing WorldFault = cond b (Ok other) (Err faults.Down) in r ≡ Ok it) → it.up ≡ true
+    by_up : (b : Bool) → other.up ≡ b → (let r : Result ProcessState WorldFault = cond b (Ok other) (Err faults.Down) in r ≡ Ok it) → it.up ≡ true
     by_up true at is = cc
     by_up false at is = absurd cc
 
-is_down : (o : Option Standing) (it : Standing) → if_down o ≡ Ok it → it.up ≡ false
+is_down : (o : Option ProcessState) (it : ProcessState) → if_down o ≡ Ok it → it.up ≡ false
 is_down None it is = absurd cc
 is_down (Some other) it is = by_up other.up refl is
   where
-    by_up : (b : Bool) → other.up ≡ b → (let r : Result Standing WorldFault = cond b (Err faults.NotDown) (Ok other) in r ≡ Ok it) → it.up ≡ false
+    by_up : (b : Bool) → other.up ≡ b → (let r : Result ProcessState WorldFault = cond b (Err faults.NotDown) (Ok other) in r ≡ Ok it) → it.up ≡ false
     by_up true at is = absurd cc
     by_up false at is = cc
 
-abbrev IsUp : {C : Type 0} → World C → ℕ → Standing → Type 0
+abbrev IsUp : {C : Type 0} → World C → ℕ → ProcessState → Type 0
 IsUp w n it = (server_at w.servers n ≡ Some it) × (it.up ≡ true)
 
-up_both : {C : Type 0} (w : World C) (n : ℕ) (it : Standing) → running w.servers n ≡ Ok it → IsUp w n it
+up_both : {C : Type 0} (w : World C) (n : ℕ) (it : ProcessState) → running w.servers n ≡ Ok it → IsUp w n it
 up_both w n it is = (up_is (server_at w.servers n) it is, is_up_if (server_at w.servers n) it is)
 
 -- a server stands otherwise
-rests_stands : (servers : List Standing) (n : ℕ) (it stands : Standing) → server_at servers n ≡ Some it → AreResting servers → (stands.up ≡ false → stands.state.delivered ≡ 0) → AreResting (set servers (n - 1) stands)
+rests_stands : (servers : List ProcessState) (n : ℕ) (it stands : ProcessState) → server_at servers n ≡ Some it → AreResting servers → (stands.up ≡ false → stands.state.delivered ≡ 0) → AreResting (set servers (n - 1) stands)
 rests_stands servers n it stands is rest fact k other at down =
     let place = found servers n it is in
     elim (cases_eq k n) [
@@ -135,19 +135,19 @@ rests_stands servers n it stands is rest fact k other at down =
           (let here : Some stands ≡ Some other =
           sym (same_place servers n it stands place) ∙ (ap (λ u. server_at (set servers (n - 1) stands) u) (sym same) ∙ at) in
           let one : stands ≡ other = same_some stands other here in
-          subst (λ (s : Standing). s.state.delivered ≡ 0) one (fact (ap (λ (s : Standing). s.up) one ∙ down)))
+          subst (λ (s : ProcessState). s.state.delivered ≡ 0) one (fact (ap (λ (s : ProcessState). s.up) one ∙ down)))
       | inr differs ↦ rest k other (other_place servers n k stands other place.above differs at) down
     ]
 
-told_rests : {C : Type 0} (w : World C) (n : ℕ) (stands : Standing) (r : Result (List (Message C)) RuleFault) → AreResting (set w.servers (n - 1) stands) → AreResting (told (with_server w n stands) (said r)).0.servers
+told_rests : {C : Type 0} (w : World C) (n : ℕ) (stands : ProcessState) (r : Result (List (Message C)) RuleFault) → AreResting (set w.servers (n - 1) stands) → AreResting (told (with_server w n stands) (said r)).0.servers
 told_rests w n stands (Ok messages) rest = rest
 told_rests w n stands (Err fault) rest = rest
 
-spends_rests : {C : Type 0} (t : ℕ) (w : World C) (n : ℕ) (stands : Standing) (r : Result (List (Message C)) RuleFault) → AreResting (set w.servers (n - 1) stands) → AreResting (spends t (told (with_server w n stands) (said r))).0.servers
+spends_rests : {C : Type 0} (t : ℕ) (w : World C) (n : ℕ) (stands : ProcessState) (r : Result (List (Message C)) RuleFault) → AreResting (set w.servers (n - 1) stands) → AreResting (spends t (told (with_server w n stands) (said r))).0.servers
 spends_rests t w n stands (Ok messages) rest = rest
 spends_rests t w n stands (Err fault) rest = rest
 
-acts_rests : {C : Type 0} (w : World C) (n : ℕ) (rule : State → rules.Acts C) (r : Result Standing WorldFault) → ((it : Standing) → r ≡ Ok it → IsUp w n it) → AreResting w.servers → AreResting (acts w n rule r).0.servers
+acts_rests : {C : Type 0} (w : World C) (n : ℕ) (rule : State → rules.Acts C) (r : Result ProcessState WorldFault) → ((it : ProcessState) → r ≡ Ok it → IsUp w n it) → AreResting w.servers → AreResting (acts w n rule r).0.servers
 acts_rests w n rule (Ok it) is rest =
     let here = is it refl in
     told_rests w n (standing it.up (rule it.state).0) (rule it.state).1
@@ -159,7 +159,7 @@ arrives_rests setting w None rest = rest
 arrives_rests setting w (Some m) rest =
     acts_rests w m.addressee (receives setting m.sender m.body) (running w.servers m.addressee) (λ it is. up_both w m.addressee it is) rest
 
-submits_rests : {C : Type 0} (setting : Setting C) (w : World C) (n : ℕ) (call : C) (r : Result Standing WorldFault) → ((it : Standing) → r ≡ Ok it → IsUp w n it) → AreResting w.servers → AreResting (submits setting w n call r).0.servers
+submits_rests : {C : Type 0} (setting : Setting C) (w : World C) (n : ℕ) (call : C) (r : Result ProcessState WorldFault) → ((it : ProcessState) → r ≡ Ok it → IsUp w n it) → AreResting w.servers → AreResting (submits setting w n call r).0.servers
 submits_rests setting w n call (Err fault) is rest = rest
 submits_rests setting w n call (Ok it) is rest =
     let here = is it refl in
@@ -170,11 +170,11 @@ submits_rests setting w n call (Ok it) is rest =
     (rests_stands w.servers n it (standing it.up (rules.submit setting it.state call).0) here.0 rest (λ down. not_both it.up here.1 down))))
     (λ no. rest)
 
-spends_sync_rests : {C : Type 0} (t : ℕ) (w : World C) (n : ℕ) (stands : Standing) (r : Result (List (Message C)) RuleFault) → AreResting (set w.servers (n - 1) stands) → AreResting (spends_sync t (told (with_server w n stands) (said r))).0.servers
+spends_sync_rests : {C : Type 0} (t : ℕ) (w : World C) (n : ℕ) (stands : ProcessState) (r : Result (List (Message C)) RuleFault) → AreResting (set w.servers (n - 1) stands) → AreResting (spends_sync t (told (with_server w n stands) (said r))).0.servers
 spends_sync_rests t w n stands (Ok messages) rest = rest
 spends_sync_rests t w n stands (Err fault) rest = rest
 
-syncs_rests : {C : Type 0} (w : World C) (n tag : ℕ) (r : Result Standing WorldFault) → ((it : Standing) → r ≡ Ok it → IsUp w n it) → AreResting w.servers → AreResting (syncs w n tag r).0.servers
+syncs_rests : {C : Type 0} (w : World C) (n tag : ℕ) (r : Result ProcessState WorldFault) → ((it : ProcessState) → r ≡ Ok it → IsUp w n it) → AreResting w.servers → AreResting (syncs w n tag r).0.servers
 syncs_rests w n tag (Err fault) is rest = rest
 syncs_rests {C} w n tag (Ok it) is rest =
     let here = is it refl in
@@ -186,11 +186,11 @@ syncs_rests {C} w n tag (Ok it) is rest =
     (rests_stands w.servers n it (standing it.up act.0) here.0 rest (λ down. not_both it.up here.1 down))))
     (λ no. rest)
 
-crashes_rests : {C : Type 0} (w : World C) (n : ℕ) (r : Result Standing WorldFault) → ((it : Standing) → r ≡ Ok it → server_at w.servers n ≡ Some it) → AreResting w.servers → AreResting (crashes w n r).0.servers
+crashes_rests : {C : Type 0} (w : World C) (n : ℕ) (r : Result ProcessState WorldFault) → ((it : ProcessState) → r ≡ Ok it → server_at w.servers n ≡ Some it) → AreResting w.servers → AreResting (crashes w n r).0.servers
 crashes_rests w n (Ok it) is rest = rests_stands w.servers n it (standing false (crashed it.state)) (is it refl) rest (λ down. refl)
 crashes_rests w n (Err fault) is rest = rest
 
-restarts_rests : {C : Type 0} (w : World C) (n : ℕ) (r : Result Standing WorldFault) → ((it : Standing) → r ≡ Ok it → server_at w.servers n ≡ Some it) → AreResting w.servers → AreResting (restarts w n r).0.servers
+restarts_rests : {C : Type 0} (w : World C) (n : ℕ) (r : Result ProcessState WorldFault) → ((it : ProcessState) → r ≡ Ok it → server_at w.servers n ≡ Some it) → AreResting w.servers → AreResting (restarts w n r).0.servers
 restarts_rests w n (Ok it) is rest = rests_stands w.servers n it (standing true it.state) (is it refl) rest (λ down. not_both true refl down)
 restarts_rests w n (Err fault) is rest = rest
 
@@ -217,7 +217,7 @@ after_rests profile w (event ∷ events) rest = after_rests profile (happens pro
 none_taken : (delivered : ℕ) (entries : List Entry) → delivered ≡ 0 → take delivered entries ≡ []
 none_taken delivered entries is = ap (λ d. take d entries) is
 
-abbrev IsIdle : Standing → Type 0
+abbrev IsIdle : ProcessState → Type 0
 IsIdle it = it.state.delivered ≡ 0
 
 new_servers_idle : (servers more : ℕ) → AllByRecursion IsIdle (new_servers servers more)
@@ -225,11 +225,11 @@ new_servers_idle servers zero = tt
 new_servers_idle servers (suc more) =
     all_append IsIdle (new_servers servers more) (new_server servers (suc more) ∷ []) (new_servers_idle servers more) (refl, tt)
 
-new_idle : (servers n : ℕ) (it : Standing) → server_at (new_servers servers servers) n ≡ Some it → it.state.delivered ≡ 0
+new_idle : (servers n : ℕ) (it : ProcessState) → server_at (new_servers servers servers) n ≡ Some it → it.state.delivered ≡ 0
 new_idle servers n it is =
     all_get IsIdle (new_servers servers servers) (n - 1) it (new_servers_idle servers servers) (found (new_servers servers servers) n it is).get
 
-idle_list : (o : Option Standing) → ((it : Standing) → o ≡ Some it → it.state.delivered ≡ 0) → delivered_list o ≡ []
+idle_list : (o : Option ProcessState) → ((it : ProcessState) → o ≡ Some it → it.state.delivered ≡ 0) → delivered_list o ≡ []
 idle_list None idle = refl
 idle_list (Some it) idle = none_taken it.state.delivered it.state.peer.stable.history (idle it refl)
 
@@ -243,14 +243,14 @@ run_rests : {C : Type 0} (profile : Profile C) (servers : ℕ) (events : List (E
 run_rests profile servers events = after_rests profile (new_world servers) events (λ n it is down. new_idle servers n it is)
 
 -- a server that is down has delivered nothing
-down_list : {C : Type 0} (w : World C) (p : ℕ) (it : Standing) → AreResting w.servers → server_at w.servers p ≡ Some it → it.up ≡ false → delivered_of w p ≡ []
+down_list : {C : Type 0} (w : World C) (p : ℕ) (it : ProcessState) → AreResting w.servers → server_at w.servers p ≡ Some it → it.up ≡ false → delivered_of w p ≡ []
 down_list w p it rest is down =
     ap delivered_list is ∙ none_taken it.state.delivered it.state.peer.stable.history (rest p it is down)
 
-crash_list : {C : Type 0} (w : World C) (p : ℕ) (it : Standing) → server_at w.servers p ≡ Some it → delivered_of (with_server w p (standing false (crashed it.state))) p ≡ []
+crash_list : {C : Type 0} (w : World C) (p : ℕ) (it : ProcessState) → server_at w.servers p ≡ Some it → delivered_of (with_server w p (standing false (crashed it.state))) p ≡ []
 crash_list w p it is = ap delivered_list (same_place w.servers p it (standing false (crashed it.state)) (found w.servers p it is))
 
-crash_by : {C : Type 0} (w : World C) (p : ℕ) (o : Option Standing) → AreResting w.servers → server_at w.servers p ≡ o → delivered_of (crashes w p (if_up o)).0 p ≡ []
+crash_by : {C : Type 0} (w : World C) (p : ℕ) (o : Option ProcessState) → AreResting w.servers → server_at w.servers p ≡ o → delivered_of (crashes w p (if_up o)).0 p ≡ []
 crash_by w p None rest is = ap delivered_list is
 crash_by {C} w p (Some it) rest is = by_up it.up refl
   where
@@ -259,12 +259,12 @@ crash_by {C} w p (Some it) rest is = by_up it.up refl
     by_up false at = down_list w p it rest is at
 
 -- one that does not run
-idle_by : {C : Type 0} (w : World C) (p : ℕ) (o : Option Standing) → AreResting w.servers → server_at w.servers p ≡ o → is_up o ≡ false → delivered_of w p ≡ []
+idle_by : {C : Type 0} (w : World C) (p : ℕ) (o : Option ProcessState) → AreResting w.servers → server_at w.servers p ≡ o → is_up o ≡ false → delivered_of w p ≡ []
 idle_by w p None rest is down = ap delivered_list is
 idle_by w p (Some it) rest is down = down_list w p it rest is down
 
--- a server does not run after its crash, also where the crash is refused
-crash_stops : {C : Type 0} (w : World C) (p : ℕ) (o : Option Standing) → server_at w.servers p ≡ o → is_running (crashes w p (if_up o)).0 p ≡ false
+-- after its crash, also if the crash is rejected
+crash_stops : {C : Type 0} (w : World C) (p : ℕ) (o : Option ProcessState) → server_at w.servers p ≡ o → is_running (crashes w p (if_up o)).0 p ≡ false
 crash_stops w p None is = ap is_up is
 crash_stops {C} w p (Some it) is = by_up it.up refl
   where
@@ -276,12 +276,12 @@ pub down_after_crash : {C : Type 0} (profile : Profile C) (w : World C) (p : ℕ
 down_after_crash profile w p = crash_stops w p (server_at w.servers p) refl
 
 -- a running server that crashes has delivered nothing any more
-pub crash_empties : {C : Type 0} (profile : Profile C) (w : World C) (p : ℕ) (it : Standing) → running w.servers p ≡ Ok it → delivered_of (happens profile w (Crash p)).0 p ≡ []
+pub crash_empties : {C : Type 0} (profile : Profile C) (w : World C) (p : ℕ) (it : ProcessState) → running w.servers p ≡ Ok it → delivered_of (happens profile w (Crash p)).0 p ≡ []
 crash_empties profile w p it up =
-    ap (λ (r : Result Standing WorldFault). delivered_of (crashes w p r).0 p) up ∙ crash_list w p it (up_is (server_at w.servers p) it up)
+    ap (λ (r : Result ProcessState WorldFault). delivered_of (crashes w p r).0 p) up ∙ crash_list w p it (up_is (server_at w.servers p) it up)
 
 -- in every world of a run, a server that is down has delivered nothing,
-pub down_is_empty : {C : Type 0} (profile : Profile C) (servers : ℕ) (events : List (Event C)) (p : ℕ) (it : Standing) → resting (run profile servers events).0.servers p ≡ Ok it → delivered_of (run profile servers events).0 p ≡ []
+pub down_is_empty : {C : Type 0} (profile : Profile C) (servers : ℕ) (events : List (Event C)) (p : ℕ) (it : ProcessState) → resting (run profile servers events).0.servers p ≡ Ok it → delivered_of (run profile servers events).0 p ≡ []
 down_is_empty profile servers events p it down =
     down_list (run profile servers events).0 p it (run_rests profile servers events)
     (down_is (server_at (run profile servers events).0.servers p) it down)
@@ -292,7 +292,7 @@ pub down_has_nothing : {C : Type 0} (profile : Profile C) (servers : ℕ) (event
 down_has_nothing profile servers events p down =
     idle_by (run profile servers events).0 p (server_at (run profile servers events).0.servers p) (run_rests profile servers events) refl down
 
--- and one whose crash is told, also where the crash is refused
+-- and one whose crash is an event, also if the crash is rejected
 pub crashed_is_empty : {C : Type 0} (profile : Profile C) (servers : ℕ) (events : List (Event C)) (p : ℕ) → delivered_of (happens profile (run profile servers events).0 (Crash p)).0 p ≡ []
 crashed_is_empty profile servers events p =
     crash_by (run profile servers events).0 p (server_at (run profile servers events).0.servers p) (run_rests profile servers events) refl

@@ -11,9 +11,9 @@ use Rattle.zab_laws.proofs.Facts.{same_some, some_not_none, in_later}
 use Rattle.zab_laws.proofs.Matching.{IsMadeIn, made_in}
 use Rattle.zab_rule_laws.specs.Told.{laws_of}
 use Rattle.zab_rule_laws.proofs.Hearing.{CarriesZxid}
-use Rattle.zab_runs.specs.declared.event.Event.{Event}
-use Rattle.zab_runs.specs.Worlds.{Profile, new_world}
-use Rattle.zab_runs.specs.Runs.{after, delivered_after, history_of}
+use Rattle.zab_model.specs.declared.event.Event.{Event}
+use Rattle.zab_model.specs.Worlds.{Profile, new_world}
+use Rattle.zab_model.specs.Runs.{after, delivered_after, history_of}
 use Rattle.zab_agreement_laws.specs.Moments.{Held, Started, IsAcknowledged}
 use Rattle.zab_agreement_laws.specs.Facts.{OneLeaderAnEpoch, AcknowledgedLasts, IsOfEpoch, HistoriesBeginWithTheirEpoch, DeliveredWasAcknowledged, IsEntryOf, HasQuorum}
 use Rattle.zab_agreement_laws.proofs.WholeRuns.{IsBegun, Whole, whole, shares_of, told_in, held_in}

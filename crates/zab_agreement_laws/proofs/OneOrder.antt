@@ -5,9 +5,9 @@ use Rattle.zab_quorums.specs.Quorums.{IsQuorumSystem}
 use Rattle.zab_laws.specs.Prefixes.{IsPrefix}
 use Rattle.zab_laws.proofs.PrefixLaws.{prefix_nil, prefix_trans, prefix_either}
 use Rattle.zab_laws.proofs.Facts.{split}
-use Rattle.zab_runs.specs.declared.event.Event.{Event}
-use Rattle.zab_runs.specs.Worlds.{Profile}
-use Rattle.zab_runs.specs.Runs.{run, delivered_after}
+use Rattle.zab_model.specs.declared.event.Event.{Event}
+use Rattle.zab_model.specs.Worlds.{Profile}
+use Rattle.zab_model.specs.Runs.{run, delivered_after}
 use Rattle.zab_agreement_laws.specs.Moments.{Holds, Held, HasAcknowledged, IsAcknowledged}
 use Rattle.zab_agreement_laws.specs.Facts.{OneLeaderAnEpoch, AcknowledgedLasts, HistoriesBeginWithTheirEpoch, FactsGiveOneOrder}
 use Rattle.zab_agreement_laws.proofs.WholeRuns.{shares_of}

@@ -1,4 +1,5 @@
--- What a server shares with the leader of the epoch that it has promised, and where a leader's history ends.
+-- What a server shares with the leader of the epoch that it has promised, and where a leader's
+-- history ends.
 use Rattle.std.proofs.Common.{◌≡◌, ℕ, ℤ, pos, ◌+◌, ◌*◌, ◌^◌, ◌<ℤ◌, int_lt, Bool, cond, List, [], ◌∷◌, ◌++◌, length, Some, refl, sym, ap, subst, ◌∙◌}
 use Rattle.zab_epoch.specs.declared.history.Entry.{Entry}
 use Rattle.zab_epoch.specs.declared.role.Role.{Role}
@@ -17,9 +18,9 @@ use Rattle.zab_rule_laws.proofs.Electing.{last_same}
 use Rattle.zab_rule_laws.proofs.Hearing.{CarriesZxid}
 use Rattle.zab_rule_laws.proofs.Leading.{IsNumber, number_of}
 use Rattle.zab_rule_laws.proofs.Splicing.{meant_is}
-use Rattle.zab_runs.specs.declared.event.Event.{Event}
-use Rattle.zab_runs.specs.Worlds.{Profile}
-use Rattle.zab_runs.specs.Runs.{run}
+use Rattle.zab_model.specs.declared.event.Event.{Event}
+use Rattle.zab_model.specs.Worlds.{Profile}
+use Rattle.zab_model.specs.Runs.{run}
 use Rattle.zab_agreement_laws.specs.Promises.{HasBegun, ServersShareTheirLeadersFront, NewLeadersMeanTheirLeadersHistory, LeadersEndBelow}
 use Rattle.zab_agreement_laws.proofs.AgreeEvents.{MaybeFact, message_fact}
 use Rattle.zab_agreement_laws.proofs.FactRuns.{of_epoch, began_above}

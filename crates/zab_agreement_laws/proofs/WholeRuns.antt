@@ -11,16 +11,16 @@ use Rattle.zab_laws.proofs.Extending.{kept_start}
 use Rattle.zab_rule_laws.specs.Told.{laws_of, Syncs, RoleFact, Stands}
 use Rattle.zab_rule_laws.proofs.Growing.{of_leader_grows}
 use Rattle.zab_rule_laws.proofs.Hearing.{CarriesZxid}
-use Rattle.zab_runs.specs.declared.event.Event.{Event}
-use Rattle.zab_runs.specs.declared.event.Event.TheVariants.{Crash}
-use Rattle.zab_runs.specs.Standings.{Standing, new_server, new_servers}
-use Rattle.zab_runs.specs.Worlds.{World, Profile, new_world, server_at, happens}
-use Rattle.zab_runs.specs.Runs.{after, delivered_list, delivered_of, history_list, history_of}
+use Rattle.zab_model.specs.declared.event.Event.{Event}
+use Rattle.zab_model.specs.declared.event.Event.TheVariants.{Crash}
+use Rattle.zab_model.specs.ProcessStates.{ProcessState, new_server, new_servers}
+use Rattle.zab_model.specs.Worlds.{World, Profile, new_world, server_at, happens}
+use Rattle.zab_model.specs.Runs.{after, delivered_list, delivered_of, history_list, history_of}
 use Rattle.zab_agreement_laws.specs.Moments.{Holds, Synchronizes}
-use Rattle.zab_runs.proofs.ServerLists.{found}
+use Rattle.zab_model.proofs.ServerLists.{found}
 use Rattle.zab_agreement_laws.proofs.AgreeEvents.{IsNumbered, WorldStands, happens_keeps}
 
--- ---- what is told and held
+-- ---- what is delivered and held
 
 abbrev pub IsTold : laws.Setting Entry → laws.Ghost Entry → List Entry → Type 0
 IsTold k g list = (current : ℕ) × ((list ≡ []) ⊎ laws.Delivered k g current list)
@@ -44,11 +44,11 @@ held_later g y list grows (inr h) =
     let q = grows.held h.server h.epoch h.longest h.is in
     inr (record { server = h.server; epoch = h.epoch; longest = q.history; is = q.is; within = prefix_trans list h.longest q.history h.within q.begins })
 
-told_by : (k : laws.Setting Entry) (g : laws.Ghost Entry) (n : ℕ) (o : Option Standing) → ((it : Standing) → o ≡ Some it → IsNumbered k g n it.state) → IsTold k g (delivered_list o)
+told_by : (k : laws.Setting Entry) (g : laws.Ghost Entry) (n : ℕ) (o : Option ProcessState) → ((it : ProcessState) → o ≡ Some it → IsNumbered k g n it.state) → IsTold k g (delivered_list o)
 told_by k g n None f = (0, inl refl)
 told_by k g n (Some it) f = (it.state.peer.stable.current, (f it refl).stands.kept.sound.told)
 
-held_by : (k : laws.Setting Entry) (g : laws.Ghost Entry) (n : ℕ) (o : Option Standing) → ((it : Standing) → o ≡ Some it → IsNumbered k g n it.state) → IsHeld g (history_list o)
+held_by : (k : laws.Setting Entry) (g : laws.Ghost Entry) (n : ℕ) (o : Option ProcessState) → ((it : ProcessState) → o ≡ Some it → IsNumbered k g n it.state) → IsHeld g (history_list o)
 held_by k g n None f = inl refl
 held_by k g n (Some it) f = inr (record {
   server = it.state.peer.me;
@@ -73,10 +73,10 @@ pub record IsBegun (g : laws.Ghost Entry) (leader epoch : ℕ) (start : List Ent
   pub leader_is : began.leader ≡ leader
   pub start_is : began.start ≡ start
 
-pub record IsWritten (g : laws.Ghost Entry) (servers : List Standing) : Type 0 where
-  pub held : (n : ℕ) (it : Standing) → server_at servers n ≡ Some it → laws.Holds g n it.state.peer.stable.current it.state.peer.stable.history
-  pub of_leader : (n : ℕ) (it : Standing) → server_at servers n ≡ Some it → 0 < it.state.peer.stable.current → laws.IsOfLeader g it.state.peer.stable.current it.state.peer.stable.history
-  pub began : (n : ℕ) (it : Standing) → server_at servers n ≡ Some it → it.state.peer.role ≡ Sync → IsBegun g n it.state.peer.stable.current it.state.peer.stable.history
+pub record IsWritten (g : laws.Ghost Entry) (servers : List ProcessState) : Type 0 where
+  pub held : (n : ℕ) (it : ProcessState) → server_at servers n ≡ Some it → laws.Holds g n it.state.peer.stable.current it.state.peer.stable.history
+  pub of_leader : (n : ℕ) (it : ProcessState) → server_at servers n ≡ Some it → 0 < it.state.peer.stable.current → laws.IsOfLeader g it.state.peer.stable.current it.state.peer.stable.history
+  pub began : (n : ℕ) (it : ProcessState) → server_at servers n ≡ Some it → it.state.peer.role ≡ Sync → IsBegun g n it.state.peer.stable.current it.state.peer.stable.history
 
 written_in : {C : Type 0} (k : laws.Setting Entry) (g : laws.Ghost Entry) (w : World C) → WorldStands k g w → IsWritten g w.servers
 written_in k g w f = record {
@@ -88,12 +88,12 @@ written_in k g w f = record {
       record { began = y.leads.began; is = y.leads.is; leader_is = y.leads.leader ∙ s.me; start_is = sym y.history });
 }
   where
-    now : (n : ℕ) (it : Standing) → server_at w.servers n ≡ Some it → g.held n it.state.peer.stable.current ≡ Some it.state.peer.stable.history
+    now : (n : ℕ) (it : ProcessState) → server_at w.servers n ≡ Some it → g.held n it.state.peer.stable.current ≡ Some it.state.peer.stable.history
     now n it is =
         let s = f.servers n it is in
         subst (λ m. g.held m it.state.peer.stable.current ≡ Some it.state.peer.stable.history) s.me s.stands.kept.sound.held_now
 
-written_later : (g y : laws.Ghost Entry) (servers : List Standing) → laws.Grows g y → IsWritten g servers → IsWritten y servers
+written_later : (g y : laws.Ghost Entry) (servers : List ProcessState) → laws.Grows g y → IsWritten g servers → IsWritten y servers
 written_later g y servers grows f = record {
   held = λ n it is. holds_grows g y grows n it.state.peer.stable.current it.state.peer.stable.history (f.held n it is);
   of_leader = λ n it is above. of_leader_grows g y grows it.state.peer.stable.current it.state.peer.stable.history (f.of_leader n it is above);
@@ -173,7 +173,7 @@ through profile law share g w (event ∷ events) f =
 
 -- ---- a new world
 
-record IsNew (k : laws.Setting Entry) (n : ℕ) (it : Standing) : Type 0 where
+record IsNew (k : laws.Setting Entry) (n : ℕ) (it : ProcessState) : Type 0 where
   pub me : it.state.peer.me ≡ n
   pub stands : 0 < n → Stands k laws.start it.state
 
@@ -200,7 +200,7 @@ length_new : (servers more : ℕ) → length (new_servers servers more) ≡ more
 length_new servers zero = refl
 length_new servers (suc more) = length_push (new_servers servers more) (new_server servers (suc more)) ∙ ap suc (length_new servers more)
 
-new_at : (k : laws.Setting Entry) (servers more i : ℕ) (it : Standing) → slice_get (new_servers servers more) i ≡ Some it → IsNew k (suc i) it
+new_at : (k : laws.Setting Entry) (servers more i : ℕ) (it : ProcessState) → slice_get (new_servers servers more) i ≡ Some it → IsNew k (suc i) it
 new_at k servers zero i it e = absurd cc
 new_at k servers (suc more) i it e = elim (get_last (new_servers servers more) (new_server servers (suc more)) it i e) [
   | inl in_front ↦ new_at k servers more i it in_front

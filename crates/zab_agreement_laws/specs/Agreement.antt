@@ -3,10 +3,10 @@
 use Rattle.std.specs.Prelude.{◌≡◌, ◌≢◌, ℕ, ◌+◌, pos, ◌⊎◌, List, [], ◌∷◌, ◌++◌, take, Some, slice_get}
 use Rattle.zab_epoch.specs.declared.history.Entry.{Entry}
 use Rattle.zab_laws.specs.Prefixes.{IsPrefix, Rises}
-use Rattle.zab_runs.specs.declared.event.Event.{Event}
-use Rattle.zab_runs.specs.declared.event.Event.TheVariants.{Crash}
-use Rattle.zab_runs.specs.Worlds.{Profile}
-use Rattle.zab_runs.specs.Runs.{delivered_after, history_after}
+use Rattle.zab_model.specs.declared.event.Event.{Event}
+use Rattle.zab_model.specs.declared.event.Event.TheVariants.{Crash}
+use Rattle.zab_model.specs.Worlds.{Profile}
+use Rattle.zab_model.specs.Runs.{delivered_after, history_after}
 use Rattle.zab_agreement_laws.specs.Facts.{IsEntryOf, HasQuorum}
 
 pub record Agrees {C : Type 0} (profile : Profile C) (servers : ℕ) (events : List (Event C)) : Type 0 where

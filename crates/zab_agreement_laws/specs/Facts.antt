@@ -1,11 +1,11 @@
--- The four facts of a run on which agreement stands. They name no message.
--- Junqueira, Reed, Serafini: Zab: High-performance broadcast for primary-backup systems (DSN 2011), phases 1 to 3.
+-- The four facts of a run on which agreement stands. They name no message. Junqueira, Reed,
+-- Serafini: Zab: High-performance broadcast for primary-backup systems (DSN 2011), phases 1 to 3.
 use Rattle.std.specs.Prelude.{◌≡◌, ℕ, ◌+◌, ◌*◌, ◌^◌, ◌<◌, pos, ◌⊎◌, List, [], take}
 use Rattle.zab_epoch.specs.declared.history.Entry.{Entry}
 use Rattle.zab_laws.specs.Prefixes.{IsPrefix}
-use Rattle.zab_runs.specs.declared.event.Event.{Event}
-use Rattle.zab_runs.specs.Worlds.{Profile}
-use Rattle.zab_runs.specs.Runs.{delivered_after}
+use Rattle.zab_model.specs.declared.event.Event.{Event}
+use Rattle.zab_model.specs.Worlds.{Profile}
+use Rattle.zab_model.specs.Runs.{delivered_after}
 use Rattle.zab_agreement_laws.specs.Moments.{Held, Started, IsAcknowledged}
 
 -- one leader an epoch: at most one enters synchronization in it, with one history
@@ -22,7 +22,8 @@ AcknowledgedLasts profile servers events =
     → IsAcknowledged profile servers events epoch list → epoch < later → Started profile servers events leader later start
     → IsPrefix list start
 
--- a history of an epoch: it begins with the epoch's starting history, and is a prefix of the longest that its leader held in it
+-- a history of an epoch: it begins with the epoch's starting history, and is a prefix of the
+-- longest that its leader held in it
 pub record IsOfEpoch {C : Type 0} (profile : Profile C) (servers : ℕ) (events : List (Event C)) (epoch : ℕ) (history : List Entry) : Type 0 where
   pub leader : ℕ
   pub start : List Entry

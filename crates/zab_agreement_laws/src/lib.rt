@@ -1,7 +1,8 @@
-//! Agreement: over every list of events of a world of Zab servers, of any two lists ever delivered one is a prefix of the other; and
-//! the facts of every run that carry it. Laws alone; no code.
+//! Agreement: over every list of events of a world of Zab servers, of any two lists ever delivered
+//! one is a prefix of the other; and the facts of every run that imply it. Laws only.
 //!
-//! Junqueira, Reed, Serafini: "Zab: High-performance broadcast for primary-backup systems", DSN 2011.
+//! Junqueira, Reed, Serafini: "Zab: High-performance broadcast for primary-backup systems", DSN
+//! 2011.
 #![tactic(auto)]
 
 mod laws;

@@ -114,7 +114,7 @@ length_front tags zero below = refl
 length_front [] (suc n) below = absurd (omega (arith, below))
 length_front (t ∷ tags) (suc n) below = ap (λ k. suc k) (length_front tags n (omega (arith, below)))
 
--- a tag whose place is the last goes with it
+-- a tag first taken at the last position is removed with it
 gone_from : (m k : BTreeMap ℕ ℕ) (front : List ℕ) (x : ℕ) → ArePlaces m (front ++ x ∷ []) → get nat_cmp m x ≡ Some (length front) → ((q : ℕ) → get nat_cmp k q ≡ cond (is_at (nat_cmp x) q) None (get nat_cmp m q)) → ArePlaces k front
 gone_from m k front x are last takes q =
     true_or_false (x == q) (get nat_cmp k q ≡ place_from 0 q front)

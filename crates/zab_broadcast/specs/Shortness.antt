@@ -12,7 +12,7 @@ error_of tag session cxid zxid time code = record {
   txn = record { session = session; cxid = cxid; zxid = zxid; time = time; op = ops.Error code };
 }
 
--- that of an error has 36 bytes
+-- the record of an error has 36 bytes
 pub error_is_short : (tag : ℕ) (session cxid zxid time code : ℤ) → IsShort (error_of tag session cxid zxid time code)
 unfolding record_of
 error_is_short tag session cxid zxid time code = lit≤ tt

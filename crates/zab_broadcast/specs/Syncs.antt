@@ -1,29 +1,29 @@
--- What a follower has asked its leader for its clients' syncs, and what syncs were answered with.
+-- Syncs that a follower has sent to its leader, and those completed.
 use Rattle.std.specs.Prelude.{ℕ, zero, suc, ◌==◌, ◌||◌, nat_lt, nat_le, Bool, true, false, if◌then◌else◌, List, [], ◌∷◌, ◌++◌, insert, map, Option, Some, None}
 use Rattle.zab_broadcast.specs.declared.syncs.Asked.{Asked}
 use Rattle.zab_broadcast.specs.declared.syncs.Caught.{Caught}
 
--- a sync of which the leader has told nothing yet
+-- a sync without a reply from the leader
 abbrev pub newly_asked : ℕ → Asked
 newly_asked tag = record { tag = tag; length = None }
 
 abbrev pub caught_at : ℕ → ℕ → Caught
 caught_at tag length = record { tag = tag; length = length }
 
--- how many stand before the first with a greater tag
-abbrev pub place_of : ℕ → List Asked → ℕ
-place_of tag [] = zero
-place_of tag (one ∷ more) = if nat_lt tag one.tag then zero else suc (place_of tag more)
+-- the number of syncs before the first with a greater tag
+abbrev pub position_of : ℕ → List Asked → ℕ
+position_of tag [] = zero
+position_of tag (one ∷ more) = if nat_lt tag one.tag then zero else suc (position_of tag more)
 
--- one more is asked, at its place in the order of tags
+-- with one more, at its position in the order of tags
 abbrev pub with_asked : ℕ → List Asked → List Asked
-with_asked tag asked = insert asked (place_of tag asked) (newly_asked tag)
+with_asked tag asked = insert asked (position_of tag asked) (newly_asked tag)
 
 abbrev pub is_asked : ℕ → List Asked → Bool
 is_asked tag [] = false
 is_asked tag (one ∷ more) = (one.tag == tag) || is_asked tag more
 
--- a length that was told before stays
+-- the first length received stays
 abbrev pub first_told : ℕ → Option ℕ → Option ℕ
 first_told length None = Some length
 first_told length (Some before) = Some before
@@ -31,11 +31,11 @@ first_told length (Some before) = Some before
 abbrev pub told_one : ℕ → ℕ → Asked → Asked
 told_one tag length one = if one.tag == tag then record { tag = one.tag; length = first_told length one.length } else one
 
--- the leader has told a length for a tag
+-- the leader has sent a length for a tag
 abbrev pub told : ℕ → ℕ → List Asked → List Asked
 told tag length asked = map (told_one tag length) asked
 
--- ---- what is answered where so many are delivered: each length that was told, and that is delivered
+-- ---- what completes at a delivered length: each sync whose length is received and delivered
 
 abbrev pub is_reached : ℕ → Option ℕ → Bool
 is_reached delivered None = false

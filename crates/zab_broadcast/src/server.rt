@@ -8,19 +8,18 @@ use std::marker::Model;
 use zab_epoch::{
     Body, Entries, Entry, History, Messages, Peer, Quorums, Role, RuleFault, Stable, Table, Vote,
 };
-use zab_shared::Shared;
+use zab_payload::Payload;
 use zk_path::NoMemory;
 
-/// A server, with what makes entries while it leads.
+/// A server, with its primary while it leads.
 ///
-/// Each rule answers the messages to send. Where memory is refused, the server is as it was: the primary may be gone then,
-/// which no value shows, and a leader's next call begins another.
+/// Each rule returns the messages to send. If an allocation fails, the server's state is unchanged;
+/// its primary may be lost, which no value shows, and a leader's next call starts another.
 pub struct Server<P: Primary> {
     state: State,
     primary: Option<P>,
 }
 
-// (by hand, and so proved once: a derived one is proved wherever a value may be dropped)
 impl<P: Primary + Drop> Drop for Server<P> {
     fn drop(self) {
         let Server {
@@ -30,7 +29,7 @@ impl<P: Primary + Drop> Drop for Server<P> {
     }
 }
 
-/// A server is seen as its state. Its primary, if it has one, stands for its history.
+/// Contracts see the server's state. Its primary, if there is one, represents its history.
 impl<P: Primary> Model for Server<P> {
     ghost use Rattle.std.specs.Prelude.{IfSome, ◌≤◌, length};
     ghost use Rattle.zab_broadcast.specs.declared.state.State.{State};
@@ -59,7 +58,8 @@ impl<P: Primary> Server<P> {
     ghost use Rattle.zab_epoch.specs.Tables.{marks_of};
     ghost use Rattle.zab_epoch.specs.Rules.{ack_epoch as peer_ack_epoch, new_leader as peer_new_leader};
 
-    /// A server that has started again with its stable part: it has delivered nothing, and is Looking.
+    /// A server that has restarted from its stable part: it has delivered nothing, and looks for a
+    /// leader.
     pub fn restored(alloc: Global, servers: usize, me: usize, stable: Stable) -> Server<P>
         ensures { result ≡ restored servers me stable }
     {
@@ -78,7 +78,6 @@ impl<P: Primary> Server<P> {
         }
     }
 
-    /// What it knows, lent.
     pub fn state(&self) -> &State
         ensures same { result.now ≡ self.now }
         ensures delivered { self.now.delivered ≤ length self.now.peer.stable.history }
@@ -86,7 +85,7 @@ impl<P: Primary> Server<P> {
         &self.state
     }
 
-    /// The entries that it has delivered, lent.
+    /// Borrows the entries that it has delivered.
     pub fn delivered(&self) -> Entries<'_>
         ensures { result ≡ take self.now.delivered self.now.peer.stable.history }
     {
@@ -98,7 +97,7 @@ impl<P: Primary> Server<P> {
             .first(self.state.delivered)
     }
 
-    /// Crashes: what is left is its stable part.
+    /// Crashes, and returns what survives.
     pub fn into_stable(self) -> Stable
         ensures { result ≡ self.peer.stable }
     {
@@ -109,7 +108,7 @@ impl<P: Primary> Server<P> {
         stable
     }
 
-    /// Whether it takes calls of clients: it leads in Broadcast, or is a synced follower.
+    /// Whether it takes client calls: as a leader in Broadcast, or as a synced follower.
     pub fn is_serving(&self) -> bool
         ensures { result ≡ is_serving self.now.peer.role }
     {
@@ -120,7 +119,7 @@ impl<P: Primary> Server<P> {
         }
     }
 
-    /// It begins to lead, whatever it did before.
+    /// Begins to lead, from any role.
     pub fn lead(&mut self, alloc: Global) -> Result<Messages<P::Call>, NoMemory>
         ensures acts { IfOk result (λ messages. (self.new, Ok messages) ≡ lead self.old) }
         ensures err { OnErr result (self.new ≡ self.old) }
@@ -131,7 +130,7 @@ impl<P: Primary> Server<P> {
         Ok(messages)
     }
 
-    /// It begins to follow a leader, whatever it did before.
+    /// Begins to follow a leader, from any role.
     pub fn follow(&mut self, alloc: Global, leader: usize) -> Result<Messages<P::Call>, NoMemory>
         ensures acts { IfOk result (λ messages. (self.new, Ok messages) ≡ follow self.old leader) }
         ensures err { OnErr result (self.new ≡ self.old) }
@@ -142,7 +141,7 @@ impl<P: Primary> Server<P> {
         Ok(messages)
     }
 
-    /// A CEpoch comes.
+    /// Handles a CEpoch.
     pub fn c_epoch<Q: Quorums>(
         &mut self,
         alloc: Global,
@@ -158,7 +157,7 @@ impl<P: Primary> Server<P> {
         self.state.peer.c_epoch(alloc, quorums, from, promised)
     }
 
-    /// A NewEpoch comes.
+    /// Handles a NewEpoch.
     pub fn new_epoch(
         &mut self,
         alloc: Global,
@@ -172,7 +171,7 @@ impl<P: Primary> Server<P> {
         self.state.peer.new_epoch(alloc, from, epoch)
     }
 
-    /// An AckEpoch comes.
+    /// Handles an AckEpoch.
     pub fn ack_epoch<Q: Quorums>(
         &mut self,
         alloc: Global,
@@ -196,7 +195,8 @@ impl<P: Primary> Server<P> {
         }
     }
 
-    /// An AckEpoch comes to a leader that gathers votes. If it begins its epoch, it has its own length alone.
+    /// Handles an AckEpoch at a leader that collects votes. If its epoch begins, it knows only its
+    /// own length.
     fn gather<Q: Quorums>(
         &mut self,
         alloc: Global,
@@ -224,7 +224,7 @@ impl<P: Primary> Server<P> {
         Ok(messages)
     }
 
-    /// A NewLeader comes.
+    /// Handles a NewLeader.
     pub fn new_leader(
         &mut self,
         alloc: Global,
@@ -243,7 +243,7 @@ impl<P: Primary> Server<P> {
         self.join(alloc, from, epoch, keep, rest)
     }
 
-    /// A NewLeader comes from the server's leader. What is delivered is at most the history.
+    /// Handles a NewLeader from the server's leader. Delivered entries stay within the new history.
     fn join(
         &mut self,
         alloc: Global,
@@ -263,7 +263,7 @@ impl<P: Primary> Server<P> {
         Ok(messages)
     }
 
-    /// Delivers at least so many.
+    /// Delivers at least `count` entries.
     fn deliver(&mut self, count: usize)
         requires { count ≤ length self.old.peer.stable.history }
         ensures { self.new ≡ record self.old { delivered = max self.old.delivered count } }
@@ -279,7 +279,7 @@ impl<P: Primary> Server<P> {
         }
     }
 
-    /// The commit count.
+    /// Returns the commit count.
     fn counted<Q: Quorums>(&self, alloc: Global, quorums: &Q) -> Result<u64, NoMemory>
         ensures value { IfOk result (λ count. count ≡ counted (Q.passes quorums.now) self.now) }
         ensures within { IfOk result (λ count. count ≤ length self.now.peer.stable.history) }
@@ -288,7 +288,7 @@ impl<P: Primary> Server<P> {
         commit_count(alloc, quorums, self.state.has.as_slice(), length)
     }
 
-    /// Delivers what a quorum has, now that this count is above each earlier one of this Broadcast.
+    /// Delivers what a quorum has; this count is above each earlier one of this Broadcast.
     fn settle(&mut self, count: u64)
         requires { count ≤ length self.old.peer.stable.history }
         ensures { self.new ≡ record self.old { top = count; delivered = max self.old.delivered count } }
@@ -297,7 +297,7 @@ impl<P: Primary> Server<P> {
         self.state.top = count;
     }
 
-    /// A server has at least so many. What it was known to have before is given back.
+    /// Records that a server has at least `count` entries. Returns the number known so far.
     fn raise(&mut self, from: usize, count: u64) -> Option<u64>
         ensures raised { self.new ≡ raised self.old from count }
         ensures back { set self.new.has (from - 1) result ≡ self.old.has }
@@ -309,7 +309,7 @@ impl<P: Primary> Server<P> {
         self.state.has.replace(from, Some(most))
     }
 
-    /// An AckLeader comes.
+    /// Handles an AckLeader.
     pub fn ack_leader<Q: Quorums>(
         &mut self,
         alloc: Global,
@@ -351,7 +351,7 @@ impl<P: Primary> Server<P> {
         }
     }
 
-    /// Enters Broadcast, if the servers that have something are a quorum.
+    /// Enters Broadcast if the servers known to have entries are a quorum.
     fn enter<Q: Quorums>(
         &mut self,
         alloc: Global,
@@ -379,7 +379,7 @@ impl<P: Primary> Server<P> {
         Ok(messages)
     }
 
-    /// A primary that stands for the history, with what is delivered of it.
+    /// Starts a primary for the history and what is delivered of it.
     fn start_primary(&self, alloc: Global) -> Result<P, NoMemory>
         ensures { IfOk result (λ primary. P.stands_for primary self.now.peer.stable.history self.now.delivered) }
     {
@@ -388,7 +388,7 @@ impl<P: Primary> Server<P> {
         Ok(primary)
     }
 
-    /// A server has said that it has so many: it is told the rest, and what may be delivered is delivered.
+    /// Sends a server that has `count` entries the rest, and delivers what may be delivered.
     fn catch_up<Q: Quorums>(
         &mut self,
         alloc: Global,
@@ -409,7 +409,7 @@ impl<P: Primary> Server<P> {
         Ok(messages)
     }
 
-    /// A client submits a call. A leader's history ends below the zxid that it makes.
+    /// Takes a client's call. A leader's history ends below the zxid that it assigns.
     pub fn submit<Q: Quorums>(
         &mut self,
         alloc: Global,
@@ -430,7 +430,7 @@ impl<P: Primary> Server<P> {
             } => {
                 let mut messages = Messages::new(alloc);
                 let epoch = self.state.peer.stable.current;
-                let call = Shared::new(alloc, call)?;
+                let call = Payload::new(alloc, call)?;
                 messages.send(self.state.peer.me, *leader, Body::Request { epoch, call })?;
                 Ok(messages)
             }
@@ -438,7 +438,7 @@ impl<P: Primary> Server<P> {
         }
     }
 
-    /// A Request comes. A leader's history ends below the zxid that it makes.
+    /// Handles a Request. A leader's history ends below the zxid that it assigns.
     pub fn request<Q: Quorums>(
         &mut self,
         alloc: Global,
@@ -464,7 +464,7 @@ impl<P: Primary> Server<P> {
         Ok(Messages::new(alloc))
     }
 
-    /// A leader takes a call.
+    /// Takes a call at a leader.
     #[tactic(auto, using(crate::proofs::Appending::dropped_again))]
     fn append<Q: Quorums>(
         &mut self,
@@ -495,7 +495,7 @@ impl<P: Primary> Server<P> {
         }
     }
 
-    /// Takes the primary out. It is gone where an earlier call was refused memory: then another is begun.
+    /// Takes the primary out, or starts another if an earlier call lost it to a failed allocation.
     fn take_primary(&mut self, alloc: Global) -> Result<P, NoMemory>
         ensures stands { IfOk result (λ primary. P.stands_for primary self.old.peer.stable.history self.old.delivered) }
         ensures same { self.new ≡ self.old }
@@ -506,7 +506,7 @@ impl<P: Primary> Server<P> {
         }
     }
 
-    /// Makes an entry of a call and takes it. What the leader was known to have before is given back.
+    /// Builds an entry from a call and appends it. Returns what the leader was known to have.
     fn take_call(
         &mut self,
         alloc: Global,
@@ -535,7 +535,7 @@ impl<P: Primary> Server<P> {
         Ok(before)
     }
 
-    /// Delivers what may be delivered, and tells the entries above a length.
+    /// Delivers what may be delivered, and proposes the entries above a length.
     fn announce<Q: Quorums>(
         &mut self,
         alloc: Global,
@@ -556,7 +556,8 @@ impl<P: Primary> Server<P> {
         Ok(messages)
     }
 
-    /// Drops the entries above a length, which is the last one, not told to anyone and not delivered, and the tag of its call.
+    /// Removes the last entry, which no server has heard of and no server delivered, and its call's
+    /// tag.
     fn forget(&mut self, above: usize)
         requires made { 0 < self.old.made }
         requires delivered { self.old.delivered ≤ above }
@@ -572,7 +573,7 @@ impl<P: Primary> Server<P> {
         self.state.taken.drop_last();
     }
 
-    /// A Propose comes, of an entry whose record has at most 16,777,216 bytes.
+    /// Handles a Propose of an entry whose record has at most 16,777,216 bytes.
     pub fn propose(
         &mut self,
         alloc: Global,
@@ -598,7 +599,7 @@ impl<P: Primary> Server<P> {
         Ok(messages)
     }
 
-    /// An Ack comes.
+    /// Handles an Ack.
     pub fn ack<Q: Quorums>(
         &mut self,
         alloc: Global,
@@ -631,7 +632,7 @@ impl<P: Primary> Server<P> {
         Ok(Messages::new(alloc))
     }
 
-    /// A Commit comes.
+    /// Handles a Commit.
     pub fn commit(
         &mut self,
         alloc: Global,
@@ -653,7 +654,7 @@ impl<P: Primary> Server<P> {
         Ok(Messages::new(alloc))
     }
 
-    /// Delivers at least so many, and answers syncs with that: these are left.
+    /// Delivers at least `count` entries and completes syncs; `left` are those still pending.
     fn deliver_and_answer(
         &mut self,
         count: usize,
@@ -674,7 +675,7 @@ impl<P: Primary> Server<P> {
         Ok(())
     }
 
-    /// A client asks to be brought up to its leader.
+    /// Starts a client's sync with the leader.
     pub fn sync(&mut self, alloc: Global, tag: u64) -> Result<Messages<P::Call>, RuleFault>
         ensures acts { result ≢ Err faults.NoMemory → (self.new, result) ≡ sync self.old tag }
         ensures err { OnErr result (self.new ≡ self.old) }
@@ -695,7 +696,7 @@ impl<P: Primary> Server<P> {
         Ok(messages)
     }
 
-    /// A SyncAsk comes.
+    /// Handles a SyncAsk.
     pub fn sync_ask(
         &self,
         alloc: Global,
@@ -719,7 +720,7 @@ impl<P: Primary> Server<P> {
         Ok(messages)
     }
 
-    /// A SyncTell comes.
+    /// Handles a SyncTell.
     pub fn sync_tell(
         &mut self,
         alloc: Global,

@@ -2,28 +2,28 @@ use std::alloc::Global;
 use std::marker::Model;
 use zk_path::NoMemory;
 
-/// A client's sync, of which a follower has asked its leader.
+/// A client's sync that a follower has sent to its leader.
 #[derive(Clone, Copy, Debug, Drop, PartialEq, Eq)]
 pub struct Asked {
     pub tag: u64,
-    /// How many entries the leader had delivered, once it has told.
+    /// How many entries the leader had delivered, once it has replied.
     pub length: Option<u64>,
 }
 
-/// A sync that was answered: so many entries are delivered.
+/// A completed sync: `length` entries are delivered.
 #[derive(Clone, Copy, Debug, Drop, PartialEq, Eq)]
 pub struct Caught {
     pub tag: u64,
     pub length: u64,
 }
 
-/// The syncs of which a follower has asked its leader, in the order of tags.
+/// The syncs sent to the leader, in the order of tags.
 #[derive(Debug, Drop)]
 pub struct AskedSyncs {
     syncs: Vec<Asked>,
 }
 
-/// They are seen as a list.
+/// Contracts see a list.
 impl Model for AskedSyncs {
     ghost use Rattle.std.specs.Prelude.{List};
     ghost use Rattle.zab_broadcast.specs.declared.syncs.Asked.{Asked};
@@ -33,13 +33,13 @@ impl Model for AskedSyncs {
     ghost view = { λ asked. asked.syncs.items };
 }
 
-/// The syncs that were answered, in the order of answers.
+/// The completed syncs, in the order of completion.
 #[derive(Debug, Drop)]
 pub struct CaughtSyncs {
     syncs: Vec<Caught>,
 }
 
-/// They are seen as a list.
+/// Contracts see a list.
 impl Model for CaughtSyncs {
     ghost use Rattle.std.specs.Prelude.{List};
     ghost use Rattle.zab_broadcast.specs.declared.syncs.Caught.{Caught};
@@ -52,7 +52,7 @@ impl Model for CaughtSyncs {
 ghost use Rattle.std.specs.Prelude.{◌≡◌};
 ghost use Rattle.zab_broadcast.specs.Syncs.{is_reached, first_told};
 
-/// Whether a length was told, and so many are delivered.
+/// Whether the leader has replied with a length, and that many entries are delivered.
 fn is_reached(length: Option<u64>, delivered: u64) -> bool
     ensures { result ≡ is_reached delivered length }
 {
@@ -62,7 +62,7 @@ fn is_reached(length: Option<u64>, delivered: u64) -> bool
     }
 }
 
-/// What is told for a sync once a length comes: the first that came.
+/// Keeps the first length that the leader sent.
 fn first_told(length: u64, before: Option<u64>) -> Option<u64>
     ensures { result ≡ first_told length before }
 {
@@ -74,9 +74,8 @@ fn first_told(length: u64, before: Option<u64>) -> Option<u64>
 
 impl AskedSyncs {
     ghost use Rattle.std.specs.Prelude.{◌≡◌, ◌≤◌, [], length, IfOk, OnOk, OnErr};
-    ghost use Rattle.zab_broadcast.specs.Syncs.{place_of, with_asked, is_asked, told, left_asked, newly_caught};
+    ghost use Rattle.zab_broadcast.specs.Syncs.{position_of, with_asked, is_asked, told, left_asked, newly_caught};
 
-    /// No syncs.
     pub fn new(alloc: Global) -> AskedSyncs
         ensures { result ≡ [] }
     {
@@ -85,9 +84,9 @@ impl AskedSyncs {
         }
     }
 
-    /// How many stand before the first with a greater tag.
-    fn place_of(&self, tag: u64) -> usize
-        ensures place { result ≡ place_of tag self.now }
+    /// Counts the syncs before the first with a greater tag.
+    fn position_of(&self, tag: u64) -> usize
+        ensures place { result ≡ position_of tag self.now }
         ensures within { result ≤ length self.now }
     {
         for (place, one) in self.syncs.iter().enumerate() {
@@ -98,18 +97,18 @@ impl AskedSyncs {
         self.syncs.len()
     }
 
-    /// One more is asked, in the order of tags. Where memory is refused they are as they were.
+    /// Inserts a sync in the order of tags. If an allocation fails, the list is unchanged.
     pub(crate) fn ask(&mut self, tag: u64) -> Result<(), NoMemory>
         ensures ok { OnOk result (self.new ≡ with_asked tag self.old) }
         ensures err { OnErr result (self.new ≡ self.old) }
     {
-        let place = self.place_of(tag);
+        let place = self.position_of(tag);
         self.syncs.reserve(1)?;
         self.syncs.insert(place, Asked { tag, length: None })?;
         Ok(())
     }
 
-    /// Whether a tag is asked.
+    /// Whether a sync with this tag is pending.
     pub(crate) fn has(&self, tag: u64) -> bool
         ensures { result ≡ is_asked tag self.now }
     {
@@ -121,7 +120,7 @@ impl AskedSyncs {
         false
     }
 
-    /// The same, but that the leader has told a length for a tag. A length that was told before stays.
+    /// Copies the list with the leader's length for a tag. A length received earlier stays.
     pub(crate) fn told(&self, tag: u64, length: u64) -> Result<AskedSyncs, NoMemory>
         ensures { IfOk result (λ asked. asked ≡ told tag length self.now) }
     {
@@ -136,7 +135,7 @@ impl AskedSyncs {
         Ok(AskedSyncs { syncs })
     }
 
-    /// Those that are not answered once so many are delivered.
+    /// Copies those that are still pending once `delivered` entries are delivered.
     pub(crate) fn left(&self, delivered: u64) -> Result<AskedSyncs, NoMemory>
         ensures { IfOk result (λ asked. asked ≡ left_asked delivered self.now) }
     {
@@ -149,7 +148,7 @@ impl AskedSyncs {
         Ok(AskedSyncs { syncs })
     }
 
-    /// The answers to those that are answered once so many are delivered.
+    /// Returns those that complete once `delivered` entries are delivered.
     pub(crate) fn caught(&self, delivered: u64) -> Result<CaughtSyncs, NoMemory>
         ensures { IfOk result (λ caught. caught ≡ newly_caught delivered self.now) }
     {
@@ -172,7 +171,6 @@ impl CaughtSyncs {
     ghost use Rattle.std.specs.Prelude.{◌≡◌, [], ◌∷◌, ◌++◌, OnOk, OnErr};
     ghost use Rattle.zab_broadcast.specs.Syncs.{caught_at};
 
-    /// No syncs.
     pub fn new(alloc: Global) -> CaughtSyncs
         ensures { result ≡ [] }
     {
@@ -181,14 +179,13 @@ impl CaughtSyncs {
         }
     }
 
-    /// The syncs, lent.
     pub fn as_slice(&self) -> &[Caught]
         ensures { result.now ≡ self.now }
     {
         self.syncs.as_slice()
     }
 
-    /// One more is answered. Where memory is refused they are as they were.
+    /// Appends a completed sync. If an allocation fails, the list is unchanged.
     pub(crate) fn push(&mut self, tag: u64, length: u64) -> Result<(), NoMemory>
         ensures ok { OnOk result (self.new ≡ self.old ++ caught_at tag length ∷ []) }
         ensures err { OnErr result (self.new ≡ self.old) }
@@ -197,7 +194,7 @@ impl CaughtSyncs {
         Ok(())
     }
 
-    /// More are answered after these. Where memory is refused they are as they were.
+    /// Appends another list. If an allocation fails, this one is unchanged.
     pub(crate) fn append(&mut self, more: CaughtSyncs) -> Result<(), NoMemory>
         ensures ok { OnOk result (self.new ≡ self.old ++ more) }
         ensures err { OnErr result (self.new ≡ self.old) }

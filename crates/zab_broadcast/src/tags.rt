@@ -3,15 +3,15 @@ use std::collections::BTreeMap;
 use std::marker::Model;
 use zk_path::NoMemory;
 
-/// Tags of calls, in the order in which they were taken. A tag is looked up, and not compared with all of them.
+/// Tags of calls in the order in which they were taken, with an index for look-ups.
 #[derive(Debug, Drop)]
 pub struct Tags {
     tags: Vec<u64>,
-    /// The place at which each tag was first taken.
+    /// The position at which each tag was first taken.
     places: BTreeMap<u64, usize>,
 }
 
-/// They are seen as a list.
+/// Contracts see a list.
 impl Model for Tags {
     ghost use Rattle.std.specs.Prelude.{List, ℕ};
     ghost use Rattle.zab_broadcast.specs.Places.{ArePlaces};
@@ -28,7 +28,6 @@ impl Tags {
     ghost use Rattle.zab_broadcast.specs.Calls.{is_taken};
     ghost use Rattle.zab_broadcast.specs.Places.{place_from};
 
-    /// No tags.
     pub fn new(alloc: Global) -> Tags
         ensures { result ≡ [] }
     {
@@ -38,14 +37,13 @@ impl Tags {
         }
     }
 
-    /// How many tags there are.
     pub fn len(&self) -> usize
         ensures { result ≡ length self.now }
     {
         self.tags.len()
     }
 
-    /// Adds a tag. Where memory is refused they are as they were.
+    /// Appends a tag. If an allocation fails, the list is unchanged.
     pub fn push(&mut self, tag: u64) -> Result<(), NoMemory>
         ensures ok { OnOk result (self.new ≡ self.old ++ tag ∷ []) }
         ensures err { OnErr result (self.new ≡ self.old) }
@@ -58,7 +56,7 @@ impl Tags {
         Ok(())
     }
 
-    /// Drops the last tag, if there is one. Takes no memory.
+    /// Removes the last tag, if there is one. Allocates nothing.
     pub(crate) fn drop_last(&mut self)
         ensures { self.new ≡ take (length self.old - 1) self.old }
     {
@@ -73,7 +71,7 @@ impl Tags {
         self.tags.truncate(last);
     }
 
-    /// Keeps the first tags, so many; all of them, where there are no more. Takes no memory.
+    /// Keeps the first `n` tags, or all if there are fewer. Allocates nothing.
     #[tactic(auto, using(crate::proofs::Cutting::take_less, crate::proofs::Cutting::take_all))]
     pub fn cut(&mut self, count: usize)
         ensures { self.new ≡ take count self.old }
@@ -83,7 +81,7 @@ impl Tags {
         }
     }
 
-    /// Whether a tag was first taken at a place, which is counted from 0.
+    /// Whether a tag was first taken at a position, counted from 0.
     fn is_first_at(&self, tag: u64, place: usize) -> bool
         ensures yes { result ≡ true → place_from 0 tag self.now ≡ Some place }
         ensures no { result ≡ false → place_from 0 tag self.now ≢ Some place }
@@ -94,7 +92,7 @@ impl Tags {
         }
     }
 
-    /// Whether a tag is among them.
+    /// Whether a tag is in the list.
     #[tactic(auto, using(crate::proofs::Places::taken_is))]
     pub fn has(&self, tag: u64) -> bool
         ensures { result ≡ is_taken tag self.now }

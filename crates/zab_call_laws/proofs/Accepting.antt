@@ -5,17 +5,18 @@ use Rattle.zab_epoch.specs.declared.message.Message.{Message}
 use Rattle.zab_broadcast.specs.Calls.{Setting, is_taken}
 use Rattle.zab_broadcast.specs.Rules as rules
 use Rattle.zab_rule_laws.proofs.TagFacts.{by_test, same_some, taken_last}
-use Rattle.zab_runs.specs.declared.event.Event.{Event}
-use Rattle.zab_runs.specs.declared.event.Event.TheVariants.{Lead, Follow, Arrive, Submit, Expire, Sync, Crash, Restart}
-use Rattle.zab_runs.specs.declared.event.Moved.{Moved}
-use Rattle.zab_runs.specs.declared.fault.WorldFault.{WorldFault}
-use Rattle.zab_runs.specs.Standings.{Standing, standing}
-use Rattle.zab_runs.specs.Worlds.{World, Profile, Answer, running, told, said, with_server, spends, submits, happens}
-use Rattle.zab_runs.specs.Runs.{answers}
+use Rattle.zab_model.specs.declared.event.Event.{Event}
+use Rattle.zab_model.specs.declared.event.Event.TheVariants.{Lead, Follow, Arrive, Submit, Expire, Sync, Crash, Restart}
+use Rattle.zab_model.specs.declared.event.Moved.{Moved}
+use Rattle.zab_model.specs.declared.fault.WorldFault.{WorldFault}
+use Rattle.zab_model.specs.ProcessStates.{ProcessState, standing}
+use Rattle.zab_model.specs.Worlds.{World, Profile, Answer, running, told, said, with_server, spends, submits, happens}
+use Rattle.zab_model.specs.Runs.{answers}
 use Rattle.zab_call_laws.proofs.Spending.{happens_tags, not_ok, not_spent}
 use Rattle.zab_agreement_laws.specs.Origins.{call_of}
 
--- an event, from a world on, submitted the call, and was answered with the messages that it sent
+-- an event of a run from a world on submitted the call, and its answer was the messages that it
+-- sent
 pub record IsAcceptedFrom {C : Type 0} (profile : Profile C) (w : World C) (events : List (Event C)) (call : C) : Type 0 where
   pub place : ℕ
   pub event : Event C
@@ -30,11 +31,11 @@ abbrev SpendsTag : {C : Type 0} → Setting C → World C → C → World C × A
 SpendsTag setting w call p =
     (sent : Moved) → p.1 ≡ Ok sent → (is_taken (setting.tag call) w.tags.calls ≡ false) × (is_taken (setting.tag call) p.0.tags.calls ≡ true)
 
-spends_it : {C : Type 0} (setting : Setting C) (w : World C) (n : ℕ) (call : C) (stands : Standing) (r : Result (List (Message C)) RuleFault) → is_taken (setting.tag call) w.tags.calls ≡ false → SpendsTag setting w call (spends (setting.tag call) (told (with_server w n stands) (said r)))
+spends_it : {C : Type 0} (setting : Setting C) (w : World C) (n : ℕ) (call : C) (stands : ProcessState) (r : Result (List (Message C)) RuleFault) → is_taken (setting.tag call) w.tags.calls ≡ false → SpendsTag setting w call (spends (setting.tag call) (told (with_server w n stands) (said r)))
 spends_it setting w n call stands (Ok messages) free = λ sent is. (free, taken_last (setting.tag call) w.tags.calls)
 spends_it setting w n call stands (Err fault) free = λ sent is. not_ok _ sent is
 
-submits_it : {C : Type 0} (setting : Setting C) (w : World C) (n : ℕ) (call : C) (r : Result Standing WorldFault) → SpendsTag setting w call (submits setting w n call r)
+submits_it : {C : Type 0} (setting : Setting C) (w : World C) (n : ℕ) (call : C) (r : Result ProcessState WorldFault) → SpendsTag setting w call (submits setting w n call r)
 submits_it setting w n call (Err fault) = λ sent is. not_ok fault sent is
 submits_it setting w n call (Ok it) =
     by_test (SpendsTag setting w call) (rules.is_serving it.state.peer.role) _ _

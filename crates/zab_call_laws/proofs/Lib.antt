@@ -1,4 +1,6 @@
 pub mod Accepting
+pub mod Counters
+pub mod Following
 pub mod Origins
 pub mod Spending
 pub mod SyncEvents

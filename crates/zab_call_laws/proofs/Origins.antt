@@ -10,11 +10,11 @@ use Rattle.zab_laws.proofs.PrefixLaws.{prefix_refl}
 use Rattle.zab_rule_laws.proofs.Hearing.{CarriesZxid}
 use Rattle.zab_rule_laws.proofs.TagFacts.{Owners, nobody, IsOwned, AreOwned, ServerFact, Grows, grows_refl, grows_trans, owned_grows, same_some, all_get}
 use Rattle.zab_rule_laws.proofs.TagCalls.{CarriesTag}
-use Rattle.zab_runs.specs.declared.event.Event.{Event}
-use Rattle.zab_runs.specs.declared.event.Moved.{Moved}
-use Rattle.zab_runs.specs.Standings.{Standing}
-use Rattle.zab_runs.specs.Worlds.{World, Profile, new_world, server_at, happens}
-use Rattle.zab_runs.specs.Runs.{after, run, history_list, history_of, history_after}
+use Rattle.zab_model.specs.declared.event.Event.{Event}
+use Rattle.zab_model.specs.declared.event.Moved.{Moved}
+use Rattle.zab_model.specs.ProcessStates.{ProcessState}
+use Rattle.zab_model.specs.Worlds.{World, Profile, new_world, server_at, happens}
+use Rattle.zab_model.specs.Runs.{after, run, history_list, history_of, history_after}
 use Rattle.zab_agreement_laws.specs.Agreement.{Agrees}
 use Rattle.zab_agreement_laws.specs.Laws.{IsTaggedOnce}
 use Rattle.zab_agreement_laws.specs.Origins.{call_of, IsAccepted, IsOrigin, ComeFromCalls}
@@ -24,7 +24,7 @@ use Rattle.zab_call_laws.proofs.TagRuns.{WorldFact, IsAsked, IsMadeIn, IsKnown, 
 
 -- ---- histories
 
-history_by : {C : Type 0} (g : Owners C) (n : ℕ) (o : Option Standing) → ((it : Standing) → o ≡ Some it → ServerFact g n it.state) → AreOwned g (history_list o)
+history_by : {C : Type 0} (g : Owners C) (n : ℕ) (o : Option ProcessState) → ((it : ProcessState) → o ≡ Some it → ServerFact g n it.state) → AreOwned g (history_list o)
 history_by g n None f = tt
 history_by g n (Some it) f = (f it refl).owned
 

@@ -6,12 +6,12 @@ use Rattle.zab_broadcast.specs.declared.state.State.{State}
 use Rattle.zab_broadcast.specs.Calls.{Setting, is_taken}
 use Rattle.zab_broadcast.specs.Rules as rules
 use Rattle.zab_rule_laws.proofs.TagFacts.{by_test, taken_more}
-use Rattle.zab_runs.specs.declared.event.Event.{Event}
-use Rattle.zab_runs.specs.declared.event.Event.TheVariants.{Lead, Follow, Arrive, Submit, Expire, Sync, Crash, Restart}
-use Rattle.zab_runs.specs.declared.event.Moved.{Moved}
-use Rattle.zab_runs.specs.declared.fault.WorldFault.{WorldFault}
-use Rattle.zab_runs.specs.Standings.{Standing, standing}
-use Rattle.zab_runs.specs.Worlds.{World, Profile, Answer, is_server, running, resting, told, said, with_server, acts, receives, message_at, arrives, spends, submits, spends_sync, syncs, crashes, restarts, happens}
+use Rattle.zab_model.specs.declared.event.Event.{Event}
+use Rattle.zab_model.specs.declared.event.Event.TheVariants.{Lead, Follow, Arrive, Submit, Expire, Sync, Crash, Restart}
+use Rattle.zab_model.specs.declared.event.Moved.{Moved}
+use Rattle.zab_model.specs.declared.fault.WorldFault.{WorldFault}
+use Rattle.zab_model.specs.ProcessStates.{ProcessState, standing}
+use Rattle.zab_model.specs.Worlds.{World, Profile, Answer, is_server, running, resting, told, said, with_server, acts, receives, message_at, arrives, spends, submits, spends_sync, syncs, crashes, restarts, happens}
 
 -- spent tags of calls stay spent, and so do those of syncs
 abbrev pub KeepsTags : {C : Type 0} → World C → World C × Answer → Type 0
@@ -19,11 +19,11 @@ KeepsTags w p =
     ((tag : ℕ) → is_taken tag w.tags.calls ≡ true → is_taken tag p.0.tags.calls ≡ true)
     × ((tag : ℕ) → is_taken tag w.tags.syncs ≡ true → is_taken tag p.0.tags.syncs ≡ true)
 
-told_tags : {C : Type 0} (w : World C) (n : ℕ) (stands : Standing) (r : Result (List (Message C)) RuleFault) → KeepsTags w (told (with_server w n stands) (said r))
+told_tags : {C : Type 0} (w : World C) (n : ℕ) (stands : ProcessState) (r : Result (List (Message C)) RuleFault) → KeepsTags w (told (with_server w n stands) (said r))
 told_tags w n stands (Ok messages) = ((λ tag is. is), (λ tag is. is))
 told_tags w n stands (Err fault) = ((λ tag is. is), (λ tag is. is))
 
-acts_tags : {C : Type 0} (w : World C) (n : ℕ) (rule : State → rules.Acts C) (r : Result Standing WorldFault) → KeepsTags w (acts w n rule r)
+acts_tags : {C : Type 0} (w : World C) (n : ℕ) (rule : State → rules.Acts C) (r : Result ProcessState WorldFault) → KeepsTags w (acts w n rule r)
 acts_tags w n rule (Ok it) = told_tags w n (standing it.up (rule it.state).0) (rule it.state).1
 acts_tags w n rule (Err fault) = ((λ tag is. is), (λ tag is. is))
 
@@ -35,7 +35,7 @@ spends_tags : {C : Type 0} (t : ℕ) (w : World C) (p : World C × Answer) → K
 spends_tags t w (v, Ok numbers) keeps = ((λ tag is. taken_more tag v.tags.calls (t ∷ []) (keeps.0 tag is)), keeps.1)
 spends_tags t w (v, Err fault) keeps = keeps
 
-submits_tags : {C : Type 0} (setting : Setting C) (w : World C) (n : ℕ) (call : C) (r : Result Standing WorldFault) → KeepsTags w (submits setting w n call r)
+submits_tags : {C : Type 0} (setting : Setting C) (w : World C) (n : ℕ) (call : C) (r : Result ProcessState WorldFault) → KeepsTags w (submits setting w n call r)
 submits_tags setting w n call (Err fault) = ((λ tag is. is), (λ tag is. is))
 submits_tags setting w n call (Ok it) =
     by_test (KeepsTags w) (rules.is_serving it.state.peer.role) _ _
@@ -48,7 +48,7 @@ spends_sync_tags : {C : Type 0} (t : ℕ) (w : World C) (p : World C × Answer) 
 spends_sync_tags t w (v, Ok numbers) keeps = (keeps.0, (λ tag is. taken_more tag v.tags.syncs (t ∷ []) (keeps.1 tag is)))
 spends_sync_tags t w (v, Err fault) keeps = keeps
 
-syncs_tags : {C : Type 0} (w : World C) (n t : ℕ) (r : Result Standing WorldFault) → KeepsTags w (syncs w n t r)
+syncs_tags : {C : Type 0} (w : World C) (n t : ℕ) (r : Result ProcessState WorldFault) → KeepsTags w (syncs w n t r)
 syncs_tags w n t (Err fault) = ((λ tag is. is), (λ tag is. is))
 syncs_tags {C} w n t (Ok it) =
     let rule : State → rules.Acts C = λ state. rules.sync state t in
@@ -58,11 +58,11 @@ syncs_tags {C} w n t (Ok it) =
     (λ free. spends_sync_tags t w (acts w n rule (Ok it)) (acts_tags w n rule (Ok it))))
     (λ no. ((λ tag is. is), (λ tag is. is)))
 
-crashes_tags : {C : Type 0} (w : World C) (n : ℕ) (r : Result Standing WorldFault) → KeepsTags w (crashes w n r)
+crashes_tags : {C : Type 0} (w : World C) (n : ℕ) (r : Result ProcessState WorldFault) → KeepsTags w (crashes w n r)
 crashes_tags w n (Ok it) = ((λ tag is. is), (λ tag is. is))
 crashes_tags w n (Err fault) = ((λ tag is. is), (λ tag is. is))
 
-restarts_tags : {C : Type 0} (w : World C) (n : ℕ) (r : Result Standing WorldFault) → KeepsTags w (restarts w n r)
+restarts_tags : {C : Type 0} (w : World C) (n : ℕ) (r : Result ProcessState WorldFault) → KeepsTags w (restarts w n r)
 restarts_tags w n (Ok it) = ((λ tag is. is), (λ tag is. is))
 restarts_tags w n (Err fault) = ((λ tag is. is), (λ tag is. is))
 

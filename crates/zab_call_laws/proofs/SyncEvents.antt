@@ -17,14 +17,14 @@ use Rattle.zab_rule_laws.specs.Told as told_laws
 use Rattle.zab_rule_laws.specs.Told.{laws_of, core_of, told_of, RoleFact, Broadcasts, Stands}
 use Rattle.zab_rule_laws.proofs.Staying.{IsLeading, Stays, StaysBy, lead_stays, follow_stays, c_epoch_stays, new_epoch_stays, ack_epoch_stays, new_leader_stays, ack_leader_stays, propose_stays, ack_stays, commit_stays, request_stays, submit_stays, sync_stays, sync_ask_stays, sync_tell_stays}
 use Rattle.zab_rule_laws.proofs.TagFacts.{at_key, by_test, cases_eq, at_same, at_other, all_get, same_some, taken_more, taken_last}
-use Rattle.zab_runs.specs.declared.event.Event.{Event}
-use Rattle.zab_runs.specs.declared.event.Event.TheVariants.{Lead, Follow, Arrive, Submit, Expire, Sync, Crash, Restart}
-use Rattle.zab_runs.specs.declared.event.Moved.{Moved}
-use Rattle.zab_runs.specs.declared.fault.WorldFault.{WorldFault}
-use Rattle.zab_runs.specs.Standings.{Standing, standing}
-use Rattle.zab_runs.specs.Worlds.{World, Profile, Answer, moved, is_server, server_at, running, resting, told, said, with_server, acts, receives, message_at, arrives, spends, submits, spends_sync, syncs, crashed, crashes, restarts, happens}
-use Rattle.zab_runs.specs.Runs.{delivered_list, delivered_of}
-use Rattle.zab_runs.proofs.ServerLists.{found, same_place, up_is, down_is}
+use Rattle.zab_model.specs.declared.event.Event.{Event}
+use Rattle.zab_model.specs.declared.event.Event.TheVariants.{Lead, Follow, Arrive, Submit, Expire, Sync, Crash, Restart}
+use Rattle.zab_model.specs.declared.event.Moved.{Moved}
+use Rattle.zab_model.specs.declared.fault.WorldFault.{WorldFault}
+use Rattle.zab_model.specs.ProcessStates.{ProcessState, standing}
+use Rattle.zab_model.specs.Worlds.{World, Profile, Answer, moved, is_server, server_at, running, resting, told, said, with_server, acts, receives, message_at, arrives, spends, submits, spends_sync, syncs, crashed, crashes, restarts, happens}
+use Rattle.zab_model.specs.Runs.{delivered_list, delivered_of}
+use Rattle.zab_model.proofs.ServerLists.{found, same_place, up_is, down_is}
 use Rattle.zab_agreement_laws.proofs.AgreeEvents.{IsNumbered, WorldStands, KeepsAll, Spares}
 use Rattle.zab_agreement_laws.proofs.AgreeEvents as agree
 use Rattle.zab_call_laws.proofs.SyncFacts.{Book, Taken, Grows, IsOf, IsWithin, BodyFact, MessageFact, SentFact, ServerFact, IsSynced, ActsFact, Keeps, server_grows, messages_grow}
@@ -33,12 +33,13 @@ use Rattle.zab_call_laws.proofs.SyncWorlds.{TakenFact, Knows, AreSpent, same_kno
 
 -- ---- what an event keeps and adds
 
--- an event took the sync: at its server, with its current epoch, whose leader had delivered so many
+-- an event took the sync: at its server, with its current epoch, whose leader had delivered this
+-- many
 pub record IsTaking {C : Type 0} (g : laws.Ghost Entry) (w : World C) (event : Event C) (answer : Answer) (tag : ℕ) (it : Taken) : Type 0 where
   pub happened : event ≡ Sync it.server tag
   pub sent : Moved
   pub answered : answer ≡ Ok sent
-  pub stands : Standing
+  pub stands : ProcessState
   pub is : server_at w.servers it.server ≡ Some stands
   pub current : stands.state.peer.stable.current ≡ it.epoch
   pub began : laws.Began Entry
@@ -68,11 +69,11 @@ adds_none g book w event p known spent = record {
 abbrev SameSyncs : {C : Type 0} → World C → World C × Answer → Type 0
 SameSyncs w p = p.0.tags.syncs ≡ w.tags.syncs
 
-told_syncs : {C : Type 0} (w : World C) (n : ℕ) (stands : Standing) (r : Result (List (Message C)) RuleFault) → SameSyncs w (told (with_server w n stands) (said r))
+told_syncs : {C : Type 0} (w : World C) (n : ℕ) (stands : ProcessState) (r : Result (List (Message C)) RuleFault) → SameSyncs w (told (with_server w n stands) (said r))
 told_syncs w n stands (Ok messages) = refl
 told_syncs w n stands (Err fault) = refl
 
-acts_syncs : {C : Type 0} (w : World C) (n : ℕ) (rule : State → rules.Acts C) (r : Result Standing WorldFault) → SameSyncs w (acts w n rule r)
+acts_syncs : {C : Type 0} (w : World C) (n : ℕ) (rule : State → rules.Acts C) (r : Result ProcessState WorldFault) → SameSyncs w (acts w n rule r)
 acts_syncs w n rule (Ok it) = told_syncs w n (standing it.up (rule it.state).0) (rule it.state).1
 acts_syncs w n rule (Err fault) = refl
 
@@ -84,7 +85,7 @@ Gives k g book w event p = (s : KeepsAll k g (Spares event) w p.0) → KeepsBook
 stays_known : {C : Type 0} (k : laws.Setting Entry) (g : laws.Ghost Entry) (book : Book) (w : World C) (event : Event C) (answer : Answer) → Knows g book w → AreSpent book w.tags.syncs → Gives k g book w event (w, answer)
 stays_known k g book w event answer b spent s = adds_none s.after book w event (w, answer) (same_known g s.after book w s.grows b) spent
 
-acts_gives : {C : Type 0} (k : laws.Setting Entry) (g : laws.Ghost Entry) (book : Book) (w : World C) (event : Event C) (n : ℕ) (rule : State → rules.Acts C) (r : Result Standing WorldFault) → WorldStands k g w → Knows g book w → AreSpent book w.tags.syncs → ((it : Standing) → r ≡ Ok it → server_at w.servers n ≡ Some it) → Spares event n → ((it : Standing) → server_at w.servers n ≡ Some it → StaysBy it.state (rule it.state)) → ((it : Standing) → server_at w.servers n ≡ Some it → Keeps book n it.state (rule it.state)) → Gives k g book w event (acts w n rule r)
+acts_gives : {C : Type 0} (k : laws.Setting Entry) (g : laws.Ghost Entry) (book : Book) (w : World C) (event : Event C) (n : ℕ) (rule : State → rules.Acts C) (r : Result ProcessState WorldFault) → WorldStands k g w → Knows g book w → AreSpent book w.tags.syncs → ((it : ProcessState) → r ≡ Ok it → server_at w.servers n ≡ Some it) → Spares event n → ((it : ProcessState) → server_at w.servers n ≡ Some it → StaysBy it.state (rule it.state)) → ((it : ProcessState) → server_at w.servers n ≡ Some it → Keeps book n it.state (rule it.state)) → Gives k g book w event (acts w n rule r)
 acts_gives k g book w event n rule r f b spent is spared stays keeps s =
     adds_none s.after book w event (acts w n rule r)
     (acts_known k g book (Spares event) w n rule r f b is spared stays keeps s)
@@ -93,7 +94,7 @@ acts_gives k g book w event n rule r f b spent is spared stays keeps s =
 -- ---- messages
 
 -- an epoch that began is above 0
-began_above : {C : Type 0} (k : laws.Setting Entry) (g : laws.Ghost Entry) (w : World C) (n epoch : ℕ) (it : Standing) (began : laws.Began Entry) → WorldStands k g w → server_at w.servers n ≡ Some it → g.began epoch ≡ Some began → 0 < epoch
+began_above : {C : Type 0} (k : laws.Setting Entry) (g : laws.Ghost Entry) (w : World C) (n epoch : ℕ) (it : ProcessState) (began : laws.Began Entry) → WorldStands k g w → server_at w.servers n ≡ Some it → g.began epoch ≡ Some began → 0 < epoch
 began_above k g w n epoch it began f is at = begun_above k g (core_of it.state) it.state.peer.me (f.servers n it is).stands.kept epoch began at
 
 -- a leader in broadcast is the one that began its epoch
@@ -104,7 +105,7 @@ leads_itself k g n state began f role is =
     sym (ap (λ (d : laws.Began Entry). d.leader) one) ∙ (leads.leads.leader ∙ f.me)
 
 -- one that is asked in its epoch has delivered enough
-enough : {C : Type 0} (k : laws.Setting Entry) (g : laws.Ghost Entry) (book : Book) (w : World C) (n from epoch tag : ℕ) (it : Standing) → WorldStands k g w → Knows g book w → server_at w.servers n ≡ Some it → IsOf book from epoch tag → it.state.peer.role ≡ roles.Broadcast → epoch ≡ it.state.peer.stable.promised → IsWithin book tag it.state.delivered
+enough : {C : Type 0} (k : laws.Setting Entry) (g : laws.Ghost Entry) (book : Book) (w : World C) (n from epoch tag : ℕ) (it : ProcessState) → WorldStands k g w → Knows g book w → server_at w.servers n ≡ Some it → IsOf book from epoch tag → it.state.peer.role ≡ roles.Broadcast → epoch ≡ it.state.peer.stable.promised → IsWithin book tag it.state.delivered
 enough k g book w n from epoch tag it f b is of role same =
     let numbered = f.servers n it is in
     let leads : Broadcasts k g it.state = subst (RoleFact k g it.state) role numbered.stands.role in
@@ -131,7 +132,7 @@ receives_stays setting g from (Request epoch call) state f = request_stays setti
 receives_stays {C} setting g from (SyncAsk epoch tag) state f = sync_ask_stays C state from epoch tag
 receives_stays {C} setting g from (SyncTell epoch tag count) state f = sync_tell_stays C state from epoch tag count
 
-receives_keeps : {C : Type 0} (setting : Setting C) (g : laws.Ghost Entry) (book : Book) (w : World C) (n from : ℕ) (body : Body C) (it : Standing) → WorldStands (laws_of setting.passes) g w → Knows g book w → server_at w.servers n ≡ Some it → told_laws.BodyFact (laws_of setting.passes) g from n body → BodyFact book from body → Keeps book n it.state (receives setting from body it.state)
+receives_keeps : {C : Type 0} (setting : Setting C) (g : laws.Ghost Entry) (book : Book) (w : World C) (n from : ℕ) (body : Body C) (it : ProcessState) → WorldStands (laws_of setting.passes) g w → Knows g book w → server_at w.servers n ≡ Some it → told_laws.BodyFact (laws_of setting.passes) g from n body → BodyFact book from body → Keeps book n it.state (receives setting from body it.state)
 receives_keeps {C} setting g book w n from (CEpoch promised) it f b is m said = c_epoch_keeps C book setting.passes n it.state from promised (b.servers n it is)
 receives_keeps {C} setting g book w n from (NewEpoch epoch) it f b is m said = new_epoch_keeps C book n it.state from epoch (b.servers n it is)
 receives_keeps {C} setting g book w n from (AckEpoch epoch vote current last) it f b is m said =
@@ -192,7 +193,7 @@ unspent k g spares w t (v, Ok numbers) s = (
 )
 unspent k g spares w t (v, Err fault) s = (s, refl)
 
-submits_gives : {C : Type 0} (setting : Setting C) (g : laws.Ghost Entry) (book : Book) (w : World C) (event : Event C) (n : ℕ) (call : C) (r : Result Standing WorldFault) → WorldStands (laws_of setting.passes) g w → Knows g book w → AreSpent book w.tags.syncs → ((it : Standing) → r ≡ Ok it → server_at w.servers n ≡ Some it) → Spares event n → Gives (laws_of setting.passes) g book w event (submits setting w n call r)
+submits_gives : {C : Type 0} (setting : Setting C) (g : laws.Ghost Entry) (book : Book) (w : World C) (event : Event C) (n : ℕ) (call : C) (r : Result ProcessState WorldFault) → WorldStands (laws_of setting.passes) g w → Knows g book w → AreSpent book w.tags.syncs → ((it : ProcessState) → r ≡ Ok it → server_at w.servers n ≡ Some it) → Spares event n → Gives (laws_of setting.passes) g book w event (submits setting w n call r)
 submits_gives setting g book w event n call (Err fault) f b spent is spared = stays_known (laws_of setting.passes) g book w event _ b spent
 submits_gives {C} setting g book w event n call (Ok it) f b spent is spared =
     let k : laws.Setting Entry = laws_of setting.passes in
@@ -212,7 +213,7 @@ submits_gives {C} setting g book w event n call (Ok it) f b spent is spared =
 
 -- ---- crashes
 
-crashes_gives : {C : Type 0} (k : laws.Setting Entry) (g : laws.Ghost Entry) (book : Book) (w : World C) (event : Event C) (n : ℕ) (r : Result Standing WorldFault) → WorldStands k g w → Knows g book w → AreSpent book w.tags.syncs → ((it : Standing) → r ≡ Ok it → server_at w.servers n ≡ Some it) → Gives k g book w event (crashes w n r)
+crashes_gives : {C : Type 0} (k : laws.Setting Entry) (g : laws.Ghost Entry) (book : Book) (w : World C) (event : Event C) (n : ℕ) (r : Result ProcessState WorldFault) → WorldStands k g w → Knows g book w → AreSpent book w.tags.syncs → ((it : ProcessState) → r ≡ Ok it → server_at w.servers n ≡ Some it) → Gives k g book w event (crashes w n r)
 crashes_gives k g book w event n (Err fault) f b spent is s = stays_known k g book w event _ b spent s
 crashes_gives k g book w event n (Ok it) f b spent is s =
     adds_none s.after book w event (crashes w n (Ok it))
@@ -221,7 +222,7 @@ crashes_gives k g book w event n (Ok it) f b spent is s =
     (λ epoch leads now within. absurd leads) tt)
     spent
 
-restarts_gives : {C : Type 0} (k : laws.Setting Entry) (g : laws.Ghost Entry) (book : Book) (w : World C) (event : Event C) (n : ℕ) (r : Result Standing WorldFault) → WorldStands k g w → Knows g book w → AreSpent book w.tags.syncs → ((it : Standing) → r ≡ Ok it → server_at w.servers n ≡ Some it) → Gives k g book w event (restarts w n r)
+restarts_gives : {C : Type 0} (k : laws.Setting Entry) (g : laws.Ghost Entry) (book : Book) (w : World C) (event : Event C) (n : ℕ) (r : Result ProcessState WorldFault) → WorldStands k g w → Knows g book w → AreSpent book w.tags.syncs → ((it : ProcessState) → r ≡ Ok it → server_at w.servers n ≡ Some it) → Gives k g book w event (restarts w n r)
 restarts_gives k g book w event n (Err fault) f b spent is s = stays_known k g book w event _ b spent s
 restarts_gives k g book w event n (Ok it) f b spent is s =
     adds_none s.after book w event (restarts w n (Ok it))
@@ -273,7 +274,8 @@ writing_spent book tags tag it spent other y is = elim (written book tag it othe
 
 -- ---- a sync that is accepted
 
--- what is written: the server, its epoch, that epoch's leader, and how many the leader has delivered
+-- what is written: the server, its epoch, that epoch's leader, and how many the leader has
+-- delivered
 abbrev taking : {C : Type 0} → World C → ℕ → State → laws.Began Entry → Taken
 taking w n state began = record {
   server = n;
@@ -290,7 +292,7 @@ taking_fact k g w n state began f is = record {
   leader_is = refl;
   more = λ stands at leads now.
       (let long : length (told_of stands.state) ≡ stands.state.delivered = delivered_length k g began.leader stands.state (f.servers began.leader stands at) in
-      let has : length (delivered_of w began.leader) ≡ length (told_of stands.state) = ap (λ (o : Option Standing). length (delivered_list o)) at in
+      let has : length (delivered_of w began.leader) ≡ length (told_of stands.state) = ap (λ (o : Option ProcessState). length (delivered_list o)) at in
       omega arith);
 }
 
@@ -308,7 +310,7 @@ serving_began k g book n state (roles.Discover heard) at serving f b = absurd cc
 serving_began k g book n state (roles.Choose votes joiners) at serving f b = absurd cc
 serving_began k g book n state roles.Sync at serving f b = absurd cc
 
--- the rule is not refused, and keeps what is known
+-- the rule does not fail, and keeps what is known
 record IsAccepted {C : Type 0} (book : Book) (n : ℕ) (acts : rules.Acts C) : Type 0 where
   pub sent : List (Message C)
   pub is : acts.1 ≡ Ok sent
@@ -329,7 +331,7 @@ sync_taken C k g book n tag state (roles.Choose votes joiners) it at serving f b
 sync_taken C k g book n tag state roles.Sync it at serving f b is server epoch low = absurd cc
 
 -- the server's rule, and what it says
-sync_step : {C : Type 0} (k : laws.Setting Entry) (g : laws.Ghost Entry) (book : Book) (w : World C) (n tag : ℕ) (it stands : Standing) (began : laws.Began Entry) (r : Result (List (Message C)) RuleFault) (messages : List (Message C)) → r ≡ Ok messages → WorldStands k g w → Knows g book w → AreSpent book w.tags.syncs → book tag ≡ None → server_at w.servers n ≡ Some it → g.began it.state.peer.stable.current ≡ Some began → Stays it.state.peer stands.state.peer → ServerFact (writing book tag (taking w n it.state began)) n stands.state → SentFact (writing book tag (taking w n it.state began)) r → Gives k g book w (Sync n tag) (spends_sync tag (told (with_server w n stands) (said r)))
+sync_step : {C : Type 0} (k : laws.Setting Entry) (g : laws.Ghost Entry) (book : Book) (w : World C) (n tag : ℕ) (it stands : ProcessState) (began : laws.Began Entry) (r : Result (List (Message C)) RuleFault) (messages : List (Message C)) → r ≡ Ok messages → WorldStands k g w → Knows g book w → AreSpent book w.tags.syncs → book tag ≡ None → server_at w.servers n ≡ Some it → g.began it.state.peer.stable.current ≡ Some began → Stays it.state.peer stands.state.peer → ServerFact (writing book tag (taking w n it.state began)) n stands.state → SentFact (writing book tag (taking w n it.state began)) r → Gives k g book w (Sync n tag) (spends_sync tag (told (with_server w n stands) (said r)))
 sync_step k g book w n tag it stands began (Err fault) messages ok f b spent fresh is at stays fact sent s = absurd cc
 sync_step {C} k g book w n tag it stands began (Ok sends) messages ok f b spent fresh is at stays fact sent s =
     let y : Taken = taking w n it.state began in
@@ -361,7 +363,7 @@ sync_step {C} k g book w n tag it stands began (Ok sends) messages ok f b spent 
       ];
     }
 
-syncs_gives : {C : Type 0} (k : laws.Setting Entry) (g : laws.Ghost Entry) (book : Book) (w : World C) (n tag : ℕ) (r : Result Standing WorldFault) → WorldStands k g w → Knows g book w → AreSpent book w.tags.syncs → ((it : Standing) → r ≡ Ok it → server_at w.servers n ≡ Some it) → Gives k g book w (Sync n tag) (syncs w n tag r)
+syncs_gives : {C : Type 0} (k : laws.Setting Entry) (g : laws.Ghost Entry) (book : Book) (w : World C) (n tag : ℕ) (r : Result ProcessState WorldFault) → WorldStands k g w → Knows g book w → AreSpent book w.tags.syncs → ((it : ProcessState) → r ≡ Ok it → server_at w.servers n ≡ Some it) → Gives k g book w (Sync n tag) (syncs w n tag r)
 syncs_gives k g book w n tag (Err fault) f b spent is = stays_known k g book w (Sync n tag) _ b spent
 syncs_gives {C} k g book w n tag (Ok it) f b spent is =
     let here = is it refl in

@@ -1,4 +1,5 @@
--- What is known of syncs: a tag was taken by one server, in one epoch, whose leader had delivered so many then.
+-- What is known of syncs: a tag was taken by one server, in one epoch, whose leader had delivered
+-- this many then.
 use Rattle.std.proofs.Common.{◌≡◌, ℕ, zero, suc, ◌<◌, ◌≤◌, ◌==◌, nat_le, true, cond, List, [], ◌∷◌, insert, map, Option, Some, None, Result, Ok, Err, sym, ap, subst, ◌∙◌, arith}
 use Rattle.std.proofs.lemmas.Bool.Decides.{nat_tests}
 use Rattle.std.specs.List.{AllByRecursion}
@@ -13,10 +14,11 @@ use Rattle.zab_broadcast.specs.declared.state.State.{State}
 use Rattle.zab_broadcast.specs.declared.syncs.Asked.{Asked}
 use Rattle.zab_broadcast.specs.declared.syncs.Caught.{Caught}
 use Rattle.zab_broadcast.specs.Rules as rules
-use Rattle.zab_broadcast.specs.Syncs.{newly_asked, caught_at, place_of, with_asked, first_told, told_one, told, is_reached, left_asked, caught_of, newly_caught}
+use Rattle.zab_broadcast.specs.Syncs.{newly_asked, caught_at, position_of, with_asked, first_told, told_one, told, is_reached, left_asked, caught_of, newly_caught}
 use Rattle.zab_rule_laws.proofs.TagFacts.{by_test, eq_is, all_append, same_some}
 
--- the server that took it, in which epoch, that epoch's leader, and how many the leader had delivered
+-- the server that took it, in which epoch, that epoch's leader, and how many the leader had
+-- delivered
 pub record Taken : Type 0 where
   pub server : ℕ
   pub epoch : ℕ
@@ -42,7 +44,7 @@ pub record IsOf (book : Book) (server epoch tag : ℕ) : Type 0 where
   pub server_is : it.server ≡ server
   pub epoch_is : it.epoch ≡ epoch
 
--- the leader had delivered at most so many
+-- the leader had delivered at most this many
 pub record IsWithin (book : Book) (tag length : ℕ) : Type 0 where
   pub it : Taken
   pub is : book tag ≡ Some it
@@ -66,14 +68,15 @@ abbrev pub ToldFact : ℕ → Option ℕ → Type 0
 ToldFact delivered None = Unit {0}
 ToldFact delivered (Some length) = delivered ≤ length
 
--- the server asked it, and a length that was told is not below what the leader had delivered
+-- its server asked, and a received length is not below what the leader had delivered
 pub record IsAsked (book : Book) (n : ℕ) (one : Asked) : Type 0 where
   pub it : Taken
   pub is : book one.tag ≡ Some it
   pub server_is : it.server ≡ n
   pub told : ToldFact it.delivered one.length
 
--- the server took it, the length is not below what the leader had delivered, and so many are delivered
+-- the server took it, the length is not below what the leader had delivered, and that many are
+-- delivered
 pub record IsAnswered (book : Book) (n delivered : ℕ) (one : Caught) : Type 0 where
   pub it : Taken
   pub is : book one.tag ≡ Some it
@@ -162,7 +165,7 @@ messages_grow {C} book later messages grows f =
 -- one more is asked
 pub asks : (book : Book) (n tag : ℕ) (asked : List Asked) (it : Taken) → book tag ≡ Some it → it.server ≡ n → AllByRecursion (IsAsked book n) asked → AllByRecursion (IsAsked book n) (with_asked tag asked)
 asks book n tag asked it is server f =
-    all_insert (IsAsked book n) asked (place_of tag asked) (newly_asked tag) f (record { it = it; is = is; server_is = server; told = tt })
+    all_insert (IsAsked book n) asked (position_of tag asked) (newly_asked tag) f (record { it = it; is = is; server_is = server; told = tt })
 
 first_low : (delivered length : ℕ) (before : Option ℕ) → delivered ≤ length → ToldFact delivered before → ToldFact delivered (first_told length before)
 first_low delivered length None low f = low
@@ -181,7 +184,7 @@ one_told book n tag length within one f =
     }))
     (λ e. f)
 
--- the leader has told a length for a tag
+-- the leader has sent a length for a tag
 pub tells : (book : Book) (n tag length : ℕ) (asked : List Asked) → IsWithin book tag length → AllByRecursion (IsAsked book n) asked → AllByRecursion (IsAsked book n) (told tag length asked)
 tells book n tag length asked within f = all_map (IsAsked book n) (told_one tag length) asked (one_told book n tag length within) f
 
@@ -203,7 +206,7 @@ one_caught book n delivered tag it (Some length) is server f =
     (λ e. (record { it = it; is = is; server_is = server; low = f; reached = at_most_is length delivered e }, tt))
     (λ e. tt)
 
--- and what is answered
+-- and what completes
 pub catches : (book : Book) (n delivered : ℕ) (asked : List Asked) → AllByRecursion (IsAsked book n) asked → AllByRecursion (IsAnswered book n delivered) (newly_caught delivered asked)
 catches book n delivered [] f = tt
 catches book n delivered (one ∷ more) f =

@@ -23,7 +23,7 @@ use Rattle.zab_broadcast.specs.Syncs.{caught_at, is_asked, told}
 use Rattle.zab_rule_laws.proofs.TagFacts.{by_test, eq_is, all_append}
 use Rattle.zab_call_laws.proofs.SyncFacts.{Book, Taken, IsWithin, BodyFact, MessageFact, SentFact, IsSynced, IsAsked, IsAnswered, ServerFact, ActsFact, Keeps, all_answered_grow, asks, tells, left, catches}
 
--- ---- messages that say nothing of syncs
+-- ---- messages that do not concern syncs
 
 to_others_fact : {C : Type 0} (book : Book) (me at : ℕ) (body : Body C) (marks : List Bool) → BodyFact book me body → AllByRecursion (MessageFact book) (to_others me at body marks)
 to_others_fact book me at body [] f = tt
@@ -159,7 +159,7 @@ peer_new_leader_fact C book peer from epoch keep rest f above =
 
 -- ---- the same at a server
 
--- a rule that leaves what is asked and answered
+-- a rule that leaves pending and completed syncs unchanged
 leaves : {C : Type 0} (book : Book) (n : ℕ) (state : State) (acts : rules.Acts C) → ServerFact book n state → acts.0.asked ≡ state.asked → acts.0.caught ≡ state.caught → HasJoined acts.0.peer → SentFact book acts.1 → Keeps book n state acts
 leaves book n state acts f asked caught synced sent low = record {
   server = record {
@@ -329,7 +329,7 @@ request_keeps setting book n state epoch call f = request_as_keeps setting book 
 
 -- ---- syncs
 
--- what is asked and delivered is answered
+-- pending syncs whose length is delivered complete
 answers_fact : (C : Type 0) (book : Book) (n : ℕ) (state next : State) → next.caught ≡ state.caught → HasJoined next.peer → AllByRecursion (IsAsked book n) next.asked → ServerFact book n state → Keeps {C = C} book n state (rules.silent (rules.answers_asked next))
 answers_fact C book n state next caught joined asked f low = record {
   server = record {
@@ -355,7 +355,7 @@ sync_tell_keeps C book n state from epoch tag count f within =
     (λ e. answers_fact C book n state (delivers_to (record state { asked = told tag count state.asked }) count) refl f.synced (tells book n tag count state.asked within f.asked) f)
     (λ e. still book n state f)
 
--- a leader that is asked in its epoch tells what it has delivered, which is enough
+-- a leader asked in its epoch sends what it has delivered, which is enough
 sync_ask_as_keeps : (C : Type 0) (book : Book) (n : ℕ) (state : State) (from epoch tag : ℕ) (role : Role) → ServerFact book n state → (role ≡ Broadcast → epoch ≡ state.peer.stable.promised → IsWithin book tag state.delivered) → Keeps {C = C} book n state (rules.sync_ask_as state from epoch tag role)
 sync_ask_as_keeps C book n state from epoch tag Broadcast f enough =
     by_test (Keeps {C = C} book n state) (epoch == state.peer.stable.promised) _ _
@@ -372,7 +372,7 @@ sync_ask_keeps C book n state from epoch tag f enough = sync_ask_as_keeps C book
 
 -- ---- a sync that is taken
 
--- at a leader it is answered at once
+-- at a leader it completes at once
 pub leader_takes : (C : Type 0) (book : Book) (n : ℕ) (state : State) (tag : ℕ) (it : Taken) → ServerFact book n state → book tag ≡ Some it → it.server ≡ n → it.delivered ≤ state.delivered → ActsFact {C = C} book n (rules.sync_as state tag Broadcast)
 leader_takes C book n state tag it f is server low = record {
   server = record {

@@ -1,4 +1,4 @@
--- Runs: where a sync was answered, its server has delivered what the leader had when the sync was taken.
+-- Runs: the server of a completed sync has delivered what the leader had when it was accepted.
 use Rattle.std.proofs.Common.{◌≡◌, ℕ, suc, zero, ◌-◌, ◌<◌, ◌≤◌, ◌⊎◌, inl, inr, List, [], ◌∷◌, length, take, Option, Some, None, Ok, refl, sym, ap, subst, ◌∙◌, slice_get, arith}
 use Rattle.std.proofs.Math.Seq.{take-length}
 use Rattle.std.proofs.lemmas.Option.{slice_get-get_or}
@@ -13,13 +13,13 @@ use Rattle.zab_laws.proofs.Keeping.{grows_refl, grows_trans}
 use Rattle.zab_rule_laws.specs.Told.{laws_of}
 use Rattle.zab_rule_laws.proofs.Hearing.{CarriesZxid}
 use Rattle.zab_rule_laws.proofs.TagFacts.{all_append, all_get}
-use Rattle.zab_runs.specs.declared.event.Event.{Event}
-use Rattle.zab_runs.specs.declared.event.Event.TheVariants.{Sync}
-use Rattle.zab_runs.specs.declared.event.Moved.{Moved}
-use Rattle.zab_runs.specs.Standings.{Standing, new_server, new_servers}
-use Rattle.zab_runs.specs.Worlds.{World, Profile, Answer, new_world, server_at, happens}
-use Rattle.zab_runs.specs.Runs.{after, answers, run, delivered_list, delivered_of, caught_list, syncs_of, delivered_after}
-use Rattle.zab_runs.proofs.ServerLists.{found}
+use Rattle.zab_model.specs.declared.event.Event.{Event}
+use Rattle.zab_model.specs.declared.event.Event.TheVariants.{Sync}
+use Rattle.zab_model.specs.declared.event.Moved.{Moved}
+use Rattle.zab_model.specs.ProcessStates.{ProcessState, new_server, new_servers}
+use Rattle.zab_model.specs.Worlds.{World, Profile, Answer, new_world, server_at, happens}
+use Rattle.zab_model.specs.Runs.{after, answers, run, delivered_list, delivered_of, caught_list, syncs_of, delivered_after}
+use Rattle.zab_model.proofs.ServerLists.{found}
 use Rattle.zab_agreement_laws.specs.Moments.{Synchronizes, Started}
 use Rattle.zab_agreement_laws.specs.Syncs.{IsCaught, AreCaught}
 use Rattle.zab_agreement_laws.specs.Agreement.{Agrees}
@@ -36,7 +36,7 @@ use Rattle.zab_call_laws.proofs.Taking.{taken_once}
 abbrev AreAnswered : {C : Type 0} → Book → World C → ℕ → Type 0
 AreAnswered book w n = AllByRecursion (IsAnswered book n (length (delivered_of w n))) (syncs_of w n)
 
-answered_by : (k : laws.Setting Entry) (g : laws.Ghost Entry) (book : Book) (n : ℕ) (o : Option Standing) → ((it : Standing) → o ≡ Some it → IsNumbered k g n it.state) → ((it : Standing) → o ≡ Some it → ServerFact book n it.state) → AllByRecursion (IsAnswered book n (length (delivered_list o))) (caught_list o)
+answered_by : (k : laws.Setting Entry) (g : laws.Ghost Entry) (book : Book) (n : ℕ) (o : Option ProcessState) → ((it : ProcessState) → o ≡ Some it → IsNumbered k g n it.state) → ((it : ProcessState) → o ≡ Some it → ServerFact book n it.state) → AllByRecursion (IsAnswered book n (length (delivered_list o))) (caught_list o)
 answered_by k g book n None f b = tt
 answered_by k g book n (Some it) f b =
     subst (λ d. AllByRecursion (IsAnswered book n d) it.state.caught) (sym (delivered_length k g n it.state (f it refl))) (b it refl).caught
@@ -56,7 +56,7 @@ record IsTakenFrom {C : Type 0} (g : laws.Ghost Entry) (profile : Profile C) (w 
   pub asked : slice_get events place ≡ Some (Sync it.server tag)
   pub sent : Moved
   pub accepted : slice_get (answers profile w events) place ≡ Some (Ok sent)
-  pub stands : Standing
+  pub stands : ProcessState
   pub is : server_at (after profile w (take place events)).servers it.server ≡ Some stands
   pub current : stands.state.peer.stable.current ≡ it.epoch
   pub began : laws.Began Entry
@@ -64,7 +64,7 @@ record IsTakenFrom {C : Type 0} (g : laws.Ghost Entry) (profile : Profile C) (w 
   pub leader_is : began.leader ≡ it.leader
   pub delivered : it.delivered ≡ length (delivered_of (after profile w (take place events)) it.leader)
 
--- the epochs that began, each at some moment, and the syncs that were taken and answered
+-- the epochs that began, each at some moment, and the syncs that were accepted and completed
 record Through {C : Type 0} (profile : Profile C) (g : laws.Ghost Entry) (book : Book) (w : World C) (events : List (Event C)) : Type 0 where
   pub last : laws.Ghost Entry
   pub more : laws.Grows g last
@@ -150,7 +150,7 @@ taken_through profile law share g book w (event ∷ events) f b spent =
 
 -- ---- new worlds
 
-abbrev IsNew : Standing → Type 0
+abbrev IsNew : ProcessState → Type 0
 IsNew it = (n : ℕ) → ServerFact nothing_taken n it.state
 
 new_servers_know : (servers more : ℕ) → AllByRecursion IsNew (new_servers servers more)
@@ -211,7 +211,7 @@ started_within {C} profile servers events count leader epoch start at =
 
 -- ---- the law
 
--- of two lists of which one is a front of the other, the shorter is the front
+-- of two lists of which one is a prefix of the other, the shorter is the prefix
 shorter_front : (a b : List Entry) → IsPrefix a b ⊎ IsPrefix b a → length a ≤ length b → IsPrefix a b
 shorter_front a b (inl front) low = front
 shorter_front a b (inr front) low = prefix_by_length a b a (prefix_refl a) front low
@@ -255,7 +255,7 @@ caught_of {C} profile servers events last count server it y agrees started same 
 begun_moment : {C : Type 0} (profile : Profile C) (servers : ℕ) (events : List (Event C)) (t : Through profile laws.start nothing_taken (new_world servers) events) (epoch : ℕ) (began : laws.Began Entry) → t.last.began epoch ≡ Some began → Started profile servers events began.leader epoch began.start
 begun_moment profile servers events t epoch began is = elim (t.begun epoch began is) [ inl first ↦ absurd (let no : None ≡ Some began = first in cc) | inr at ↦ at ]
 
--- what is answered after so many events was taken by one of them
+-- a sync completed within `n` events was accepted at one of them
 pub are_caught : {C : Type 0} (profile : Profile C) → CarriesZxid profile.setting → IsQuorumSystem profile.setting.passes → (servers : ℕ) (events : List (Event C)) → AreCaught profile servers events
 are_caught {C} profile law system servers events count server it has =
     let few : List (Event C) = take count events in

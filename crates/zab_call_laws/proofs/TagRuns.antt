@@ -13,20 +13,20 @@ use Rattle.zab_broadcast.specs.Rules as rules
 use Rattle.zab_rule_laws.proofs.TagFacts.{Owners, nobody, BodyFact, MessageFact, SentFact, ServerFact, ActsFact, Grows, grows_refl, messages_grow, idles, by_test, cases_eq, all_append, all_get, same_some, taken_last}
 use Rattle.zab_rule_laws.proofs.TagRules.{lead_fact, follow_fact, hears_c_epoch, hears_new_epoch, hears_ack_epoch, hears_new_leader, hears_ack_leader, hears_propose, hears_ack, hears_commit, sync_fact, hears_sync_ask, hears_sync_tell}
 use Rattle.zab_rule_laws.proofs.TagCalls.{CarriesTag, Spent, SpentBy, IsSpentIn, spent_more, Adds, AddsBy, Owes, owes_nothing, submit_owes, request_owes}
-use Rattle.zab_runs.specs.declared.event.Event.{Event}
-use Rattle.zab_runs.specs.declared.event.Event.TheVariants.{Lead, Follow, Arrive, Submit, Expire, Sync, Crash, Restart}
-use Rattle.zab_runs.specs.declared.event.Moved.{Moved}
-use Rattle.zab_runs.specs.declared.fault.WorldFault.{WorldFault}
-use Rattle.zab_runs.specs.Standings.{Standing, standing, new_server, new_servers}
-use Rattle.zab_runs.specs.Worlds.{World, Profile, Answer, new_world, moved, is_server, server_at, running, resting, told, said, with_server, acts, receives, message_at, arrives, spends, submits, spends_sync, syncs, crashed, crashes, restarts, happens}
-use Rattle.zab_runs.specs.Runs.{history_list, history_of}
+use Rattle.zab_model.specs.declared.event.Event.{Event}
+use Rattle.zab_model.specs.declared.event.Event.TheVariants.{Lead, Follow, Arrive, Submit, Expire, Sync, Crash, Restart}
+use Rattle.zab_model.specs.declared.event.Moved.{Moved}
+use Rattle.zab_model.specs.declared.fault.WorldFault.{WorldFault}
+use Rattle.zab_model.specs.ProcessStates.{ProcessState, standing, new_server, new_servers}
+use Rattle.zab_model.specs.Worlds.{World, Profile, Answer, new_world, moved, is_server, server_at, running, resting, told, said, with_server, acts, receives, message_at, arrives, spends, submits, spends_sync, syncs, crashed, crashes, restarts, happens}
+use Rattle.zab_model.specs.Runs.{history_list, history_of}
 use Rattle.zab_agreement_laws.specs.Origins.{call_of}
-use Rattle.zab_runs.proofs.ServerLists.{found, same_place, other_place, up_is, down_is}
+use Rattle.zab_model.proofs.ServerLists.{found, same_place, other_place, up_is, down_is}
 
 -- ---- what is known of a world
 
 pub record WorldFact {C : Type 0} (tag : C → ℕ) (g : Owners C) (w : World C) : Type 0 where
-  pub servers : (n : ℕ) (it : Standing) → server_at w.servers n ≡ Some it → ServerFact g n it.state
+  pub servers : (n : ℕ) (it : ProcessState) → server_at w.servers n ≡ Some it → ServerFact g n it.state
   pub messages : AllByRecursion (MessageFact tag g) w.messages
   pub spent : Spent g w.tags.calls
 
@@ -92,7 +92,7 @@ same_world setting g called w answer f = record {
 -- ---- servers
 
 -- a server stands otherwise
-stands_fact : {C : Type 0} (g after : Owners C) (servers : List Standing) (n : ℕ) (it stands : Standing) → server_at servers n ≡ Some it → ((k : ℕ) (other : Standing) → server_at servers k ≡ Some other → ServerFact g k other.state) → ServerFact after n stands.state → ((k : ℕ) (state : State) → k ≢ n → ServerFact g k state → ServerFact after k state) → (k : ℕ) (other : Standing) → server_at (set servers (n - 1) stands) k ≡ Some other → ServerFact after k other.state
+stands_fact : {C : Type 0} (g after : Owners C) (servers : List ProcessState) (n : ℕ) (it stands : ProcessState) → server_at servers n ≡ Some it → ((k : ℕ) (other : ProcessState) → server_at servers k ≡ Some other → ServerFact g k other.state) → ServerFact after n stands.state → ((k : ℕ) (state : State) → k ≢ n → ServerFact g k state → ServerFact after k state) → (k : ℕ) (other : ProcessState) → server_at (set servers (n - 1) stands) k ≡ Some other → ServerFact after k other.state
 stands_fact g after servers n it stands is facts fact others k other at =
     let place = found servers n it is in
     elim (cases_eq k n) [
@@ -100,14 +100,14 @@ stands_fact g after servers n it stands is facts fact others k other at =
           (let here : Some stands ≡ Some other =
           sym (same_place servers n it stands place) ∙ (ap (λ u. server_at (set servers (n - 1) stands) u) (sym same) ∙ at) in
           let one : stands ≡ other = same_some stands other here in
-          subst (λ u. ServerFact after u other.state) (sym same) (subst (λ (s : Standing). ServerFact after n s.state) one fact))
+          subst (λ u. ServerFact after u other.state) (sym same) (subst (λ (s : ProcessState). ServerFact after n s.state) one fact))
       | inr differs ↦ others k other.state differs (facts k other (other_place servers n k stands other place.above differs at))
     ]
 
 -- ---- a server acts
 
 -- what it says is sent
-told_fact : {C : Type 0} (tag : C → ℕ) (g after : Owners C) (w : World C) (n : ℕ) (stands : Standing) (r : Result (List (Message C)) RuleFault) → Grows g after → ((k : ℕ) (other : Standing) → server_at (set w.servers (n - 1) stands) k ≡ Some other → ServerFact after k other.state) → AllByRecursion (MessageFact tag g) w.messages → SentFact tag after r → Spent after w.tags.calls → WorldFact tag after (told (with_server w n stands) (said r)).0
+told_fact : {C : Type 0} (tag : C → ℕ) (g after : Owners C) (w : World C) (n : ℕ) (stands : ProcessState) (r : Result (List (Message C)) RuleFault) → Grows g after → ((k : ℕ) (other : ProcessState) → server_at (set w.servers (n - 1) stands) k ≡ Some other → ServerFact after k other.state) → AllByRecursion (MessageFact tag g) w.messages → SentFact tag after r → Spent after w.tags.calls → WorldFact tag after (told (with_server w n stands) (said r)).0
 told_fact tag g after w n stands (Ok messages) grows servers before sent spent = record {
   servers = servers;
   messages = all_append (MessageFact tag after) w.messages messages (messages_grow tag g after w.messages grows before) sent;
@@ -120,7 +120,7 @@ told_fact tag g after w n stands (Err fault) grows servers before sent spent = r
 }
 
 -- and its tag is spent
-spends_fact : {C : Type 0} (setting : Setting C) (g after : Owners C) (call : C) (w : World C) (n : ℕ) (stands : Standing) (r : Result (List (Message C)) RuleFault) → Grows g after → ((k : ℕ) (other : Standing) → server_at (set w.servers (n - 1) stands) k ≡ Some other → ServerFact after k other.state) → AllByRecursion (MessageFact setting.tag g) w.messages → SentFact setting.tag after r → SpentBy setting g after (Some call) r → Spent g w.tags.calls → WorldFact setting.tag after (spends (setting.tag call) (told (with_server w n stands) (said r))).0
+spends_fact : {C : Type 0} (setting : Setting C) (g after : Owners C) (call : C) (w : World C) (n : ℕ) (stands : ProcessState) (r : Result (List (Message C)) RuleFault) → Grows g after → ((k : ℕ) (other : ProcessState) → server_at (set w.servers (n - 1) stands) k ≡ Some other → ServerFact after k other.state) → AllByRecursion (MessageFact setting.tag g) w.messages → SentFact setting.tag after r → SpentBy setting g after (Some call) r → Spent g w.tags.calls → WorldFact setting.tag after (spends (setting.tag call) (told (with_server w n stands) (said r))).0
 spends_fact setting g after call w n stands (Ok messages) grows servers before sent by spent = record {
   servers = servers;
   messages = all_append (MessageFact setting.tag after) w.messages messages (messages_grow setting.tag g after w.messages grows before) sent;
@@ -132,13 +132,13 @@ spends_fact setting g after call w n stands (Err fault) grows servers before sen
   spent = by w.tags.calls spent;
 }
 
-owed_servers : {C : Type 0} (setting : Setting C) (g : Owners C) (w : World C) (n : ℕ) (called : Option C) (old : List Entry) (it : Standing) (up : Bool) (act : rules.Acts C) → WorldFact setting.tag g w → server_at w.servers n ≡ Some it → (o : Owes setting g n called old act) → (k : ℕ) (other : Standing) → server_at (set w.servers (n - 1) (standing up act.0)) k ≡ Some other → ServerFact o.after k other.state
+owed_servers : {C : Type 0} (setting : Setting C) (g : Owners C) (w : World C) (n : ℕ) (called : Option C) (old : List Entry) (it : ProcessState) (up : Bool) (act : rules.Acts C) → WorldFact setting.tag g w → server_at w.servers n ≡ Some it → (o : Owes setting g n called old act) → (k : ℕ) (other : ProcessState) → server_at (set w.servers (n - 1) (standing up act.0)) k ≡ Some other → ServerFact o.after k other.state
 owed_servers setting g w n called old it up act f is o =
     stands_fact g o.after w.servers n it (standing up act.0) is f.servers o.fact.server
     (λ k state differs s. o.others k state.peer.stable.history state.peer.role state.peer.stable.promised state.taken differs s)
 
 -- what the server adds to its history
-owed_adds : {C : Type 0} (setting : Setting C) (g after : Owners C) (w v : World C) (n : ℕ) (called : Option C) (old : List Entry) (it stands : Standing) → server_at w.servers n ≡ Some it → v.servers ≡ set w.servers (n - 1) stands → Adds setting g after called old stands.state.peer.stable.history → AddsTo setting g after (λ call. called ≡ Some call) v
+owed_adds : {C : Type 0} (setting : Setting C) (g after : Owners C) (w v : World C) (n : ℕ) (called : Option C) (old : List Entry) (it stands : ProcessState) → server_at w.servers n ≡ Some it → v.servers ≡ set w.servers (n - 1) stands → Adds setting g after called old stands.state.peer.stable.history → AddsTo setting g after (λ call. called ≡ Some call) v
 owed_adds setting g after w v n called old it stands is turns adds = record {
   owner = λ tag x at. elim (adds.owner tag x at) [
     | inl was ↦ inl was
@@ -149,7 +149,7 @@ owed_adds setting g after w v n called old it stands is turns adds = record {
       zxid = m.zxid;
       known = m.of_call;
       made = m.made;
-      held = ap (λ (servers : List Standing). history_list (server_at servers n)) turns
+      held = ap (λ (servers : List ProcessState). history_list (server_at servers n)) turns
           ∙ (ap history_list (same_place w.servers n it stands (found w.servers n it is)) ∙ m.taken);
     })
   ];
@@ -159,7 +159,7 @@ owed_adds setting g after w v n called old it stands is turns adds = record {
 no_call : {C : Type 0} {A : Type 0} (call : C) → (let o : Option C = None in o ≡ Some call) → A
 no_call call is = absurd (let e : None ≡ Some call = is in cc)
 
-told_adds : {C : Type 0} (setting : Setting C) (g after : Owners C) (w : World C) (n : ℕ) (called : Option C) (old : List Entry) (it stands : Standing) (r : Result (List (Message C)) RuleFault) → server_at w.servers n ≡ Some it → ((call : C) → called ≡ Some call → IsAsked setting.tag g call) → AddsBy setting g after called old stands.state.peer.stable.history r → AddsTo setting g after (IsKnown setting g None (told (with_server w n stands) (said r)).1) (told (with_server w n stands) (said r)).0
+told_adds : {C : Type 0} (setting : Setting C) (g after : Owners C) (w : World C) (n : ℕ) (called : Option C) (old : List Entry) (it stands : ProcessState) (r : Result (List (Message C)) RuleFault) → server_at w.servers n ≡ Some it → ((call : C) → called ≡ Some call → IsAsked setting.tag g call) → AddsBy setting g after called old stands.state.peer.stable.history r → AddsTo setting g after (IsKnown setting g None (told (with_server w n stands) (said r)).1) (told (with_server w n stands) (said r)).0
 told_adds {C} setting g after w n called old it stands (Ok messages) is asked adds =
     let p : World C × Answer = told (with_server w n stands) (Ok messages) in
     adds_more setting g after (λ call. called ≡ Some call) (IsKnown setting g None p.1) p.0 (λ call of_call. inl (asked call of_call))
@@ -170,7 +170,7 @@ told_adds {C} setting g after w n called old it stands (Err fault) is asked adds
     adds_more setting g after (λ call. none ≡ Some call) (IsKnown setting g None p.1) p.0 (λ call of_call. no_call call of_call)
     (owed_adds setting g after w p.0 n None old it stands is refl adds)
 
-spends_adds : {C : Type 0} (setting : Setting C) (g after : Owners C) (t : ℕ) (w : World C) (n : ℕ) (called : Option C) (old : List Entry) (it stands : Standing) (r : Result (List (Message C)) RuleFault) → server_at w.servers n ≡ Some it → AddsBy setting g after called old stands.state.peer.stable.history r → AddsTo setting g after (IsKnown setting g called (spends t (told (with_server w n stands) (said r))).1) (spends t (told (with_server w n stands) (said r))).0
+spends_adds : {C : Type 0} (setting : Setting C) (g after : Owners C) (t : ℕ) (w : World C) (n : ℕ) (called : Option C) (old : List Entry) (it stands : ProcessState) (r : Result (List (Message C)) RuleFault) → server_at w.servers n ≡ Some it → AddsBy setting g after called old stands.state.peer.stable.history r → AddsTo setting g after (IsKnown setting g called (spends t (told (with_server w n stands) (said r))).1) (spends t (told (with_server w n stands) (said r))).0
 spends_adds {C} setting g after t w n called old it stands (Ok messages) is adds =
     let p : World C × Answer = spends t (told (with_server w n stands) (Ok messages)) in
     adds_more setting g after (λ call. called ≡ Some call) (IsKnown setting g called p.1) p.0
@@ -182,7 +182,7 @@ spends_adds {C} setting g after t w n called old it stands (Err fault) is adds =
     adds_more setting g after (λ call. none ≡ Some call) (IsKnown setting g called p.1) p.0 (λ call of_call. no_call call of_call)
     (owed_adds setting g after w p.0 n None old it stands is refl adds)
 
-acts_keep : {C : Type 0} (setting : Setting C) (g : Owners C) (w : World C) (n : ℕ) (called : Option C) (rule : State → rules.Acts C) (r : Result Standing WorldFault) → WorldFact setting.tag g w → ((it : Standing) → r ≡ Ok it → server_at w.servers n ≡ Some it) → ((call : C) → called ≡ Some call → IsAsked setting.tag g call) → ((state : State) → ServerFact g n state → (o : Owes setting g n called state.peer.stable.history (rule state)) × Spent o.after w.tags.calls) → Keeps setting g None (acts w n rule r)
+acts_keep : {C : Type 0} (setting : Setting C) (g : Owners C) (w : World C) (n : ℕ) (called : Option C) (rule : State → rules.Acts C) (r : Result ProcessState WorldFault) → WorldFact setting.tag g w → ((it : ProcessState) → r ≡ Ok it → server_at w.servers n ≡ Some it) → ((call : C) → called ≡ Some call → IsAsked setting.tag g call) → ((state : State) → ServerFact g n state → (o : Owes setting g n called state.peer.stable.history (rule state)) × Spent o.after w.tags.calls) → Keeps setting g None (acts w n rule r)
 acts_keep setting g w n called rule (Ok it) f is asked owes =
     let here = is it refl in
     let o = owes it.state (f.servers n it here) in
@@ -275,7 +275,7 @@ unasked : {C : Type 0} (g : Owners C) (tags : List ℕ) (t : ℕ) (o : Option (�
 unasked g tags t None spent free is = is
 unasked g tags t (Some whom) spent free is = absurd (let no : true ≡ false = sym (spent.asked t whom is) ∙ free in cc)
 
-submits_keep : {C : Type 0} (setting : Setting C) → CarriesTag setting → (g : Owners C) (w : World C) (n : ℕ) (call : C) (r : Result Standing WorldFault) → WorldFact setting.tag g w → ((it : Standing) → r ≡ Ok it → server_at w.servers n ≡ Some it) → Keeps setting g (Some call) (submits setting w n call r)
+submits_keep : {C : Type 0} (setting : Setting C) → CarriesTag setting → (g : Owners C) (w : World C) (n : ℕ) (call : C) (r : Result ProcessState WorldFault) → WorldFact setting.tag g w → ((it : ProcessState) → r ≡ Ok it → server_at w.servers n ≡ Some it) → Keeps setting g (Some call) (submits setting w n call r)
 submits_keep setting law g w n call (Err fault) f is = same_world setting g (Some call) w (Err fault) f
 submits_keep setting law g w n call (Ok it) f is =
     let here = is it refl in
@@ -314,7 +314,7 @@ spends_sync_keep setting g t (w, Ok numbers) k = record {
 }
 spends_sync_keep setting g t (w, Err fault) k = k
 
-syncs_keep : {C : Type 0} (setting : Setting C) (g : Owners C) (w : World C) (n t : ℕ) (r : Result Standing WorldFault) → WorldFact setting.tag g w → ((it : Standing) → r ≡ Ok it → server_at w.servers n ≡ Some it) → Keeps setting g None (syncs w n t r)
+syncs_keep : {C : Type 0} (setting : Setting C) (g : Owners C) (w : World C) (n t : ℕ) (r : Result ProcessState WorldFault) → WorldFact setting.tag g w → ((it : ProcessState) → r ≡ Ok it → server_at w.servers n ≡ Some it) → Keeps setting g None (syncs w n t r)
 syncs_keep setting g w n t (Err fault) f is = same_world setting g None w (Err fault) f
 syncs_keep setting g w n t (Ok it) f is =
     by_test (Keeps setting g None) (rules.is_serving it.state.peer.role) _ _
@@ -327,7 +327,7 @@ syncs_keep setting g w n t (Ok it) f is =
 
 -- ---- crashes
 
-crashes_keep : {C : Type 0} (setting : Setting C) (g : Owners C) (w : World C) (n : ℕ) (r : Result Standing WorldFault) → WorldFact setting.tag g w → ((it : Standing) → r ≡ Ok it → server_at w.servers n ≡ Some it) → Keeps setting g None (crashes w n r)
+crashes_keep : {C : Type 0} (setting : Setting C) (g : Owners C) (w : World C) (n : ℕ) (r : Result ProcessState WorldFault) → WorldFact setting.tag g w → ((it : ProcessState) → r ≡ Ok it → server_at w.servers n ≡ Some it) → Keeps setting g None (crashes w n r)
 crashes_keep setting g w n (Err fault) f is = same_world setting g None w (Err fault) f
 crashes_keep setting g w n (Ok it) f is =
     let here = is it refl in
@@ -343,7 +343,7 @@ crashes_keep setting g w n (Ok it) f is =
       adds = adds_none setting g (IsKnown setting g None (crashes w n (Ok it)).1) (crashes w n (Ok it)).0;
     }
 
-restarts_keep : {C : Type 0} (setting : Setting C) (g : Owners C) (w : World C) (n : ℕ) (r : Result Standing WorldFault) → WorldFact setting.tag g w → ((it : Standing) → r ≡ Ok it → server_at w.servers n ≡ Some it) → Keeps setting g None (restarts w n r)
+restarts_keep : {C : Type 0} (setting : Setting C) (g : Owners C) (w : World C) (n : ℕ) (r : Result ProcessState WorldFault) → WorldFact setting.tag g w → ((it : ProcessState) → r ≡ Ok it → server_at w.servers n ≡ Some it) → Keeps setting g None (restarts w n r)
 restarts_keep setting g w n (Err fault) f is = same_world setting g None w (Err fault) f
 restarts_keep setting g w n (Ok it) f is =
     let here = is it refl in
@@ -383,7 +383,7 @@ happens_keeps profile law g w (Restart n) f =
 
 -- ---- a new world
 
-abbrev IsNew : Type 0 → Standing → Type 0
+abbrev IsNew : Type 0 → ProcessState → Type 0
 IsNew C it = (n : ℕ) → ServerFact (nobody C) n it.state
 
 pub no_one : {A : Type 0} (x : A) → (let o : Option A = None in o ≡ Some x) → ⊥

@@ -3,13 +3,13 @@ use Rattle.std.proofs.Common.{◌≡◌, ℕ, suc, zero, true, false, List, [], 
 use Rattle.zab_broadcast.specs.Calls.{is_taken}
 use Rattle.zab_broadcast.specs.Rules as rules
 use Rattle.zab_rule_laws.proofs.TagFacts.{by_test, same_some, taken_last}
-use Rattle.zab_runs.specs.declared.event.Event.{Event}
-use Rattle.zab_runs.specs.declared.event.Event.TheVariants.{Sync}
-use Rattle.zab_runs.specs.declared.event.Moved.{Moved}
-use Rattle.zab_runs.specs.declared.fault.WorldFault.{WorldFault}
-use Rattle.zab_runs.specs.Standings.{Standing}
-use Rattle.zab_runs.specs.Worlds.{World, Profile, Answer, running, acts, spends_sync, syncs, happens}
-use Rattle.zab_runs.specs.Runs.{answers}
+use Rattle.zab_model.specs.declared.event.Event.{Event}
+use Rattle.zab_model.specs.declared.event.Event.TheVariants.{Sync}
+use Rattle.zab_model.specs.declared.event.Moved.{Moved}
+use Rattle.zab_model.specs.declared.fault.WorldFault.{WorldFault}
+use Rattle.zab_model.specs.ProcessStates.{ProcessState}
+use Rattle.zab_model.specs.Worlds.{World, Profile, Answer, running, acts, spends_sync, syncs, happens}
+use Rattle.zab_model.specs.Runs.{answers}
 use Rattle.zab_call_laws.proofs.Spending.{happens_tags, not_ok, not_spent}
 
 -- ---- an accepted sync spends its tag, which was not spent before
@@ -21,7 +21,7 @@ spends_it : {C : Type 0} (w : World C) (tag : ℕ) (p : World C × Answer) → i
 spends_it w tag (v, Ok numbers) free = λ sent is. (free, taken_last tag v.tags.syncs)
 spends_it w tag (v, Err fault) free = λ sent is. not_ok fault sent is
 
-syncs_it : {C : Type 0} (w : World C) (n tag : ℕ) (r : Result Standing WorldFault) → SpendsTag w tag (syncs w n tag r)
+syncs_it : {C : Type 0} (w : World C) (n tag : ℕ) (r : Result ProcessState WorldFault) → SpendsTag w tag (syncs w n tag r)
 syncs_it w n tag (Err fault) = λ sent is. not_ok fault sent is
 syncs_it {C} w n tag (Ok it) =
     by_test (SpendsTag w tag) (rules.is_serving it.state.peer.role) _ _

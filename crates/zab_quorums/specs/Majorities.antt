@@ -13,7 +13,7 @@ marked-true a = sum_by-cons (λ mark. cond mark 1 0) true a
 marked-false : (a : List Bool) → marked (false ∷ a) ≡ 0 + marked a
 marked-false a = sum_by-cons (λ mark. cond mark 1 0) false a
 
--- two sets share a server, or have together at most as many as there are
+-- two sets share a server, or have together at most as many servers as there are
 share_or_few : (a b : List Bool) → length a ≡ length b → SharesServer a b ⊎ (marked a + marked b ≤ length a)
 share_or_few [] [] e = inr (lit≤ tt)
 share_or_few [] (m ∷ b) e = absurd (omega arith)

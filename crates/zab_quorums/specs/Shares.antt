@@ -9,7 +9,7 @@ use Rattle.zab_quorums.specs.Quorums.{SharesServer, IsQuorumSystem, weight_of, i
 sum-cons : (w : ℕ) (ws : List ℕ) → sum (w ∷ ws) ≡ w + sum ws
 sum-cons w ws = sum_by-cons (λ x. x) w ws
 
--- two sets share a server, or weigh together at most what all weigh
+-- two sets share a server, or weigh together at most the total
 share_or_light : (ws : List ℕ) (a b : List Bool) → length a ≡ length ws → length b ≡ length ws → SharesServer a b ⊎ (weight_of ws a + weight_of ws b ≤ sum ws)
 share_or_light [] [] [] e f = inr (lit≤ tt)
 share_or_light [] [] (n ∷ b) e f = absurd (omega arith)

@@ -4,7 +4,7 @@ ghost use Rattle.zab_quorums.specs.declared.fault.WeightFault.TheVariants as fau
 use thiserror::Error;
 use zk_path::NoMemory;
 
-/// Why weights are refused. The first that applies is answered.
+/// Why weights are rejected; the first cause that applies.
 #[derive(Clone, Copy, Debug, PartialEq, Eq, Error)]
 pub enum WeightFault {
     /// There are fewer than 2 weights, or more than 15.
@@ -13,7 +13,7 @@ pub enum WeightFault {
     /// All weights are 0.
     #[error("Q2")]
     NoWeight,
-    /// Memory was refused.
+    /// An allocation failed.
     #[error("Q3")]
     NoMemory,
 }

@@ -1,4 +1,4 @@
-//! Quorums: which sets of servers decide. Any two of them share a server, which is all that Zab asks.
+//! Quorums: which sets of servers decide. Any two of them share a server; Zab needs no more.
 //!
 //! ZooKeeper Internals, "Quorums"; ZooKeeper Administrator's Guide, "Cluster Options".
 #![tactic(auto)]

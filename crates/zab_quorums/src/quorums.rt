@@ -11,18 +11,16 @@ pub trait Quorums: Drop {
     /// Whether the marked servers are a quorum.
     ghost passes: { Self → List Bool → Bool };
 
-    /// Whether the marked servers are a quorum.
     fn is_quorum(&self, marks: &[bool]) -> bool
         ensures { result ≡ passes self.now marks.now };
 
-    /// The same quorums once more.
     fn copy(&self) -> Result<Self, NoMemory>
         ensures { IfOk result (λ copy. copy ≡ self.now) };
 
     ghost share: { (quorums : Self) → IsQuorumSystem (passes quorums) };
 }
 
-/// The quorums are the sets of more than half of the servers.
+/// Majorities: the sets of more than half of the servers.
 #[derive(Clone, Copy, Debug, PartialEq, Eq)]
 pub struct Majority {
     pub servers: usize,

@@ -9,16 +9,16 @@ use std::alloc::Global;
 use std::marker::Model;
 use zk_path::NoMemory;
 
-/// The quorums are the sets of servers with more than half of the weight of all.
+/// The sets of servers with more than half of the total weight.
 ///
-/// Each server has a weight, from server 1 on. A server of weight 0 is in no quorum's way: a set is a quorum with it where
-/// it is one without it.
+/// Each server has a weight, from server 1 on. A server of weight 0 changes nothing: a set is a
+/// quorum with it exactly if it is one without it.
 #[derive(Debug, Drop)]
 pub struct Weighted {
     weights: Vec<u32>,
 }
 
-/// It is seen as the list of the weights.
+/// Contracts see the list of the weights.
 impl Model for Weighted {
     ghost use Rattle.std.specs.Prelude.{List, ℕ};
 
@@ -32,7 +32,7 @@ impl Weighted {
     ghost use Rattle.zab_quorums.specs.declared.fault.WeightFault.TheVariants as faults;
     ghost use Rattle.zab_quorums.specs.Weights.{weight_fault};
 
-    /// Reads the weights of 2 to 15 servers, of which not all are 0.
+    /// Reads the weights of 2 to 15 servers; not all of them are 0.
     pub fn read(alloc: Global, weights: &[u32]) -> Result<Weighted, WeightFault>
         ensures found { IfOk result (λ it. it ≡ weights.now) }
         ensures right { IfOk result (λ _. weight_fault weights.now ≡ None) }
@@ -48,7 +48,7 @@ impl Weighted {
         Ok(copied(alloc, weights)?)
     }
 
-    /// So many servers, each of weight 1: the quorums are the majorities.
+    /// Weighs each of `servers` servers 1: the quorums are the majorities.
     pub fn even(alloc: Global, servers: usize) -> Result<Weighted, NoMemory>
         ensures { IfOk result (λ it. it ≡ replicate servers 1) }
     {
@@ -59,7 +59,6 @@ impl Weighted {
         Ok(Weighted { weights })
     }
 
-    /// How many servers there are.
     pub fn servers(&self) -> usize
         ensures { result ≡ length self.now }
     {
@@ -82,7 +81,7 @@ impl Quorums for Weighted {
     ghost share = { heavy_share };
 }
 
-/// Quorums by a copy of these weights.
+/// Copies the weights.
 fn copied(alloc: Global, weights: &[u32]) -> Result<Weighted, NoMemory>
     ensures { IfOk result (λ it. it ≡ weights.now) }
 {
@@ -91,7 +90,7 @@ fn copied(alloc: Global, weights: &[u32]) -> Result<Weighted, NoMemory>
     Ok(Weighted { weights: list })
 }
 
-/// The weight of all servers. It is counted in 128 bits, so that no sum is too great.
+/// Adds up all weights, in 128 bits: no sum overflows.
 fn total(weights: &[u32]) -> u128
     ensures sum { result ≡ sum weights.now }
     ensures bound { result ≤ length weights.now * 4294967295 }
@@ -103,7 +102,7 @@ fn total(weights: &[u32]) -> u128
     total
 }
 
-/// The weight of the marked servers.
+/// Adds up the weights of the marked servers.
 fn weight_of(weights: &[u32], marks: &[bool]) -> u128
     requires { length marks.now ≡ length weights.now }
     ensures weight { result ≡ weight_of weights.now marks.now }

@@ -45,7 +45,7 @@ follower k g state (Choose votes joiners) from e = absurd cc
 follower k g state Sync from e = absurd cc
 follower k g state Broadcast from e = absurd cc
 
--- what a quorum holds is delivered, whatever is asked and answered
+-- what a quorum holds is delivered, whichever syncs are pending or completed
 delivers_owes : {C : Type 0} (k : laws.Setting Entry) (g : laws.Ghost Entry) (state : State) (asked : List Asked) (caught : List Caught) (from epoch count : ℕ) → laws.IsKept k g state.peer.me (core_of state) → state.delivered ≤ length state.peer.stable.history → follows state.peer.role from ≡ true → epoch ≡ state.peer.stable.current → IsReached k g epoch count → OwesOf {C = C} k g state (silent (record (delivers_to state count) { asked = asked; caught = caught }))
 delivers_owes k g state asked caught from epoch count kept within following same reached =
     let r : IsReached k g state.peer.stable.current count = subst (λ e. IsReached k g e count) same reached in

@@ -151,7 +151,7 @@ gathers {C} passes g state votes joiners share f b =
     (elects passes g state.peer.me state.peer.stable.promised state.peer.stable votes b.votes_are b.own quorum none)))
     (λ few. gathering (laws_of passes) g state (Choose votes joiners) f (record { below = b.below; own = b.own; votes_are = b.votes_are }))
 
--- a leader tells its history
+-- a leader sends its history
 leader_history : (k : laws.Setting Entry) (g : laws.Ghost Entry) (state : State) → Stands k g state → Leads g state → laws.IsOfLeader g state.peer.stable.promised state.peer.stable.history
 leader_history k g state f b =
     let above = begun_above k g (core_of state) state.peer.me f.kept state.peer.stable.current b.began b.is in
@@ -269,7 +269,7 @@ hears_request setting law g state epoch call f = request_by setting law g state 
 
 -- ---- 12 to 14
 
--- other syncs are asked or answered
+-- other syncs are pending or completed
 syncs_move : {C : Type 0} (k : laws.Setting Entry) (g : laws.Ghost Entry) (state : State) (asked : List Asked) (caught : List Caught) (out : Result (List (Message C)) RuleFault) → Stands k g state → RoleFact k g (record state { asked = asked; caught = caught }) state.peer.role → SentFact k g out → OwesOf k g state (record state { asked = asked; caught = caught }, out)
 syncs_move k g state asked caught out f said sent = record {
   ghost = g;

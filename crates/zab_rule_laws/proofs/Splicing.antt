@@ -1,4 +1,4 @@
--- A history that goes on from a front of another.
+-- A history that continues a prefix of another.
 use Rattle.std.proofs.Common.{◌≡◌, ℕ, ℤ, pos, int_lt, Bool, true, false, cond, List, [], ◌∷◌, ◌++◌, length, drop, Some, refl, sym, ap, subst, ◌∙◌, arith}
 use Rattle.std.specs.Ordering.{int_eq}
 use Rattle.std.proofs.lemmas.Bool.Decides.{nat_tests}
@@ -29,7 +29,7 @@ front_of_it zxid h = record { rest = drop (length (up_to zxid h)) h; is = in_two
 is_equal : (a b : ℤ) → int_eq a b ≡ true → a ≡ b
 is_equal a b e = grind (arith, nat_tests, ints)
 
--- what the leader tells of its history
+-- what the leader sends of its history
 pub tells_it : (g : laws.Ghost Entry) (epoch : ℕ) (h : List Entry) (last : ℤ) → laws.IsOfLeader g epoch h → GoesOn g epoch (last_zxid (up_to last h)) (drop (length (up_to last h)) h)
 tells_it g epoch h last of = record {
   kept = up_to last h;

@@ -1,5 +1,5 @@
--- What no rule undoes: a server's current epoch does not fall, and one that leads after a rule led before it, or its current
--- epoch has risen.
+-- What no rule undoes: a server's current epoch does not fall, and one that leads after a rule led
+-- before it, or its current epoch has risen.
 use Rattle.std.proofs.Common.{◌≡◌, ℕ, ℤ, ◌<◌, ◌≤◌, ◌==◌, ◌&&◌, ◌||◌, nat_lt, max, not, ◌⊎◌, inl, inr, Bool, true, List, length, Option, Some, None, refl, sym, subst, arith}
 use Rattle.std.proofs.lemmas.Bool.Decides.{nat_tests}
 use Rattle.zab_epoch.specs.declared.history.Entry.{Entry}
@@ -128,7 +128,7 @@ new_leader_stays C state from epoch keep rest =
 
 -- ---- broadcast
 
--- what is settled changes nothing of the peer
+-- settling leaves the peer unchanged
 settles_same : (passes : List Bool → Bool) (state : State) → (rules.settles passes state).0.peer ≡ state.peer
 settles_same passes state =
     by_test (λ (s : rules.Settled). s.0.peer ≡ state.peer) (nat_lt state.top (rules.counted passes state)) _ _ (λ e. refl) (λ e. refl)

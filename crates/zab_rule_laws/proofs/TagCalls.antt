@@ -32,7 +32,7 @@ abbrev pub IsSpentIn : {C : Type 0} → Setting C → Option C → List ℕ → 
 IsSpentIn setting None tags = Unit {0}
 IsSpentIn setting (Some call) tags = is_taken (setting.tag call) tags ≡ true
 
--- what is known is of accepted tags, and of the call's, unless the event is refused
+-- and of the call's, unless the event is rejected
 abbrev pub SpentBy : {C : Type 0} → Setting C → Owners C → Owners C → Option C → Result (List (Message C)) RuleFault → Type 0
 SpentBy setting g after called (Ok messages) = (tags : List ℕ) → Spent g tags → IsSpentIn setting called tags → Spent after tags
 SpentBy setting g after called (Err fault) = (tags : List ℕ) → Spent g tags → Spent after tags
@@ -58,7 +58,7 @@ pub record Adds {C : Type 0} (setting : Setting C) (g after : Owners C) (called 
 pub adds_nothing : {C : Type 0} (setting : Setting C) (g : Owners C) (called : Option C) (old new : List Entry) → Adds setting g g called old new
 adds_nothing setting g called old new = record { owner = λ tag x is. inl is; asked = λ tag whom is. inl is }
 
--- an event that is refused adds nothing
+-- a rejected event adds nothing
 abbrev pub AddsBy : {C : Type 0} → Setting C → Owners C → Owners C → Option C → List Entry → List Entry → Result (List (Message C)) RuleFault → Type 0
 AddsBy setting g after called old new (Ok messages) = Adds setting g after called old new
 AddsBy setting g after called old new (Err fault) = Adds setting g after None old new
@@ -166,7 +166,8 @@ owning_adds setting g call zxid old tag =
       asked = λ t whom is. inl is;
     }
 
--- a server keeps its role but for what its rule says; the role of a leader in broadcast is known by a path
+-- a server keeps its role but for what its rule says; the role of a leader in broadcast is known by
+-- a path
 abbrev LeaderFact : {C : Type 0} → Owners C → ℕ → State → Type 0
 LeaderFact g n state = Holds g n state.peer.stable.history Broadcast state.peer.stable.promised state.taken
 

@@ -265,7 +265,7 @@ catching_up_fact tag passes g n to above next None f = record {
 catching_up_fact tag passes g n to above next (Some commit) f =
     record { server = f; sent = news_of_fact tag g next (Some to) above (Some commit) f.owned }
 
--- a leader in sync has no calls of its epoch behind it
+-- a leader in sync has no calls of its epoch yet
 not_in_sync : (promised : ℕ) (taken newer : List ℕ) (epoch tag : ℕ) → IsPast promised Sync taken epoch tag → IsPast promised Broadcast newer epoch tag
 not_in_sync promised taken newer epoch tag past = elim past [
   | inl less ↦ inl less
@@ -330,7 +330,7 @@ ack_as_fact tag passes g n state from epoch count (Following leader synced) f = 
 pub hears_ack : {C : Type 0} (tag : C → ℕ) (passes : List Bool → Bool) (g : Owners C) (n : ℕ) (state : State) (from epoch count : ℕ) → ServerFact g n state → ActsFact tag g n (rules.ack {C = C} passes state from epoch count)
 hears_ack tag passes g n state from epoch count f = ack_as_fact tag passes g n state from epoch count state.peer.role f
 
--- what is delivered, asked and answered says nothing of tags of calls
+-- delivered entries and syncs do not concern the tags of calls
 still_with : {C : Type 0} (tag : C → ℕ) (g : Owners C) (n : ℕ) (state : State) (delivered : ℕ) (asked : List Asked) (caught : List Caught) → ServerFact g n state → ActsFact tag g n (rules.silent {C = C} (record state { delivered = delivered; asked = asked; caught = caught }))
 still_with tag g n state delivered asked caught f = record { server = f; sent = tt }
 

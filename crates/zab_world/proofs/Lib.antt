@@ -1,4 +1,4 @@
 pub mod Back
-pub mod Joinings
+pub mod Adoptions
 pub mod Living
 pub mod Numbers

@@ -1,3 +1,3 @@
 -- What the contracts of this crate cite.
-pub mod Joinings
-pub mod Sayings
+pub mod Adoptions
+pub mod Outputs

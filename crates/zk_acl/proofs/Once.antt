@@ -1,4 +1,4 @@
--- How a list of entries, each once, grows.
+-- Growing a list of entries without duplicates.
 use Rattle.std.proofs.Common.{◌≡◌, ℕ, ℤ, Bool, true, false, not, cond, ◌&&◌, ◌||◌, List, [], ◌∷◌, ◌++◌, filter, refl, ap, ap₂, sym, ◌∙◌, append-nil}
 use Rattle.std.specs.List.{list_any}
 use Rattle.std.proofs.lemmas.Bool.{and_parts}
@@ -52,7 +52,7 @@ behind_first : (first : Acl) (there : Bool) (kept : List Acl) (entry : Acl) → 
 behind_first first true kept entry = refl
 behind_first first false kept entry = refl
 
--- one more entry is kept, unless an equal one is
+-- one more entry is stored, unless an equal one is
 pub each_once-more : (entries : List Acl) (entry : Acl) → each_once (entries ++ entry ∷ []) ≡ cond (is_kept entry (each_once entries)) (each_once entries) (each_once entries ++ entry ∷ [])
 each_once-more [] entry = refl
 each_once-more (first ∷ entries) entry =
@@ -62,12 +62,12 @@ each_once-more (first ∷ entries) entry =
     ∙ behind_first first (same_acl first entry || (not (same_acl first entry) && is_kept entry kept)) (others first kept) entry
     ∙ ap (λ there. with_entry (same_acl first entry || there) (first ∷ others first kept) entry) (sym (is_kept-others first entry kept))
 
--- an entry that is kept already
+-- an entry that is stored already
 pub Keeps-same : (kept : List Acl) (entry : Acl) → is_kept entry kept ≡ true → Keeps kept kept (entry ∷ [])
 Keeps-same kept entry there before is =
     is ∙ ap (λ there. with_entry there (each_once before) entry) (sym (ap (is_kept entry) (sym is) ∙ there)) ∙ sym (each_once-more before entry)
 
--- and one that is not
+-- an entry that is not
 pub Keeps-new : (old new : List Acl) (entry : Acl) → is_kept entry old ≡ false → new ≡ old ++ entry ∷ [] → Keeps old new (entry ∷ [])
 Keeps-new old new entry missing more before is =
     more ∙ ap (λ kept. kept ++ entry ∷ []) is ∙ ap (λ there. with_entry there (each_once before) entry) (sym (ap (is_kept entry) (sym is) ∙ missing)) ∙ sym (each_once-more before entry)

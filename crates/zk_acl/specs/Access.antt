@@ -25,7 +25,7 @@ delete_perm = 8
 abbrev pub admin_perm : ℕ
 admin_perm = 16
 
--- ---- who is meant: "Builtin ACL Schemes"
+-- ---- identities: "Builtin ACL Schemes"
 
 abbrev pub has_scheme : List ℕ → Id → Bool
 has_scheme scheme who = bytes_eq who.scheme scheme
@@ -36,7 +36,7 @@ same_id a b = bytes_eq a.scheme b.scheme && bytes_eq a.id b.id
 abbrev pub is_anyone : Id → Bool
 is_anyone who = has_scheme (codes "world") who && bytes_eq who.id (codes "anyone")
 
--- everyone, or a digest among those that a caller has proved
+-- everyone, or one of the digests that the caller has proved
 abbrev pub is_of : List Id → Id → Bool
 is_of auths who = is_anyone who || (has_scheme (codes "digest") who && list_any (same_id who) auths)
 
@@ -52,26 +52,27 @@ grants perm auths entry = has_perm perm entry && is_of auths entry.id
 abbrev pub allows : List Acl → ℕ → List Id → Bool
 allows acl perm auths = length acl == 0 || list_any (grants perm auths) acl
 
--- ---- a list as a caller asks for it
+-- ---- lists that a caller may set
 
--- an identity that an entry may name: everyone, a digest, and in scheme auth all that the caller has proved, if there are any
+-- an identity that an entry may name: everyone, a digest, or, in scheme auth, the caller's proved
+-- identities if there are any
 abbrev pub is_valid_id : List Id → Id → Bool
 is_valid_id auths who =
     is_anyone who || (has_scheme (codes "digest") who && is_digest_text who.id) || (has_scheme (codes "auth") who && not (length auths == 0))
 
--- perms from 0 to 31, for an identity that may be named
+-- perms from 0 to 31, and a valid identity
 abbrev pub is_valid : List Id → Acl → Bool
 is_valid auths entry = (int_le (pos 0) entry.perms && int_le entry.perms (pos 31)) && is_valid_id auths entry.id
 
 abbrev pub is_valid_list : List Acl → List Id → Bool
 is_valid_list acl auths = not (length acl == 0) && list_all (is_valid auths) acl
 
--- ---- and as it is kept
+-- ---- the list that is stored
 
 abbrev pub same_acl : Acl → Acl → Bool
 same_acl a b = int_eq a.perms b.perms && same_id a.id b.id
 
--- an entry of scheme auth is one entry for each identity that the caller has proved
+-- an entry of scheme auth becomes one entry for each identity that the caller has proved
 abbrev pub entries_for : List Id → Acl → List Acl
 entries_for auths entry = if has_scheme (codes "auth") entry.id then map (λ who. record entry { id = who }) auths else entry ∷ []
 
@@ -80,6 +81,6 @@ abbrev pub each_once : List Acl → List Acl
 each_once [] = []
 each_once (entry ∷ entries) = entry ∷ filter (λ later. not (same_acl entry later)) (each_once entries)
 
--- the list that is kept; None where a caller may not ask for this one
+-- the list that is stored; None if the caller may not set this one
 abbrev pub fix : List Acl → List Id → Option (List Acl)
 fix acl auths = if is_valid_list acl auths then Some (each_once (flat_map (entries_for auths) acl)) else None

@@ -7,26 +7,26 @@ ghost use Rattle.zk_acl.specs.Access.{has_scheme, same_id, is_anyone, is_of, has
 
 use crate::acl::{Acl, Id};
 
-/// To read a node's content, and the names of its children.
+/// Read a node's content and the names of its children.
 pub const READ: u32 = 1;
 
-/// To set a node's content.
+/// Set a node's content.
 pub const WRITE: u32 = 2;
 
-/// To make children.
+/// Create children.
 pub const CREATE: u32 = 4;
 
-/// To delete children.
+/// Delete children.
 pub const DELETE: u32 = 8;
 
-/// To set a node's access control list.
+/// Set a node's access control list.
 pub const ADMIN: u32 = 16;
 
-/// All of these.
+/// All permissions.
 pub const ALL: u32 = 31;
 
-/// Whether a list allows what this bit stands for to a caller who has proved these identities: it is empty, or an entry
-/// has the bit and names everyone, or a digest among them. Of several bits one is enough.
+/// Whether a list grants one of the permissions in `perm` to a caller who has proved `auths`. An
+/// empty list grants everything; an entry grants its permissions to everyone, or to one digest.
 ///
 /// ZooKeeper Programmer's Guide, "ACL Permissions" and "Builtin ACL Schemes".
 pub fn allows(acl: &[Acl], perm: u32, auths: &[Id]) -> bool
@@ -53,7 +53,8 @@ fn has_perm(entry: &Acl, perm: u32) -> bool
     entry.perms.cast_unsigned() & perm != 0
 }
 
-/// Whether an identity is everyone's, or a digest among these. Other schemes are kept, and match nobody.
+/// Whether an identity is everyone's, or a digest among `auths`. Other schemes are stored but match
+/// no caller.
 fn is_of(who: &Id, auths: &[Id]) -> bool
     ensures { result ≡ is_of auths.now who.now }
 {

@@ -6,7 +6,7 @@ use std::marker::Model;
 use std::sync::Arc;
 use zk_path::NoMemory;
 
-/// Who is meant: a scheme and an identity in it.
+/// An identity and its scheme.
 ///
 /// `zookeeper.jute`, `Id`.
 #[derive(Debug, Drop)]
@@ -16,7 +16,6 @@ pub struct Id {
 }
 
 impl Id {
-    /// The same identity once more.
     pub fn copy(&self) -> Result<Id, NoMemory>
         ensures { IfOk result (λ copy. copy ≡ self.now) }
     {
@@ -26,9 +25,10 @@ impl Id {
     }
 }
 
-/// One entry of an access control list: what someone may do.
+/// One entry of an access control list: permissions for an identity.
 ///
-/// `zookeeper.jute`, `ACL`; the permissions are bits: read 1, write 2, create 4, delete 8, admin 16.
+/// `zookeeper.jute`, `ACL`; the permissions are bits: read 1, write 2, create 4, delete 8, admin
+/// 16.
 #[derive(Debug, Drop)]
 pub struct Acl {
     pub perms: i32,
@@ -36,7 +36,6 @@ pub struct Acl {
 }
 
 impl Acl {
-    /// The same entry once more.
     pub fn copy(&self) -> Result<Acl, NoMemory>
         ensures { IfOk result (λ copy. copy ≡ self.now) }
     {
@@ -48,7 +47,7 @@ impl Acl {
     }
 }
 
-/// An access control list, seen as its entries in order. Copies share the entries.
+/// An access control list, modelled as its entries in order. Copies share the entries.
 #[derive(Debug, Drop)]
 pub struct Acls {
     entries: Arc<Vec<Acl>>,
@@ -65,7 +64,6 @@ impl Model for Acls {
 }
 
 impl Acls {
-    /// The list of these entries.
     pub fn new(alloc: Global, entries: Vec<Acl>) -> Result<Acls, NoMemory>
         ensures { IfOk result (λ acls. acls ≡ entries.items) }
     {
@@ -74,20 +72,19 @@ impl Acls {
         })
     }
 
-    /// The entries, lent.
     pub fn as_slice(&self) -> &[Acl]
         ensures { result.now ≡ self.now }
     {
         self.entries.as_slice()
     }
 
-    /// What the list's memory comes from.
+    /// The allocator of the entries.
     pub(crate) fn allocator(&self) -> Global {
         *self.entries.allocator()
     }
 
-    /// The same list once more, over the same entries: no memory is taken. [`NoMemory`] says that the count of the
-    /// list's owners is full.
+    /// A copy that shares the entries, without allocating. Fails with [`NoMemory`] if the list's
+    /// owner count is full.
     pub fn copy(&self) -> Result<Acls, NoMemory>
         ensures { IfOk result (λ copy. copy ≡ self.now) }
     {

@@ -1,6 +1,7 @@
 //! Identities of the scheme `digest`.
 //!
-//! ZooKeeper Programmer's Guide, "Builtin ACL Schemes". SHA-1 is that of FIPS 180-4, base64 that of RFC 4648, section 4.
+//! ZooKeeper Programmer's Guide, "Builtin ACL Schemes". SHA-1 is defined in FIPS 180-4, base64 in
+//! RFC 4648, section 4.
 ghost use Rattle.std.specs.Prelude.{◌≡◌, ◌↔◌, ◌++◌, ◌∷◌, Some, None, count_by, IfOk, OnOk};
 ghost use Rattle.std.specs.List.{list_any, before_first};
 ghost use Rattle.std.specs.Option.{option_copied};
@@ -18,10 +19,10 @@ use sha1::Sha1;
 use std::alloc::Global;
 use zk_path::NoMemory;
 
-/// The identity that a caller proves by a text `user:password`: the user up to the first colon, and behind a colon the
-/// SHA-1 of the whole text in base64.
+/// Returns the identity that a text `user:password` proves: the user up to the first colon, a
+/// colon, and the SHA-1 of the whole text in base64.
 ///
-/// [`AclFault::Invalid`] for a text without a colon.
+/// Fails with [`AclFault::Invalid`] for a text without a colon.
 pub fn digest_id(alloc: Global, text: &str) -> Result<Id, AclFault>
     ensures found { IfOk result (λ id. digest_of text.now ≡ Some id) }
     ensures invalid { (result ≡ Err AclFault.Invalid) ↔ (digest_of text.now ≡ None) }
@@ -34,7 +35,7 @@ pub fn digest_id(alloc: Global, text: &str) -> Result<Id, AclFault>
     Ok(Id { scheme, id })
 }
 
-/// What stands before the first colon.
+/// The text before the first colon.
 fn user_of(text: &str) -> Option<&str>
     ensures { option_copied result ≡ user_of text.now }
 {
@@ -42,7 +43,7 @@ fn user_of(text: &str) -> Option<&str>
     Some(user)
 }
 
-/// A user, a colon and the digest of a text.
+/// The user, a colon and the digest of `text`.
 fn with_digest(alloc: Global, user: &str, text: &str) -> Result<Text, NoMemory>
     ensures { IfOk result (λ id. id ≡ user.now ++ 58 ∷ encode_of standard (sha1 text.now)) }
 {
@@ -59,7 +60,7 @@ fn push_base64(text: &mut String, bytes: &[u8]) -> Result<(), NoMemory>
     Ok(())
 }
 
-/// Whether a text may stand as the identity of a digest: it has one colon, and something behind it.
+/// Whether a text may be the identity of a digest: it has exactly one colon, and text after it.
 pub(crate) fn is_digest_text(id: &str) -> bool
     ensures { result ≡ is_digest_text id.now }
 {

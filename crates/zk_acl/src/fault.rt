@@ -5,13 +5,13 @@ use std::alloc::{AllocError, AllocFailed};
 use thiserror::Error;
 use zk_path::NoMemory;
 
-/// Why an access control list or a digest was refused.
+/// Why an access control list or a digest is rejected.
 #[derive(Clone, Copy, Debug, PartialEq, Eq, Error)]
 pub enum AclFault {
-    /// No caller may ask for such a list, or the text names no user.
+    /// No caller may set this list, or the text names no user.
     #[error("A1")]
     Invalid,
-    /// Memory was refused.
+    /// An allocation failed.
     #[error("A2")]
     NoMemory,
 }

@@ -1,4 +1,4 @@
-//! The list that is kept for the one that a caller asks for.
+//! The list that is stored when a caller sets one.
 ghost use Rattle.std.specs.Prelude.{◌≡◌, ◌↔◌, Some, None, [], ◌∷◌, flat_map, IfOk, OnOk};
 ghost use Rattle.std.specs.List.{list_any, list_all};
 ghost use Rattle.zk_acl.specs.Access.{same_acl, is_valid_id, is_valid, is_valid_list, entries_for, each_once, fix};
@@ -12,12 +12,16 @@ use crate::fault::AclFault;
 use std::alloc::Global;
 use zk_path::NoMemory;
 
-/// The list that a node keeps where a caller who has proved these identities asks for this one: each entry of scheme
-/// `auth` is an entry for each of them, in order, and an entry equal to an earlier one is dropped.
+/// Returns the list that a node stores when a caller who has proved `auths` sets `acl`. An entry of
+/// scheme `auth` becomes one entry for each of `auths`, in order; duplicates are dropped.
 ///
-/// [`AclFault::Invalid`] for an empty list, for perms outside 0 to 31, for a world identity other than `anyone`, for a
-/// digest without exactly one colon that something follows, for scheme `auth` of a caller who has proved nothing, and for
-/// any other scheme.
+/// Fails with [`AclFault::Invalid`] for:
+/// - an empty list
+/// - perms outside 0 to 31
+/// - a world identity other than `anyone`
+/// - a digest without exactly one colon and text after it
+/// - scheme `auth` when `auths` is empty
+/// - any other scheme
 ///
 /// ZooKeeper Programmer's Guide, "Builtin ACL Schemes".
 pub fn fix(acl: &Acls, auths: &[Id]) -> Result<Acls, AclFault>
@@ -56,7 +60,7 @@ fn is_valid_id(who: &Id, auths: &[Id]) -> bool
         || (has_scheme(who, "auth") && !auths.is_empty())
 }
 
-/// What is kept of a valid list.
+/// The stored form of a valid list.
 fn kept_list(acl: &Acls, auths: &[Id]) -> Result<Acls, NoMemory>
     ensures { IfOk result (λ kept. kept ≡ each_once (flat_map (entries_for auths.now) acl.now)) }
 {
@@ -67,7 +71,7 @@ fn kept_list(acl: &Acls, auths: &[Id]) -> Result<Acls, NoMemory>
     Acls::new(acl.allocator(), kept)
 }
 
-/// Keeps all that an entry stands for.
+/// Stores every entry that `entry` expands to.
 fn keep_all(kept: &mut Vec<Acl>, entry: &Acl, auths: &[Id]) -> Result<(), NoMemory>
     ensures { OnOk result (Keeps kept.old.items kept.new.items (entries_for auths.now entry.now)) }
 {
@@ -80,7 +84,7 @@ fn keep_all(kept: &mut Vec<Acl>, entry: &Acl, auths: &[Id]) -> Result<(), NoMemo
     Ok(())
 }
 
-/// Keeps an entry, unless an equal one is kept.
+/// Stores an entry unless an equal one is there.
 fn keep(kept: &mut Vec<Acl>, perms: i32, who: &Id) -> Result<(), NoMemory>
     ensures { OnOk result (Keeps kept.old.items kept.new.items (record { perms = perms; id = who.now } ∷ [])) }
 {

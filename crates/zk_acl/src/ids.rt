@@ -4,7 +4,7 @@ use crate::acl::Id;
 use std::marker::Model;
 use zk_path::NoMemory;
 
-/// The identities that a caller has proved, seen as their list.
+/// The identities that a caller has proved, modelled as a list.
 #[derive(Debug, Drop)]
 pub struct Ids {
     ids: Vec<Id>,
@@ -20,21 +20,19 @@ impl Model for Ids {
 }
 
 impl Ids {
-    /// These identities, without memory.
+    /// Wraps `ids` without allocating.
     pub fn new(ids: Vec<Id>) -> Ids
         ensures { result ≡ ids.items }
     {
         Ids { ids }
     }
 
-    /// The identities, lent.
     pub fn as_slice(&self) -> &[Id]
         ensures { result.now ≡ self.now }
     {
         self.ids.as_slice()
     }
 
-    /// The same identities once more.
     pub fn copy(&self) -> Result<Ids, NoMemory>
         ensures { IfOk result (λ copy. copy ≡ self.now) }
     {

@@ -1,7 +1,8 @@
-//! Identities, access control lists and the stat of a node; what a list allows, and what is kept of one that a caller asks
-//! for.
+//! Identities, access control lists and a node's stat; the permissions that a list grants, and the
+//! form in which it is stored.
 //!
-//! `zookeeper.jute`, module `org.apache.zookeeper.data`; ZooKeeper Programmer's Guide, "ZooKeeper access control using ACLs".
+//! `zookeeper.jute`, module `org.apache.zookeeper.data`; ZooKeeper Programmer's Guide, "ZooKeeper
+//! access control using ACLs".
 #![tactic(auto)]
 
 mod access;

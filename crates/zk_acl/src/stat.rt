@@ -1,6 +1,7 @@
-/// What a client is told of a node beside its content, in the order of the record.
+/// The metadata of a node, in the order of the record's fields.
 ///
-/// `zookeeper.jute`, `Stat`; Programmer's Guide, "ZooKeeper Stat Structure". Times are milliseconds.
+/// `zookeeper.jute`, `Stat`; Programmer's Guide, "ZooKeeper Stat Structure". Times are
+/// milliseconds.
 #[derive(Clone, Copy, Debug, PartialEq, Eq)]
 pub struct Stat {
     /// The transaction that created the node.
@@ -9,15 +10,15 @@ pub struct Stat {
     pub mzxid: i64,
     pub ctime: i64,
     pub mtime: i64,
-    /// Of the content.
+    /// The version of the content.
     pub version: i32,
-    /// Of the children.
+    /// The version of the children.
     pub cversion: i32,
-    /// Of the access control list.
+    /// The version of the access control list.
     pub aversion: i32,
-    /// The session that owns the node, and 0 for a persistent one.
+    /// The session that owns the node; 0 for a persistent node.
     pub ephemeral_owner: i64,
-    /// The number of the content's bytes.
+    /// In bytes.
     pub data_length: i32,
     pub num_children: i32,
     /// The transaction that last changed its children.

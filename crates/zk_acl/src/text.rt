@@ -5,7 +5,7 @@ use std::alloc::Global;
 use std::marker::Model;
 use zk_path::NoMemory;
 
-/// A text, seen as its bytes in UTF-8.
+/// A text, modelled as its bytes in UTF-8.
 #[derive(Debug, Drop)]
 pub struct Text {
     text: String,
@@ -21,14 +21,14 @@ impl Model for Text {
 }
 
 impl Text {
-    /// The text of a string, without memory.
+    /// Wraps `text` without allocating.
     pub fn new(text: String) -> Text
         ensures { result ≡ string_bytes text }
     {
         Text { text }
     }
 
-    /// A text of these characters.
+    /// Copies `text`.
     pub fn read(alloc: Global, text: &str) -> Result<Text, NoMemory>
         ensures { IfOk result (λ made. made ≡ text.now) }
     {
@@ -37,14 +37,12 @@ impl Text {
         })
     }
 
-    /// The characters.
     pub fn as_str(&self) -> &str
         ensures { result.now ≡ self.now }
     {
         self.text.as_str()
     }
 
-    /// The same text once more.
     pub fn copy(&self) -> Result<Text, NoMemory>
         ensures { IfOk result (λ copy. copy ≡ self.now) }
     {

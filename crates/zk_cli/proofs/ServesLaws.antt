@@ -1,9 +1,9 @@
--- How the order ends, by what was written and told.
+-- How the command ends, by what was written.
 use Rattle.std.proofs.Common.{◌≡◌, ℕ, ◌<◌, ◌^◌, List, Option, Ok, Err, inl, inr, subst, codes, arith}
 use Rattle.zk_records.specs.declared.sink.Sink.{Sink}
 use Rattle.zk_path.specs.declared.memory.NoMemory.{NoMemory}
-use Rattle.zk_orders.specs.Telling.{Told}
-use Rattle.zk_orders.specs.Writing.{LeavesSink, Wrote, BrokeOff}
+use Rattle.zk_log_commands.specs.Telling.{Told}
+use Rattle.zk_log_commands.specs.Writing.{LeavesSink, Wrote, BrokeOff}
 use Rattle.zk_cli.specs.Serving.{Serves, listening_line}
 
 module _ {O E : Type 0} (written : O → Option (List ℕ)) (told : E → Option (List ℕ)) (output output' : Sink O) (faults faults' : Sink E) where

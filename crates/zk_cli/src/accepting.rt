@@ -1,11 +1,11 @@
-//! Connections, one after the other.
+//! Connections, one after another.
 
 use std::alloc::Global;
 use std::io;
 use std::net::{TcpListener, TcpStream};
 use zk_front::{FrontFault, Service, serve_lines};
 use zk_log::{Sink, Source};
-use zk_orders::TURNS;
+use zk_log_commands::TURNS;
 use zk_path::NoMemory;
 
 /// How the connections ended.
@@ -13,11 +13,12 @@ use zk_path::NoMemory;
 pub(crate) enum Served {
     /// All were served.
     All,
-    /// The listener gave none any more.
+    /// The listener returned no further connection.
     Unheard,
 }
 
-/// Serves so many connections. What ends one early ends it alone, but for want of memory.
+/// Serves `connections` connections in order. An error on one ends only that one, except for an
+/// allocation failure.
 pub(crate) fn serve_connections<S: Service>(
     alloc: Global,
     listener: &TcpListener,
@@ -39,7 +40,7 @@ fn serve_stream<S: Service>(
     stream: &TcpStream,
     service: &mut S,
 ) -> Result<(), NoMemory> {
-    // Where the system refuses it, answers come later, and no less.
+    // If the system rejects the option, replies are delayed but complete.
     let _: io::Result<()> = stream.set_nodelay(true);
     let mut reader = Source::new(stream);
     let mut writer = Sink::new(stream);

@@ -8,7 +8,7 @@ use zk_front::Clock;
 #[derive(Drop)]
 pub(crate) struct SystemClock<'a, R: time::Clock> {
     rt: &'a R,
-    /// The last time that it told.
+    /// The last time that the system returned.
     last: i64,
 }
 
@@ -17,7 +17,7 @@ impl<'a, R: time::Clock> SystemClock<'a, R> {
         SystemClock { rt, last: 0 }
     }
 
-    /// The time, if the system tells it.
+    /// The time, if the system returns it.
     fn read(&self) -> Option<i64> {
         let now = SystemTime::now(self.rt).ok()?;
         let since = now.duration_since(UNIX_EPOCH).ok()?;
@@ -26,7 +26,7 @@ impl<'a, R: time::Clock> SystemClock<'a, R> {
 }
 
 impl<R: time::Clock> Clock for SystemClock<'_, R> {
-    /// Where the system does not tell the time, the last one that it told.
+    /// The last known time if the system returns none.
     fn now(&mut self) -> i64 {
         if let Some(now) = self.read() {
             self.last = now;

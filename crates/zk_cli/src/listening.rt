@@ -1,4 +1,4 @@
-//! The order that serves connections.
+//! The command `serve`.
 
 ghost use Rattle.std.specs.Prelude.{◌≤◌};
 
@@ -9,11 +9,11 @@ use std::net::{Ipv4Addr, Net, SocketAddr, TcpListener, TcpStream};
 use std::sync::Wait;
 use std::thread::Threads;
 use std::{io, time};
-use zk_command_line::Serving;
+use zk_cli_args::Serving;
 use zk_log::Sink;
 use zk_path::NoMemory;
 
-/// Listens on a port of this machine, and serves the connections. Answers the exit status.
+/// Listens on a port of 127.0.0.1, and serves the connections. Returns the exit status.
 pub(crate) fn listen<
     R: Threads + Wait + Net<Listener = TcpListener, Stream = TcpStream> + time::Clock + Sync,
 >(threads: &R, rt: &HostRuntime, serving: Serving) -> Result<u8, NoMemory>

@@ -1,14 +1,15 @@
-//! The program `zk`: a look at transaction logs of ZooKeeper, and runs of its servers. It reads the command line and opens files
-//! and ports. The orders are those of `zk_acting`, but for `serve`, which stands here: it alone needs threads and sockets.
+//! The program `zk`: reads transaction logs of ZooKeeper, and runs its servers. This crate reads
+//! the command line and opens files and ports. The commands are those of `zk_commands`, except
+//! `serve`, which is here because it alone needs threads and sockets.
 #![tactic(auto)]
 
 mod accepting;
 mod clock;
-mod doors;
 mod listening;
 mod port;
 mod servers;
 mod serving;
+mod start_barrier;
 
 use listening::listen;
 use std::io::{IsTerminal, Read, Write};
@@ -17,11 +18,12 @@ use std::process::ExitCode;
 use std::sync::Wait;
 use std::thread::Threads;
 use std::{env, fs, io, time};
-use zk_acting::act;
-use zk_command_line::{Command, CommandFault, Job, Order, read_command_line};
+use zk_cli_args::{
+    Command, CommandFault, Job, Order, Refusal, read_command_line, refusal_of_bytes,
+};
+use zk_commands::act;
 use zk_log::{Sink, Source};
 use zk_path::NoMemory;
-use zk_usage::{Refusal, refusal_of_bytes};
 
 fn main(rt: HostRuntime) -> ExitCode {
     match run(&rt, &rt) {
@@ -30,9 +32,9 @@ fn main(rt: HostRuntime) -> ExitCode {
     }
 }
 
-/// Reads the command line and does what it asks for. Answers the exit status.
+/// Parses the command line and runs the command. Returns the exit status.
 ///
-/// Servers are threads, and may wait; nothing else is or does.
+/// Servers are threads, and may wait; no other command uses threads.
 fn run<R: Threads + Wait + Net<Listener = TcpListener, Stream = TcpStream> + time::Clock + Sync>(
     rt: &HostRuntime,
     threads: &R,
@@ -56,9 +58,10 @@ fn run<R: Threads + Wait + Net<Listener = TcpListener, Stream = TcpStream> + tim
     }
 }
 
-/// Prints what is said of a command line. Answers the exit status: 0 for a help or a version, 2 for a refusal.
+/// Prints the message for a command line. Returns the exit status: 0 for a help or a version, 2 for
+/// an error.
 fn print(rt: &HostRuntime, refusal: &Refusal) -> u8 {
-    // Where the text can't be printed there is nobody left to tell.
+    // If the text cannot be printed, the error cannot be reported either.
     if refusal.is_fault() {
         let _ = rt.eprint(refusal.text.as_str());
         2
@@ -68,7 +71,7 @@ fn print(rt: &HostRuntime, refusal: &Refusal) -> u8 {
     }
 }
 
-/// Opens the inputs and then the output, and acts. Answers the exit status.
+/// Opens the inputs and then the output, and runs the command. Returns the exit status.
 fn open_and_act(rt: &HostRuntime, job: &Job) -> Result<u8, NoMemory> {
     if job.input == "@" {
         return open_script(rt, job, rt.reader());
@@ -79,9 +82,10 @@ fn open_and_act(rt: &HostRuntime, job: &Job) -> Result<u8, NoMemory> {
     }
 }
 
-/// Opens the script of an open input, if the order has one, and then the output, and acts. Answers the exit status.
+/// Opens the script, if the command has one, and then the output, and runs the command. Returns the
+/// exit status.
 ///
-/// The lines of a session come from the standard input.
+/// The lines of a session are those of standard input.
 fn open_script<F: Read + Drop>(rt: &HostRuntime, job: &Job, file: F) -> Result<u8, NoMemory> {
     if matches!(job.order, Order::Session { .. }) || job.script == Some("@") {
         return open_output(rt, job, file, rt.reader());
@@ -95,7 +99,7 @@ fn open_script<F: Read + Drop>(rt: &HostRuntime, job: &Job, file: F) -> Result<u
     }
 }
 
-/// Opens the output of open inputs, and acts. Answers the exit status.
+/// Opens the output and runs the command. Returns the exit status.
 fn open_output<F: Read + Drop, S: Read + Drop>(
     rt: &HostRuntime,
     job: &Job,
@@ -105,14 +109,14 @@ fn open_output<F: Read + Drop, S: Read + Drop>(
     if job.output == "@" {
         return act_on(rt, &job.order, file, script, io::writer(rt), io::sink());
     }
-    // Beside an output of its own an order may report to the standard output.
+    // A command with an output of its own may report to standard output.
     match fs::create(rt, job.output) {
         Ok(output) => act_on(rt, &job.order, file, script, output, io::writer(rt)),
         Err(_) => Ok(refuse(rt, "write")),
     }
 }
 
-/// Acts on open inputs and open outputs, with the standard error. Answers the exit status.
+/// Runs the command on open inputs and outputs, with standard error. Returns the exit status.
 fn act_on<F: Read + Drop, S: Read + Drop, O: Write + Drop, R: Write + Drop>(
     rt: &HostRuntime,
     order: &Order,
@@ -137,14 +141,14 @@ fn act_on<F: Read + Drop, S: Read + Drop, O: Write + Drop, R: Write + Drop>(
     )
 }
 
-/// Tells why nothing more is done. Answers the exit status.
+/// Prints why the program stops. Returns the exit status.
 fn refuse(rt: &HostRuntime, reason: &str) -> u8 {
-    // Where that fails too, there is nobody left to tell.
+    // If that fails too, the error cannot be reported.
     let _ = eprintln!(rt; "zk: {reason}");
     1
 }
 
-/// The order, with prompts where a session's lines come from a terminal.
+/// The command, with prompts if a session's lines come from a terminal.
 fn prompted(rt: &HostRuntime, order: &Order) -> Order {
     match order {
         Order::Session { prompts } => Order::Session {

@@ -7,7 +7,7 @@ use std::alloc::Global;
 use std::net::TcpListener;
 use zk_path::NoMemory;
 
-/// The port of an open listener, if the system tells it.
+/// The port of an open listener, if the system returns it.
 pub(crate) fn port_of(listener: &TcpListener) -> Option<u16> {
     match listener.local_addr() {
         Ok(address) => Some(address.port()),
@@ -15,7 +15,7 @@ pub(crate) fn port_of(listener: &TcpListener) -> Option<u16> {
     }
 }
 
-/// The line that tells the port.
+/// The line with the port.
 pub(crate) fn listening_line(alloc: Global, port: u16) -> Result<String, NoMemory>
     ensures { IfOk result (λ line. string_bytes line ≡ listening_line port) }
 {

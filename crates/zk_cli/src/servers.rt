@@ -1,8 +1,8 @@
-//! Servers as threads, beside connections that one of them serves.
+//! Servers as threads, and connections that server 1 serves.
 ghost use Rattle.std.specs.Prelude.{◌≡◌, ◌+◌, ◌≤◌, IfOk, length};
 
 use crate::accepting::{Served, serve_connections};
-use crate::doors::Doors;
+use crate::start_barrier::StartBarrier;
 use std::alloc::Global;
 use std::marker::Brand;
 use std::net::TcpListener;
@@ -11,23 +11,23 @@ use std::sync::ledger::{Blank, Ledger};
 use std::thread::Threads;
 use std::{thread, time};
 use zk_front::servers::{
-    CloseFault, Event, Post, Receipt, Run, Seat, Senders, Shared, Started, Unclosed, inboxes,
+    CallLedger, CloseFault, Event, Post, Receipt, Run, Seat, Shared, Started, Unclosed, inboxes,
     run_servers,
 };
 use zk_front::{Clock, Remote, ServiceFault, Unstarted};
 use zk_path::NoMemory;
 
-/// What the threads hand back.
+/// What the threads return.
 #[derive(Drop)]
 struct Ended<L: Ledger> {
     served: Served,
     run: Run<L>,
-    /// That of the connections.
+    /// The seat of the connections.
     seat: Seat<L>,
     receipts: Vec<Receipt>,
 }
 
-/// Starts so many servers, and serves connections at server 1.
+/// Starts servers, and serves connections at server 1.
 pub(crate) fn serve_clients<R: Threads + Wait + time::Clock + Sync, C: Clock>(
     rt: &R,
     alloc: Global,
@@ -38,7 +38,7 @@ pub(crate) fn serve_clients<R: Threads + Wait + time::Clock + Sync, C: Clock>(
 ) -> Result<Served, NoMemory>
     requires servers { (2 ≤ servers) × (servers ≤ 15) }
 {
-    // The ledger is picked here.
+    // This call chooses the ledger.
     serve_over::<Brand, R, C>(
         rt,
         alloc,
@@ -50,8 +50,8 @@ pub(crate) fn serve_clients<R: Threads + Wait + time::Clock + Sync, C: Clock>(
     )
 }
 
-/// The same over a ledger.
-fn serve_over<L: Ledger + Send + Sync, R: Threads + Wait + time::Clock + Sync, C: Clock>(
+/// Like [`serve_clients`], over any ledger.
+fn serve_over<L: CallLedger + Send + Sync, R: Threads + Wait + time::Clock + Sync, C: Clock>(
     rt: &R,
     alloc: Global,
     blank: Blank,
@@ -63,9 +63,10 @@ fn serve_over<L: Ledger + Send + Sync, R: Threads + Wait + time::Clock + Sync, C
     requires name { blank.name ≡ L.name }
     requires parts { blank.parts ≡ L.parts }
     requires enough { blank.parts ≡ servers + 2 }
+    requires ledger { servers ≡ L.servers }
     requires servers { (2 ≤ servers) × (servers ≤ 15) }
 {
-    // Nobody reads past the lock.
+    // The readers of views are unused: every read takes the lock.
     let Started {
         shared,
         mut seats,
@@ -93,7 +94,7 @@ fn serve_over<L: Ledger + Send + Sync, R: Threads + Wait + time::Clock + Sync, C
     close(rt, alloc, shared, ended)
 }
 
-/// What becomes of connections where the servers could not begin.
+/// The result for the connections if the servers did not start.
 fn why_unserved<L: Ledger>(unstarted: &Unstarted<L>) -> Result<Served, NoMemory> {
     match unstarted.fault {
         ServiceFault::Memory => Err(NoMemory),
@@ -101,8 +102,8 @@ fn why_unserved<L: Ledger>(unstarted: &Unstarted<L>) -> Result<Served, NoMemory>
     }
 }
 
-/// Servers that run, and connections that are served beside them; then the servers are told to end.
-fn run_and_serve<L: Ledger + Send + Sync, R: Threads + Wait + time::Clock + Sync, C: Clock>(
+/// Runs servers and serves connections, and then ends the servers.
+fn run_and_serve<L: CallLedger + Send + Sync, R: Threads + Wait + time::Clock + Sync, C: Clock>(
     rt: &R,
     alloc: Global,
     shared: &Shared<L>,
@@ -116,7 +117,7 @@ fn run_and_serve<L: Ledger + Send + Sync, R: Threads + Wait + time::Clock + Sync
 {
     let senders = post.senders.copy(alloc)?;
     let servers = seats.len();
-    let doors = Doors::new();
+    let doors = StartBarrier::new();
     let doors = &doors;
     thread::scope(
         thread::scope_env(),
@@ -138,7 +139,7 @@ fn run_and_serve<L: Ledger + Send + Sync, R: Threads + Wait + time::Clock + Sync
             } else {
                 Err(NoMemory)
             };
-            senders.end_all(rt);
+            senders.end_all();
             let run = running.join(rt)?;
             let (seat, receipts) = remote.end();
             Ok(Ended {
@@ -151,12 +152,12 @@ fn run_and_serve<L: Ledger + Send + Sync, R: Threads + Wait + time::Clock + Sync
     )
 }
 
-/// Runs servers that have nothing to do but what comes to them, and closes the doors behind them.
-fn run_all<L: Ledger + Send + Sync, R: Threads + Wait + Sync>(
+/// Runs servers that only process what they receive, and closes the barrier when they end.
+fn run_all<L: CallLedger + Send + Sync, R: Threads + Wait + Sync>(
     rt: &R,
     alloc: Global,
     shared: &Shared<L>,
-    doors: &Doors,
+    doors: &StartBarrier,
     post: Post,
     seats: Vec<Seat<L>>,
 ) -> Result<Run<L>, NoMemory>
@@ -170,7 +171,7 @@ fn run_all<L: Ledger + Send + Sync, R: Threads + Wait + Sync>(
     run
 }
 
-/// So many lists without a job.
+/// An empty list of jobs for each server.
 fn no_jobs(alloc: Global, servers: usize) -> Result<Vec<Vec<Event>>, NoMemory>
     ensures { IfOk result (λ jobs. length jobs.items ≡ servers) }
 {
@@ -182,8 +183,8 @@ fn no_jobs(alloc: Global, servers: usize) -> Result<Vec<Vec<Event>>, NoMemory>
     Ok(jobs)
 }
 
-/// Ends the sharing, with all seats and receipts.
-fn close<L: Ledger, R: Wait>(
+/// Closes the shared ensemble, with all seats and receipts.
+fn close<L: CallLedger, R: Wait>(
     rt: &R,
     alloc: Global,
     shared: Shared<L>,

@@ -13,15 +13,17 @@ use std::thread::Threads;
 use std::time;
 use zk_front::Clock;
 use zk_log::Sink;
-use zk_orders::tell;
+use zk_log_commands::tell;
 use zk_path::NoMemory;
 
-/// Starts servers as threads, tells the port, and serves so many connections on it, one after the other, at server 1. Answers the
-/// exit status: 0, or 1 with one line on `faults`, `zk: write` where the port could not be told and `zk: listen` where the listener
-/// has no port or gave no connection.
+/// Starts servers as threads, prints the port, and serves `connections` connections on it, one
+/// after another, at server 1. Returns the exit status: 0, or 1 with one line on `faults`:
+/// `zk: write` if the port could not be printed, and `zk: listen` if the listener has no port or
+/// returned no connection.
 ///
-/// The port is told before the servers start; a client that connects waits until they have. [`NoMemory`] also where a thread can't
-/// be made, or where a connection is refused memory, which ends all.
+/// The port is printed before the servers start; a client that connects waits for them. Fails with
+/// [`NoMemory`] also if a thread cannot be created, or if a connection runs out of memory, which
+/// ends all.
 #[tactic(auto, using(crate::proofs::ServesLaws::no_port, crate::proofs::ServesLaws::not_written, crate::proofs::ServesLaws::all_served, crate::proofs::ServesLaws::unheard, crate::proofs::ServesLaws::refused_before, crate::proofs::ServesLaws::refused_behind))]
 pub(crate) fn serve<R: Threads + Wait + time::Clock + Sync, C: Clock, O: Write, E: Write>(
     rt: &R,

@@ -1,4 +1,4 @@
--- What is found in the rest of a list.
+-- A look-up in the rest of a list.
 use Rattle.std.proofs.Common.{◌≡◌, ℕ, zero, suc, cond, List, [], ◌∷◌, drop, Some, ap, is_some}
 use Rattle.std.specs.Prelude.{slice_get, Bool, unwrap_or}
 use Rattle.std.proofs.lemmas.Bool.{false≢true}

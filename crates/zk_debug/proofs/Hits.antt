@@ -1,4 +1,4 @@
--- The lowest number that a place matches, by what is kept of the step to it; and the place of a zxid.
+-- The lowest number that a place matches, by the stored step to it; and the place of a zxid.
 use Rattle.std.proofs.Common.{◌≡◌, ℕ, ◌-◌, ℤ, ◌<ℤ◌, cond, true, false, List, [], ◌∷◌, length, take, Some, None, refl, sym, ap, ◌∙◌, arith}
 use Rattle.std.specs.Prelude.{int_le, option_map, unwrap_or}
 use Rattle.std.proofs.lemmas.Int.{ints}

@@ -1,4 +1,4 @@
--- Breakpoints in the order of their numbers: the next one goes last, and one that goes leaves the others.
+-- Breakpoints in the order of their numbers: the next one is last, and a removal leaves the others.
 use Rattle.std.proofs.Common.{◌≡◌, ℕ, zero, suc, ◌+◌, ◌<◌, ◌≤◌, cond, Bool, true, false, List, [], ◌∷◌, ◌++◌, length, drop, remove, add-one, Option, Some, None, refl, sym, ap, subst, ◌∙◌, arith, Greater, nat_eq, is_some}
 use Rattle.std.proofs.lemmas.Bool.{ne_eqb, false≢true}
 use Rattle.std.proofs.lemmas.Cmp.{nat_cmp_total, eq_by_cmp_equiv}
@@ -59,7 +59,7 @@ module _ {S : Type 0} (m : IndexMap ℕ Breakpoint S) (new : Numbered) (n : ℕ)
   pub standing_set : from_sorted {R = nat_cmp} new ≡ finite.insert (from_sorted m.entries) (n + 1) v
   standing_set = kept_from_entries nat_cmp new _ entries_set
 
--- ---- a number that goes
+-- ---- removing a number
 
 removed_somewhere : (test : ℕ → Bool) (es : Numbered) → (i : ℕ) × (remove_entry test es ≡ remove es i)
 removed_somewhere test [] = (0, refl)
@@ -82,7 +82,7 @@ find-numbers : (q : ℕ) (es : Numbered) → find nat_cmp q es ≡ lookup (nat_e
 find-numbers q [] = refl
 find-numbers q (e ∷ es) = ap (λ b. cond b (Some e.1) (find nat_cmp q es)) (unsigned_tied q e.0) ∙ ap (cond (nat_eq q e.0) (Some e.1)) (find-numbers q es)
 
--- what a look-up gives
+-- the result of a look-up
 pub get-numbers : (q : ℕ) (es : Numbered) (n : ℕ) → AreNumbered es n → finite.get (from_sorted {R = nat_cmp} es) q ≡ lookup (nat_eq q) es
 get-numbers q es n are = get-from_sorted nat_cmp es q (from_true _ are.sorted) ∙ find-numbers q es
 
@@ -94,7 +94,7 @@ standing_cleared k es new n are still gone =
     ∙ ap (cond (eq_by_cmp nat_cmp q k) None) (sym (get-numbers q es n are))
     ∙ sym (finite.get-remove nat_cmp_total (from_sorted es) k q))
 
--- a number that no breakpoint has
+-- a number without breakpoint
 pub nothing_cleared : (m : FinMap nat_cmp Breakpoint) (k : ℕ) → finite.contains_key m k ≡ false → finite.remove m k ≡ m
 nothing_cleared m k missing = sym (removed_missing nat_cmp_total nat_cmp-IsAntisymmetric m k (none_of (finite.get m k) missing))
   where
@@ -108,7 +108,7 @@ module _ (test : Breakpoint → Bool) (es : Numbered) where
   abbrev passes : ℕ × Breakpoint → Bool
   passes e = test e.1
 
-  -- what a scan finds of the list is what the map has first
+  -- the first match in a scan of the list is the first of the map
   pub lowest_found : (n : ℕ) → AreNumbered es n → option_map (λ e. e.0) (find_by passes es) ≡ lowest_by test (from_sorted es)
   lowest_found n are = ap (λ l. option_map (λ e. e.0) (find_by passes l)) (sym (entries-from_sorted nat_cmp es (from_true _ are.sorted)))
 

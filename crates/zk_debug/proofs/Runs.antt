@@ -1,4 +1,4 @@
--- A run that has come to a place, and matched none on the way.
+-- A run that has reached a place, without a match on the way.
 use Rattle.std.proofs.Common.{◌≡◌, ℕ, ◌<◌, ◌≤◌, false, length, None}
 use Rattle.zk_debug.specs.Debugging.{Debugging, hit_at, moved}
 use Rattle.zk_debug.specs.declared.stop.Stop.{Stop}

@@ -24,7 +24,7 @@ state_after-push s (x ∷ ts) t = state_after-push (step s x).0 ts t
 state_at-next : (ts : List Txn) (n : ℕ) (t : Txn) → n < length ts → t ≡ get_or ts n t → state_at ts (n + 1) ≡ (step (state_at ts n) t).0
 state_at-next ts n t h is = ap tree_of (take_more ts n t h) ∙ state_after-push start_state (take n ts) (get_or ts n t) ∙ ap (λ t. (step (state_at ts n) t).0) (sym is)
 
--- ---- what is kept of the steps
+-- ---- the stored steps
 
 module _ {A : Type 0} where
   last_or_before : (xs : List A) (x : A) (at : ℕ) (y : A) → slice_get (xs ++ x ∷ []) at ≡ Some y → (slice_get xs at ≡ Some y) ⊎ ((length xs ≡ at) × (x ≡ y))

@@ -1,4 +1,4 @@
--- Which transactions meet a breakpoint: this project's own.
+-- Breakpoints and the transactions that they match: definitions of this project.
 use Rattle.std.specs.Prelude.{ℤ, pos, List, Bool, true, false, not, Option, Some, None}
 use Rattle.std.specs.List.{list_any}
 use Rattle.std.specs.Ordering.{int_eq}
@@ -48,7 +48,7 @@ abbrev pub is_at : List ℕ → Option (List ℕ) → Bool
 is_at path None = false
 is_at path (Some named) = bytes_eq named path
 
--- a part names the path, whether it was applied, refused or left out
+-- a part names the path, whether it was applied, rejected or skipped
 abbrev pub names : List ℕ → Sub → Bool
 names path part = is_at path (path_of part)
 
@@ -56,11 +56,12 @@ abbrev pub removed : ChangeKind → List ℕ → Option (List ℕ)
 removed changes.Deleted path = Some path
 removed kind path = None
 
--- the node of the path went
+-- the node of the path was deleted
 abbrev pub is_removal : List ℕ → Change → Bool
 is_removal path change = is_at path (removed change.kind change.path)
 
--- an operation names the path, applied or refused, or a part of it does, or it closed a session whose node was there
+-- an operation or one of its parts names the path, applied or rejected, or it closed a session
+-- whose node there was deleted
 abbrev pub concerns : List ℕ → Op → List Change → Bool
 concerns path (ops.Create named content acl ephemeral count) changed = bytes_eq named path
 concerns path (ops.CreateOld named content acl ephemeral) changed = bytes_eq named path
@@ -71,7 +72,7 @@ concerns path (ops.Multi parts) changed = list_any (names path) parts
 concerns path ops.CloseSession changed = list_any (is_removal path) changed
 concerns path op changed = false
 
--- ---- a transaction that answered a code and changed this
+-- ---- a transaction with a result code and changes
 
 abbrev pub is_met : Txn → ℤ → List Change → Breakpoint → Bool
 is_met txn err changed (breakpoints.At zxid) = int_eq txn.zxid zxid

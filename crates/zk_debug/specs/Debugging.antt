@@ -1,4 +1,5 @@
--- A debugger: a list of transactions, a place in it, and breakpoints with numbers. This project's own.
+-- A debugger: a list of transactions, a place in it, and numbered breakpoints. A definition of this
+-- project.
 use Rattle.std.specs.Prelude.{◌≡◌, ◌<◌, ◌≤◌, ◌-◌, ℕ, zero, suc, ℤ, pos, List, Bool, true, false, Option, Some, None, option_map, length, take, filter, slice_get, int_le, refl}
 use Rattle.std.specs.Coded.{Coded, code_by, coded×, coded_list, coded_ℕ, coded_bool}
 use Rattle.std.specs.FinMap as finite
@@ -20,46 +21,46 @@ use Rattle.zk_debug.specs.declared.fault.DebugFault.{DebugFault}
 use Rattle.zk_debug.specs.declared.fault.DebugFault.TheVariants as faults
 use Rattle.zk_debug.specs.declared.stop.Stop.{Stop}
 
--- ---- places of a log: a place is after so many transactions
+-- ---- places of a log: a place is a number of applied transactions
 
--- the state that the first transactions make
+-- the state after the first `place` transactions
 abbrev pub state_at : List Txn → ℕ → State
 state_at txns place = tree_of (take place txns)
 
--- a machine that was brought there
+-- a machine in that state
 abbrev pub machine_at : List Txn → ℕ → MachineView
 machine_at txns place = record { state = state_at txns place; steps = place; failed = false }
 
--- the transaction that leads to a place; none leads to the start
+-- the transaction just before a place; None at the start
 abbrev pub txn_at : List Txn → ℕ → Option Txn
 txn_at txns zero = None
 txn_at txns (suc before) = slice_get txns before
 
--- what it answered
+-- its result
 abbrev pub result_at : List Txn → ℕ → Option TxnResult
 result_at txns place = option_map (λ txn. (step (state_at txns (place - 1)) txn).1) (txn_at txns place)
 
--- what it changed
+-- its changes
 abbrev pub changes_at : List Txn → ℕ → Option (List Change)
 changes_at txns place = option_map (changes_of (state_at txns (place - 1))) (txn_at txns place)
 
--- its zxid, and 0 at the start
+-- its zxid; 0 at the start
 abbrev pub zxid_at : List Txn → ℕ → ℤ
 zxid_at txns place = option_map_or (λ txn. txn.zxid) (txn_at txns place) (pos 0)
 
 -- ---- breakpoints
 
 pub record Breakpoints : Type 0 where
-  -- those that stand, by their numbers
+  -- the breakpoints that are set, by number
   pub standing : FinMap nat_cmp Breakpoint
-  -- how many were ever set; each was numbered by their count with it
+  -- how many were ever set; each was given this count, including itself, as its number
   pub numbered : ℕ
 
--- a transaction, applied to this state, meets a breakpoint
+-- a transaction, applied to this state, matches a breakpoint
 abbrev pub meets : State → Txn → Breakpoint → Bool
 meets before txn breakpoint = is_met txn (step before txn).1.err (changes_of before txn) breakpoint
 
--- the lowest number of a breakpoint that passes a test, since a map's entries rise
+-- the lowest number of a breakpoint that passes a test, since a map's entries are sorted
 abbrev pub lowest_by : (Breakpoint → Bool) → FinMap nat_cmp Breakpoint → Option ℕ
 lowest_by test standing = option_map (λ e. e.0) (find (λ e. test e.1) (entries standing))
 
@@ -73,7 +74,7 @@ pub record Debugging : Type 0 where
   pub txns : List Txn
   pub place : ℕ
   pub breakpoints : Breakpoints
-  -- memory was refused in a move or in a reset
+  -- an allocation failed in a move or in a reset
   pub failed : Bool
 
 abbrev pub breakpoints_code : Coded Breakpoint → Coded Breakpoints
@@ -84,7 +85,7 @@ abbrev pub debugging_code : Coded Txn → Coded Breakpoint → Coded Debugging
 debugging_code txn breakpoint =
     code_by (List Txn × (ℕ × (Breakpoints × Bool))) (coded× (coded_list txn) (coded× coded_ℕ (coded× (breakpoints_code breakpoint) coded_bool))) (λ d. (d.txns, (d.place, (d.breakpoints, d.failed)))) (λ p. record { txns = p.0; place = p.1.0; breakpoints = p.1.1.0; failed = p.1.1.1 }) (λ _. refl)
 
--- the lowest number that a place matches
+-- the lowest number of a breakpoint that a place matches
 abbrev pub hit_at : Debugging → ℕ → Option ℕ
 hit_at d place = hit_by (state_at d.txns (place - 1)) d.breakpoints.standing (txn_at d.txns place)
 
@@ -96,20 +97,20 @@ broken d = record d { failed = true }
 
 -- ---- moves
 
--- it went to the place where it stopped, and tells what the place matches
+-- the debugger is at the place of the stop, with the breakpoint that the place matches
 pub record Moves (old : Debugging) (stop : Stop) (new : Debugging) : Type 0 where
   pub ran : old.failed ≡ false
   pub within : stop.place ≤ length old.txns
   pub to : new ≡ moved old stop.place
   pub hit : stop.hit ≡ hit_at old stop.place
 
--- the first place above that matches a breakpoint, or the end
+-- the first later place that matches a breakpoint, or the end
 pub record IsRunTo (d : Debugging) (to : ℕ) : Type 0 where
   pub above : d.place < to
   pub skips : (place : ℕ) → d.place < place → place < to → hit_at d place ≡ None
   pub stops : hit_at d to ≡ None → to ≡ length d.txns
 
--- the last place below that matches a breakpoint, or the start
+-- the last earlier place that matches a breakpoint, or the start
 pub record IsRunBackTo (d : Debugging) (to : ℕ) : Type 0 where
   pub below : to < d.place
   pub skips : (place : ℕ) → to < place → place < d.place → hit_at d place ≡ None
@@ -119,29 +120,29 @@ pub record IsRunBackTo (d : Debugging) (to : ℕ) : Type 0 where
 abbrev pub up_to : ℤ → List Txn → List Txn
 up_to zxid txns = filter (λ txn. int_le txn.zxid zxid) txns
 
--- ---- refusals
+-- ---- faults
 
--- why a move is refused that goes on from a place before the end
+-- the fault of a move forward, from a place before the end
 abbrev pub RefusesOn : Debugging → DebugFault → Debugging → Type 0
 RefusesOn old faults.Failed new = (old.failed ≡ true) × (new ≡ old)
 RefusesOn old faults.AtEnd new = (old.failed ≡ false) × (old.place ≡ length old.txns) × (new ≡ old)
 RefusesOn old faults.NoMemory new = (old.failed ≡ false) × (old.place < length old.txns) × (new ≡ broken old)
 RefusesOn old fault new = ⊥
 
--- and one that goes back from a place behind the start
+-- the fault of a move back, from a place after the start
 abbrev pub RefusesBack : Debugging → DebugFault → Debugging → Type 0
 RefusesBack old faults.Failed new = (old.failed ≡ true) × (new ≡ old)
 RefusesBack old faults.AtStart new = (old.failed ≡ false) × (old.place ≡ 0) × (new ≡ old)
 RefusesBack old faults.NoMemory new = (old.failed ≡ false) × (0 < old.place) × (new ≡ broken old)
 RefusesBack old fault new = ⊥
 
--- and one that may go anywhere
+-- the fault of a move to any place
 abbrev pub RefusesAny : Debugging → DebugFault → Debugging → Type 0
 RefusesAny old faults.Failed new = (old.failed ≡ true) × (new ≡ old)
 RefusesAny old faults.NoMemory new = (old.failed ≡ false) × (new ≡ broken old)
 RefusesAny old fault new = ⊥
 
--- why a breakpoint isn't set: all numbers are used up, or memory was refused
+-- why a breakpoint is not set: all numbers are used up, or an allocation failed
 abbrev pub RefusesSet : Debugging → DebugFault → Type 0
 RefusesSet old faults.Full = old.breakpoints.numbered ≡ 65535
 RefusesSet old faults.NoMemory = old.breakpoints.numbered < 65535

@@ -1,4 +1,4 @@
--- Breakpoints in the order of their numbers, none above the count, which 16 bits hold.
+-- Breakpoints in the order of their numbers, none above the count, which fits 16 bits.
 use Rattle.std.specs.Prelude.{◌≤◌, ℕ, List, IsTrue}
 use Rattle.std.specs.FinMap.{is_sorted}
 use Rattle.std.specs.List.{AllByRecursion}

@@ -1,4 +1,4 @@
--- A machine that walks along a list of transactions, and what it keeps of its steps so that it can go back.
+-- A machine that moves along a list of transactions, with the undo records of its steps.
 use Rattle.std.specs.Prelude.{◌≡◌, ◌+◌, ◌≤◌, ℕ, List, [], ◌∷◌, ◌++◌, Bool, false, Some, length, slice_get}
 use Rattle.zk_machine.specs.declared.applied.Applied.{Applied}
 use Rattle.zk_machine.specs.Changes.{changes_of}
@@ -11,10 +11,10 @@ use Rattle.zk_debug.specs.Debugging.{state_at, machine_at}
 pub record Walk : Type 0 where
   pub txns : List Txn
   pub place : ℕ
-  -- of a walk that has failed nothing else is said
+  -- nothing else is specified of a walk that has failed
   pub failed : Bool
 
--- what is kept of the step from one place to the next
+-- the stored step from one place to the next
 pub record IsStepFrom (txns : List Txn) (place : ℕ) (applied : Applied) : Type 0 where
   pub txn : Txn
   pub found : slice_get txns place ≡ Some txn
@@ -24,7 +24,8 @@ pub record IsStepFrom (txns : List Txn) (place : ℕ) (applied : Applied) : Type
   pub undone : restored applied.undo (state_at txns (place + 1)) ≡ state_at txns place
   pub stands : IsState (state_at txns place).nodes
 
--- a machine applied a transaction, and what it answered, changed and noted is kept behind the steps before
+-- a machine applied a transaction, and its result, changes and undo record are appended to those of
+-- earlier steps
 pub record TakesStep (before : MachineView) (txn : Txn) (after : MachineView) (steps steps' : List Applied) : Type 0 where
   pub applied : Applied
   pub kept : steps' ≡ steps ++ applied ∷ []
@@ -36,7 +37,7 @@ pub record TakesStep (before : MachineView) (txn : Txn) (after : MachineView) (s
   pub counted : after.steps ≡ before.steps + 1
   pub ran : after.failed ≡ false
 
--- the machine stands at the place, and each step to it is kept
+-- the machine is at the place, and each step to it is stored
 pub record IsWalkTo (txns : List Txn) (place : ℕ) (machine : MachineView) (steps : List Applied) : Type 0 where
   pub at_place : machine ≡ machine_at txns place
   pub counted : length steps ≡ place

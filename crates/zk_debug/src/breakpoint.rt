@@ -6,22 +6,23 @@ use zk_machine::{Applied, Change, ChangeKind};
 use zk_path::Path;
 use zk_txn::{Op, Sub, Txn};
 
-/// What a place of a log is looked for by. It is matched by the transaction that leads to the place.
+/// A condition on places of a log. It is checked for the transaction just before the place.
 #[derive(Debug, Drop)]
 pub enum Breakpoint {
     /// The transaction of this zxid.
     At(i64),
-    /// A transaction or a part that names this path, refused or not, or the closing of a session whose node there goes.
+    /// A transaction or a part that names this path, applied or rejected, or a closed session whose
+    /// node there is deleted.
     Path(Path),
     /// A transaction of this session.
     Session(i64),
     /// A transaction of this kind.
     Kind(Kind),
-    /// A transaction that answers another code than 0.
+    /// A transaction whose result is not 0.
     Error,
 }
 
-/// What a transaction does, as a listing's word for it says.
+/// The operation of a transaction, by its word in a listing.
 #[derive(Clone, Copy, Debug, PartialEq, Eq)]
 pub enum Kind {
     /// `create`.
@@ -40,12 +41,11 @@ pub enum Kind {
     CloseSession,
     /// `error`.
     Error,
-    /// `multi`, whatever its parts do.
+    /// `multi`, with any parts.
     Multi,
 }
 
 impl Kind {
-    /// The kind of an operation.
     fn of(op: &Op) -> Kind
         ensures { result ≡ kind_of op.now }
     {
@@ -64,7 +64,7 @@ impl Kind {
 }
 
 impl Breakpoint {
-    /// Whether a transaction meets the breakpoint, by what it answered and changed.
+    /// Whether a transaction matches the breakpoint, given its result and changes.
     pub(crate) fn is_met(&self, txn: &Txn, applied: &Applied) -> bool
         ensures { result ≡ is_met txn.now applied.now.result.err applied.now.changes.items self.now }
     {
@@ -78,7 +78,8 @@ impl Breakpoint {
     }
 }
 
-/// Whether an operation that made these changes names a path, also in a part, or closed a session whose node was there.
+/// Whether an operation with these changes names a path, also in a part, or closed a session whose
+/// node there was deleted.
 fn concerns(path: &Path, op: &Op, changes: &[Change]) -> bool
     ensures { result ≡ concerns path.now op.now changes.now }
 {
@@ -101,7 +102,7 @@ fn any_names(path: &Path, parts: &[Sub]) -> bool
     parts.iter().any(|part| names(path, part))
 }
 
-/// Whether one of the changes is that the node of a path went.
+/// Whether one of the changes is that the node of a path was deleted.
 fn any_removes(path: &Path, changes: &[Change]) -> bool
     ensures { result ≡ list_any (is_removal path.now) changes.now }
 {
@@ -121,7 +122,7 @@ fn names(path: &Path, part: &Sub) -> bool
     }
 }
 
-/// Whether a change is that the node of a path went.
+/// Whether a change is that the node of a path was deleted.
 fn is_removal(path: &Path, change: &Change) -> bool
     ensures { result ≡ is_removal path.now change.now }
 {

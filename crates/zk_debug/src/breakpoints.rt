@@ -11,7 +11,7 @@ use zk_machine::Applied;
 use zk_path::NoMemory;
 use zk_txn::Txn;
 
-/// Breakpoints by their numbers, which rise from 1 and are never used again.
+/// Breakpoints by number. Numbers rise from 1 and are not reused.
 #[derive(Drop)]
 pub(crate) struct Breakpoints {
     standing: IndexMap<u32, Breakpoint>,
@@ -34,7 +34,6 @@ impl Model for Breakpoints {
 }
 
 impl Breakpoints {
-    /// No breakpoint, and none was ever set.
     pub(crate) fn new(alloc: Global) -> Breakpoints
         ensures { result ≡ record { standing = finite.empty; numbered = 0 } }
     {
@@ -52,7 +51,7 @@ impl Breakpoints {
         self.numbered
     }
 
-    /// Sets a breakpoint under the next number.
+    /// Sets a breakpoint; returns its number, the next one.
     pub(crate) fn set(&mut self, breakpoint: Breakpoint) -> Result<u32, NoMemory>
         requires { self.old.numbered < 65535 }
         ensures number { IfOk result (λ number. number ≡ self.old.numbered + 1) }
@@ -67,7 +66,7 @@ impl Breakpoints {
         Ok(number)
     }
 
-    /// Takes a breakpoint away, and tells whether it stood.
+    /// Removes a breakpoint; returns whether it was set.
     pub(crate) fn clear(&mut self, number: u32) -> bool
         ensures stood { result ≡ finite.contains_key self.old.standing number }
         ensures gone { self.new ≡ record self.old { standing = finite.remove self.old.standing number } }
@@ -75,7 +74,7 @@ impl Breakpoints {
         self.standing.shift_remove(&number).is_some()
     }
 
-    /// The lowest number of a breakpoint that a transaction meets, by what it answered and changed.
+    /// The lowest number of a breakpoint that a transaction matches, given its result and changes.
     pub(crate) fn lowest_met(&self, txn: &Txn, applied: &Applied) -> Option<u32>
         ensures { result ≡ lowest_by (is_met txn.now applied.now.result.err applied.now.changes.items) self.now.standing }
     {

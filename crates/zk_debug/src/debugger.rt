@@ -17,20 +17,19 @@ use zk_machine::Machine;
 use zk_path::{NoMemory, Path};
 use zk_txn::{Node, Txn, TxnResult};
 
-/// How many breakpoints can be set.
+/// The maximum number of breakpoints that can be set.
 const MOST_BREAKPOINTS: u32 = 65_535;
 
 /// A loaded log, a place in it, and breakpoints.
 ///
-/// A debugger that is refused memory in a move or in [`Debugger::reset`] has failed: until a reset succeeds, moves,
-/// [`Debugger::tree`], [`Debugger::node`] and [`Debugger::last_result`] answer [`DebugFault::Failed`], and the place is
-/// that before the refused call.
+/// After an allocation failure in a move or in [`Debugger::reset`] the debugger has failed, at the
+/// place before the call. Until a reset succeeds, moves, [`Debugger::tree`], [`Debugger::node`] and
+/// [`Debugger::last_result`] fail with [`DebugFault::Failed`].
 pub struct Debugger {
     walk: Walk,
     breakpoints: Breakpoints,
 }
 
-// (by hand, and so proved once: a derived one is proved wherever a value may be dropped)
 impl Drop for Debugger {
     fn drop(self) {
         let Debugger {
@@ -53,7 +52,7 @@ impl Model for Debugger {
 }
 
 impl Debugger {
-    /// The start of a log, with no breakpoint.
+    /// A debugger at the start of a log, without breakpoints.
     pub fn new(alloc: Global, loaded: Loaded) -> Result<Debugger, NoMemory>
         ensures { IfOk result (λ debugger. debugger ≡ record { txns = loaded.txns; place = 0; breakpoints = record { standing = finite.empty; numbered = 0 }; failed = false }) }
     {
@@ -63,14 +62,13 @@ impl Debugger {
         })
     }
 
-    /// The place: how many transactions come before.
+    /// The place: the number of applied transactions.
     pub fn place(&self) -> usize
         ensures { result ≡ self.now.place }
     {
         self.walk.place()
     }
 
-    /// The log's transactions.
     pub fn txns(&self) -> &[Txn]
         ensures txns { result.now ≡ self.now.txns }
         ensures within { self.now.place ≤ length self.now.txns }
@@ -78,14 +76,14 @@ impl Debugger {
         self.walk.txns()
     }
 
-    /// The zxid of the transaction that leads to the place, and 0 at the start.
+    /// The zxid of the transaction just before the place; 0 at the start.
     pub fn zxid(&self) -> i64
         ensures { result ≡ zxid_at self.now.txns self.now.place }
     {
         self.walk.zxid()
     }
 
-    /// The machine at the place: its state is what the transactions before the place make.
+    /// The machine at the place, after the transactions before it.
     pub fn tree(&self) -> Result<&Machine, DebugFault>
         ensures tree { IfOk result (λ machine. (self.now.failed ≡ false) × (machine.now ≡ machine_at self.now.txns self.now.place)) }
         ensures refused { IfErr result (λ fault. (fault ≡ faults.Failed) × (self.now.failed ≡ true)) }
@@ -94,7 +92,6 @@ impl Debugger {
         Ok(self.walk.machine())
     }
 
-    /// The node of a path at the place.
     pub fn node(&self, path: &Path) -> Result<Option<&Node>, DebugFault>
         ensures node { IfOk result (λ node. option_copied node ≡ finite.get (state_at self.now.txns self.now.place).nodes path.now) }
         ensures ran { OnOk result (self.now.failed ≡ false) }
@@ -107,7 +104,7 @@ impl Debugger {
         Ok(tree.get(path))
     }
 
-    /// What the transaction that leads to the place answered; at the start there is none.
+    /// The result of the transaction just before the place; `None` at the start.
     pub fn last_result(&self) -> Result<Option<&TxnResult>, DebugFault>
         ensures last { IfOk result (λ last. option_copied last ≡ result_at self.now.txns self.now.place) }
         ensures ran { OnOk result (self.now.failed ≡ false) }
@@ -120,7 +117,7 @@ impl Debugger {
         }
     }
 
-    /// Goes to the next place.
+    /// Moves to the next place.
     pub fn step(&mut self) -> Result<Stop, DebugFault>
         ensures moves { IfOk result (λ stop. Moves self.old stop self.new) }
         ensures place { IfOk result (λ stop. stop.place ≡ self.old.place + 1) }
@@ -134,7 +131,7 @@ impl Debugger {
         self.go_on(place)
     }
 
-    /// Goes to the place before.
+    /// Moves to the previous place.
     pub fn back(&mut self) -> Result<Stop, DebugFault>
         ensures moves { IfOk result (λ stop. Moves self.old stop self.new) }
         ensures place { IfOk result (λ stop. stop.place + 1 ≡ self.old.place) }
@@ -148,7 +145,7 @@ impl Debugger {
         self.go_back(place)
     }
 
-    /// Goes to the first place above that matches a breakpoint, or to the end.
+    /// Moves to the first later place that matches a breakpoint, or to the end.
     pub fn run(&mut self) -> Result<Stop, DebugFault>
         ensures moves { IfOk result (λ stop. Moves self.old stop self.new) }
         ensures place { IfOk result (λ stop. IsRunTo self.old stop.place) }
@@ -166,7 +163,7 @@ impl Debugger {
         Ok(stop)
     }
 
-    /// Goes to the last place below that matches a breakpoint, or to the start.
+    /// Moves to the last earlier place that matches a breakpoint, or to the start.
     pub fn run_back(&mut self) -> Result<Stop, DebugFault>
         ensures moves { IfOk result (λ stop. Moves self.old stop self.new) }
         ensures place { IfOk result (λ stop. IsRunBackTo self.old stop.place) }
@@ -184,8 +181,8 @@ impl Debugger {
         Ok(stop)
     }
 
-    /// Goes to the place after as many transactions as have at most this zxid. In a log, whose zxids rise, these are
-    /// the ones before that place.
+    /// Moves to the place whose number is that of the transactions with at most this zxid. In a
+    /// log, whose zxids rise, these are the ones before that place.
     pub fn goto(&mut self, zxid: i64) -> Result<Stop, DebugFault>
         ensures moves { IfOk result (λ stop. Moves self.old stop self.new) }
         ensures place { IfOk result (λ stop. stop.place ≡ length (up_to zxid self.old.txns)) }
@@ -198,7 +195,7 @@ impl Debugger {
         Ok(self.stop())
     }
 
-    /// Begins at the start again, and runs even if it had failed. The breakpoints stay.
+    /// Moves to the start, also after a failure. Keeps the breakpoints.
     pub fn reset(&mut self) -> Result<(), DebugFault>
         ensures started { OnOk result (self.new ≡ record self.old { place = 0; failed = false }) }
         ensures refused { IfErr result (λ fault. (fault ≡ faults.NoMemory) × (self.new ≡ broken self.old)) }
@@ -207,7 +204,7 @@ impl Debugger {
         Ok(())
     }
 
-    /// Sets a breakpoint, and tells its number: they rise from 1, and are never used again.
+    /// Sets a breakpoint and returns its number. Numbers rise from 1 and are not reused.
     pub fn set(&mut self, breakpoint: Breakpoint) -> Result<u32, DebugFault>
         ensures number { IfOk result (λ number. number ≡ self.old.breakpoints.numbered + 1) }
         ensures set { IfOk result (λ number. self.new ≡ record self.old { breakpoints = record { standing = finite.insert self.old.breakpoints.standing number breakpoint; numbered = number } }) }
@@ -222,7 +219,7 @@ impl Debugger {
         Ok(number)
     }
 
-    /// Takes the breakpoint of a number away.
+    /// Removes the breakpoint with a number.
     pub fn clear(&mut self, number: u32) -> Result<(), DebugFault>
         ensures stood { OnOk result (finite.contains_key self.old.breakpoints.standing number ≡ true) }
         ensures gone { OnOk result (self.new ≡ record self.old { breakpoints = record self.old.breakpoints { standing = finite.remove self.old.breakpoints.standing number } }) }
@@ -235,7 +232,7 @@ impl Debugger {
         Ok(())
     }
 
-    /// Goes to the next place, as a part of a move that began at a place.
+    /// Moves to the next place, in a move that started at the place `began`.
     fn go_on(&mut self, began: usize) -> Result<Stop, DebugFault>
         requires running { self.old.failed ≡ false }
         requires above { self.old.place < length self.old.txns }
@@ -249,7 +246,7 @@ impl Debugger {
         Ok(self.stop())
     }
 
-    /// Goes to the place before, as a part of a move that began at a place.
+    /// Moves to the previous place, in a move that started at the place `began`.
     fn go_back(&mut self, began: usize) -> Result<Stop, DebugFault>
         requires running { self.old.failed ≡ false }
         requires below { 0 < self.old.place }
@@ -279,7 +276,7 @@ impl Debugger {
         }
     }
 
-    /// Refuses where the debugger has failed.
+    /// Fails if the debugger has failed.
     fn running(&self) -> Result<(), DebugFault>
         ensures running { OnOk result (self.now.failed ≡ false) }
         ensures refused { IfErr result (λ fault. (fault ≡ faults.Failed) × (self.now.failed ≡ true)) }

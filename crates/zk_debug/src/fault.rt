@@ -4,22 +4,22 @@ ghost use Rattle.zk_debug.specs.declared.fault.DebugFault.TheVariants as faults;
 use thiserror::Error;
 use zk_path::NoMemory;
 
-/// Why a debugger refused a call.
+/// Why a call of the debugger fails.
 #[derive(Clone, Copy, Debug, PartialEq, Eq, Error)]
 pub enum DebugFault {
-    /// There is no transaction behind the place.
+    /// There is no transaction after the place.
     #[error("B1")]
     AtEnd,
     /// There is no transaction before the place.
     #[error("B2")]
     AtStart,
-    /// No breakpoint stands under the number.
+    /// No breakpoint has this number.
     #[error("B3")]
     NoBreakpoint,
-    /// Memory was refused. In a move or a reset the debugger has failed then.
+    /// An allocation failed. After a move or a reset the debugger has failed.
     #[error("B4")]
     NoMemory,
-    /// The debugger has failed, and was not reset since.
+    /// The debugger has failed and was not reset since.
     #[error("B5")]
     Failed,
     /// All numbers of breakpoints are used up.

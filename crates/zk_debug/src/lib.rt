@@ -1,5 +1,5 @@
-//! A debugger for transaction logs: it stands at a place of a loaded log, goes forward and back, stops at breakpoints,
-//! and shows the tree and what a transaction answered.
+//! A debugger for transaction logs: it moves forward and back in a loaded log, stops at
+//! breakpoints, and shows the tree and the result of the transaction just applied.
 #![tactic(auto)]
 
 mod breakpoint;

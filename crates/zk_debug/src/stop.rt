@@ -1,7 +1,7 @@
-/// Where a move ended.
+/// The end of a move.
 #[derive(Clone, Copy, Debug, PartialEq, Eq)]
 pub struct Stop {
-    /// How many transactions of the log come before.
+    /// The number of applied transactions.
     pub place: usize,
     /// The lowest number of a breakpoint that the place matches.
     pub hit: Option<u32>,

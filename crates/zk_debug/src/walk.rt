@@ -9,8 +9,8 @@ use zk_machine::{Applied, Machine};
 use zk_path::NoMemory;
 use zk_txn::Txn;
 
-/// A log, a place in it, and a machine that stands there. What each step answered, what it changed and how it is taken
-/// back is kept, so that a step back costs what the step cost.
+/// A log, a place in it, and a machine at that place. The result, changes and undo record of each
+/// step are stored, so that a step back costs as much as the step.
 pub(crate) struct Walk {
     alloc: Global,
     txns: Txns,
@@ -20,7 +20,6 @@ pub(crate) struct Walk {
     steps: Vec<Applied>,
 }
 
-// (by hand, and so proved once: a derived one is proved wherever a value may be dropped)
 impl Drop for Walk {
     fn drop(self) {
         let Walk {
@@ -45,7 +44,7 @@ impl Model for Walk {
 }
 
 impl Walk {
-    /// The start of a log.
+    /// A walk at the start of a log.
     pub(crate) fn new(alloc: Global, txns: Txns) -> Result<Walk, NoMemory>
         ensures { IfOk result (λ walk. walk ≡ record { txns = txns; place = 0; failed = false }) }
     {
@@ -59,7 +58,7 @@ impl Walk {
         })
     }
 
-    /// Begins at the start again. After want of memory the walk has failed where it was.
+    /// Moves to the start. After an allocation failure the walk has failed at its old place.
     pub(crate) fn restart(&mut self) -> Result<(), NoMemory>
         ensures started { OnOk result (self.new ≡ record self.old { place = 0; failed = false }) }
         ensures failed { OnErr result (self.new ≡ record self.old { failed = true }) }
@@ -75,8 +74,8 @@ impl Walk {
         Ok(())
     }
 
-    /// Goes on to the next place. After want of memory the walk has failed, at the place where a move of several steps
-    /// began.
+    /// Moves to the next place. After an allocation failure the walk has failed, at the place
+    /// `began` where a move of several steps started.
     pub(crate) fn go_on(&mut self, began: usize) -> Result<(), NoMemory>
         requires running { self.old.failed ≡ false }
         requires above { self.old.place < length self.old.txns }
@@ -94,8 +93,8 @@ impl Walk {
         Ok(())
     }
 
-    /// Goes back to the place before. After want of memory the walk has failed, at the place where a move of several
-    /// steps began.
+    /// Moves to the previous place. After an allocation failure the walk has failed, at the place
+    /// `began` where a move of several steps started.
     pub(crate) fn go_back(&mut self, began: usize) -> Result<(), NoMemory>
         requires running { self.old.failed ≡ false }
         requires above { 0 < self.old.place }
@@ -115,7 +114,7 @@ impl Walk {
         Ok(())
     }
 
-    /// Goes to a place. After want of memory the walk has failed where it was.
+    /// Moves to a place. After an allocation failure the walk has failed at its old place.
     pub(crate) fn go_to(&mut self, place: usize) -> Result<(), NoMemory>
         requires running { self.old.failed ≡ false }
         requires within { place ≤ length self.old.txns }
@@ -156,7 +155,7 @@ impl Walk {
         Ok(())
     }
 
-    /// The transaction that leads to the place, and what it answered and changed.
+    /// The transaction just before the place, with its result and changes.
     pub(crate) fn last(&self) -> Option<(&Txn, &Applied)>
         requires running { self.now.failed ≡ false }
         ensures txn { option_map (λ last. last.0.now) result ≡ txn_at self.now.txns self.now.place }
@@ -170,7 +169,6 @@ impl Walk {
         Some((txn, applied))
     }
 
-    /// The machine at the place.
     pub(crate) fn machine(&self) -> &Machine
         requires running { self.now.failed ≡ false }
         ensures { result.now ≡ machine_at self.now.txns self.now.place }
@@ -191,7 +189,6 @@ impl Walk {
         self.failed
     }
 
-    /// The log's transactions.
     pub(crate) fn txns(&self) -> &[Txn]
         ensures txns { result.now ≡ self.now.txns }
         ensures within { self.now.place ≤ length self.now.txns }
@@ -199,7 +196,7 @@ impl Walk {
         self.txns.as_slice()
     }
 
-    /// How many transactions the log has.
+    /// The number of the log's transactions.
     pub(crate) fn end(&self) -> usize
         ensures end { result ≡ length self.now.txns }
         ensures within { self.now.place ≤ length self.now.txns }
@@ -207,7 +204,7 @@ impl Walk {
         self.txns.as_slice().len()
     }
 
-    /// The zxid of the transaction that leads to the place, and 0 at the start.
+    /// The zxid of the transaction just before the place; 0 at the start.
     pub(crate) fn zxid(&self) -> i64
         ensures { result ≡ zxid_at self.now.txns self.now.place }
     {
@@ -217,7 +214,7 @@ impl Walk {
         self.txns.as_slice()[self.place - 1].zxid
     }
 
-    /// How many transactions have at most this zxid.
+    /// The number of transactions with at most this zxid.
     pub(crate) fn count_up_to(&self, zxid: i64) -> usize
         ensures count { result ≡ length (up_to zxid self.now.txns) }
         ensures within { result ≤ length self.now.txns }
@@ -230,8 +227,8 @@ impl Walk {
     }
 }
 
-/// Applies a transaction, and keeps what that answered and changed, and how it is taken back. After want of memory the
-/// machine may be a step ahead.
+/// Applies a transaction and stores its result, changes and undo record. After an allocation
+/// failure the machine may be one step ahead.
 fn take_step(machine: &mut Machine, steps: &mut Vec<Applied>, txn: &Txn) -> Result<(), NoMemory>
     requires { machine.old.steps < 2 ^ 64 - 1 }
     ensures { OnOk result (TakesStep machine.old txn.now machine.new steps.old.items steps.new.items) }

@@ -1,4 +1,4 @@
--- A line that spells a command is read as it, and no other line is.
+-- A line is read as a command if and only if it is the command's line.
 use Rattle.std.proofs.Common.{◌≡◌, ℕ, ℤ, ◌^◌, ◌<◌, Bool, true, false, cond, List, [], ◌∷◌, ◌++◌, Option, Some, None, Result, Ok, Err, refl, sym, ap, subst, ◌∙◌}
 use Rattle.std.proofs.lemmas.Slice.Eq.{bytes_eq-Decides}
 use Rattle.std.specs.Prelude.{FitsSigned, codes}
@@ -11,9 +11,9 @@ use Rattle.zk_debug.specs.declared.breakpoint.Breakpoint.{Breakpoint}
 use Rattle.zk_debug.specs.declared.breakpoint.Breakpoint.TheVariants as breakpoints
 use Rattle.zk_debug.specs.declared.breakpoint.Kind.{Kind}
 use Rattle.zk_debug.specs.declared.breakpoint.Kind.TheVariants as kinds
-use Rattle.zk_spelling.specs.Listings.{IsListedPath}
+use Rattle.zk_format.specs.Listings.{IsListedPath}
 use Rattle.zk_listing.specs.Reading.{id_at, path_at}
-use Rattle.zk_spelling.specs.Spelling.{id_digits, quoted}
+use Rattle.zk_format.specs.Spelling.{id_digits, quoted}
 use Rattle.zk_listing.proofs.Exact.{bind_some, some_is}
 use Rattle.zk_listing.proofs.LineLaws.{id_exact}
 use Rattle.zk_listing.proofs.QuotedLaws.{path_exact}
@@ -29,9 +29,9 @@ made_is : {X Y : Type 0} (make : X → Y) (read : Option X) (y : Y) → made mak
 made_is make None y h = absurd (let bad : None ≡ Some y = h in cc)
 made_is make (Some x) y h = (x, refl, some_is (make x) y h)
 
--- ---- what is read is spelled so
+-- ---- what is read is written so
 
--- a word, and a field behind it that makes one of these
+-- a word, and a field after it that is one of these
 abbrev MakesOf : {Y : Type 0} → (Y → Type 0) → (Y → List ℕ) → List ℕ → (List ℕ → Option Y) → Type 0
 MakesOf {Y} Is text word read = (field : List ℕ) (y : Y) → read field ≡ Some y → Is y × (word ++ 32 ∷ field ≡ text y)
 
@@ -120,7 +120,7 @@ command_takes : (line : List ℕ) (c : Command) → command_from line ≡ Some c
 unfolding command_from
 command_takes line c h = by_command_field line c (field_in line) refl h
 
--- ---- what is spelled is read so
+-- ---- what is written is read so
 
 kind_again : (kind : Kind) → kind_from (kind_text kind) ≡ Some kind
 unfolding kind_from
@@ -162,7 +162,7 @@ command_again (commands.Break breakpoint) fits = ap (made commands.Break) (break
 command_again (commands.Clear number) fits = ap (made commands.Clear) (number_again number fits)
 command_again commands.Reset fits = refl
 
--- ---- what is read of a line
+-- ---- reading a line
 
 said : (line : List ℕ) (c : Command) → Says line c → command_from line ≡ Some c
 said line c says = ap command_from says.spelled ∙ command_again c says.fits
@@ -174,7 +174,7 @@ reads_command line (Ok c) h =
 reads_command line (Err faults.Malformed) h = λ c says. let bad : None ≡ Some c = sym h ∙ said line c says in cc
 reads_command line (Err faults.NoMemory) h = tt
 
--- a word alone that is no command is a malformed line
+-- a single word that is not a command is a malformed line
 alone_by : (read : Option Command) (r : Result Command CommandFault) → r ≡ ok_or read faults.Malformed → Makes r read
 alone_by (Some c) r e = rw e refl
 alone_by None r e = rw e refl

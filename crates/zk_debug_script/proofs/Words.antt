@@ -66,7 +66,7 @@ first_or_later P e first word x others later true same h =
     subst (λ (w : List ℕ). P w x) (sym ((bytes_eq-Decides word e.0).0 same)) named
 first_or_later P e first word x others later false other h = later h
 
--- what is looked up stands in the table
+-- a value that is looked up is in the table
 pub looked_up_is : {X : Type 0} (P : List ℕ → X → Type 0) (table : List (List ℕ × X)) → AllByRecursion (λ e. P e.0 e.1) table → (word : List ℕ) (x : X) → looked_up word table ≡ Some x → P word x
 looked_up_is P [] all word x h = absurd (let bad : None ≡ Some x = h in cc)
 looked_up_is {X} P (e ∷ es) all word x h = first_or_later P e all.0 word x (looked_up word es) (λ later. looked_up_is P es all.1 word x later) (bytes_eq word e.0) refl h
@@ -92,7 +92,7 @@ unfolding word_in field_in
 line_with [] field h = absurd (let bad : None ≡ Some field = h in cc)
 line_with (b ∷ bs) field h = line_with-cons b bs field (eqb b 32) refl (line_with bs field) h
 
--- ---- the same of a text that is split at its first space
+-- ---- the same for a text that is split at its first space
 
 abbrev is_space : ℕ → Bool
 is_space b = b == 32
@@ -138,7 +138,7 @@ field_in-after (b ∷ bs) h = field_in-cons b bs (is_space b) refl (λ inner. fi
 pub word_alone : (line : List ℕ) → position_or_len is_space line ≡ length line → word_in line ≡ line
 word_alone line h = sym (line_alone line (no_field line h))
 
--- what is said of a word and a field, said of the line
+-- a property of a word and a field, as one of the line
 pub by_word_and_field : (P : List ℕ → Option (List ℕ) → Type 0) (line word field : List ℕ) → word ≡ before_first is_space line → field ≡ after_first is_space line → position_or_len is_space line < length line → P word (Some field) → P (word_in line) (field_in line)
 by_word_and_field P line word field front back within h =
     let same_word : word ≡ word_in line = front ∙ sym (word_in-before line) in
@@ -149,7 +149,7 @@ pub by_word_alone : (P : List ℕ → Option (List ℕ) → Type 0) (line : List
 by_word_alone P line h p =
     subst (P (word_in line)) (sym (no_field line h)) (subst (λ (w : List ℕ). P w None) (sym (word_alone line h)) p)
 
--- ---- a reader's answer, where nothing may stand behind the field
+-- ---- a reader's result, if nothing may follow the field
 
 pub reads_whole : {X : Type 0} (spell : X → List ℕ) (Fits : X → Type 0) (at : List ℕ → Option (X × List ℕ)) → IsExact spell Fits at → (x : X) (field rest : List ℕ) → ReadsFound (λ (y : X). y) spell Fits (Ok x) field rest → rest ≡ [] → whole (at field) ≡ Some x
 reads_whole spell Fits at f x field rest found end =

@@ -1,4 +1,4 @@
--- What a debugger answers a command. This project's own.
+-- The output of a debugger for a command: a definition of this project.
 use Rattle.std.specs.Prelude.{◌≡◌, ◌≤◌, ◌<◌, ◌+◌, ◌⊎◌, ℕ, ℤ, List, [], ◌∷◌, ◌++◌, Bool, true, false, if◌then◌else◌, length, Option, Some, None, Result, Ok, Err, OnOk, OnErr, codes}
 use Rattle.std.specs.FinMap as finite
 use Rattle.std.specs.Fmt.{decimal}
@@ -7,8 +7,8 @@ use Rattle.zk_debug.specs.declared.breakpoint.Breakpoint.{Breakpoint}
 use Rattle.zk_debug.specs.declared.fault.DebugFault.{DebugFault}
 use Rattle.zk_debug.specs.declared.fault.DebugFault.TheVariants as faults
 use Rattle.zk_debug.specs.declared.stop.Stop.{Stop}
-use Rattle.zk_spelling.specs.Reports.{node_line, result_line}
-use Rattle.zk_spelling.specs.Spelling.{id_digits}
+use Rattle.zk_format.specs.Reports.{node_line, result_line}
+use Rattle.zk_format.specs.Spelling.{id_digits}
 use Rattle.zk_path.specs.declared.memory.NoMemory.{NoMemory}
 use Rattle.zk_txn.specs.declared.node.Node.{Node}
 use Rattle.zk_txn.specs.declared.result.TxnResult.{TxnResult}
@@ -24,7 +24,7 @@ abbrev pub hit_text : Option ℕ → List ℕ
 hit_text None = []
 hit_text (Some number) = codes " hit " ++ decimal number
 
--- where a debugger stands
+-- the debugger's place
 abbrev pub place_text : ℕ → ℤ → Option ℕ → List ℕ
 place_text place zxid hit = codes "place " ++ decimal place ++ 32 ∷ id_digits zxid ++ hit_text hit
 
@@ -44,12 +44,12 @@ found_text nodes path (Some node) = node_line path node (stat_of nodes path node
 abbrev pub node_text : NodeMap → List ℕ → List ℕ
 node_text nodes path = found_text nodes path (finite.get nodes path)
 
--- what a transaction answered, if there is one
+-- the result of a transaction, if there is one
 abbrev pub result_text : Option TxnResult → List ℕ
 result_text None = codes "none"
 result_text (Some result) = result_line result
 
--- what a call of a debugger gave, or its refusal
+-- the result of a call of the debugger, or its fault
 abbrev pub move_text : ℤ → Result Stop DebugFault → List ℕ
 move_text zxid (Ok stop) = place_text stop.place zxid stop.hit
 move_text zxid (Err fault) = fault_text fault
@@ -62,15 +62,15 @@ abbrev pub done_text : List ℕ → Result (Unit {0}) DebugFault → List ℕ
 done_text done (Ok x) = done
 done_text done (Err fault) = fault_text fault
 
--- ---- answers, with the newlines that end their lines
+-- ---- output, with newlines
 
--- a refusal, by its number
+-- a fault, by its number
 pub record IsRefused (Refuses : DebugFault → Debugging → Type 0) (answer : List ℕ) (new : Debugging) : Type 0 where
   pub fault : DebugFault
   pub refuses : Refuses fault new
   pub told : answer ≡ line (fault_text fault)
 
--- a move ended at such a place, and tells it
+-- a move ended at such a place, and prints it
 pub record Goes (IsEnd : ℕ → Type 0) (old : Debugging) (answer : List ℕ) (new : Debugging) : Type 0 where
   pub to : ℕ
   pub ran : old.failed ≡ false
@@ -79,14 +79,14 @@ pub record Goes (IsEnd : ℕ → Type 0) (old : Debugging) (answer : List ℕ) (
   pub goes : new ≡ moved old to
   pub told : answer ≡ line (place_text to (zxid_at old.txns to) (hit_at old to))
 
--- it is told what is seen at the place, unless the debugger has failed
+-- prints what is at the place, unless the debugger has failed
 abbrev pub seen_by : Debugging → List ℕ → List ℕ
 seen_by d seen = if d.failed then line (fault_text faults.Failed) else seen
 
 abbrev pub Looks : List ℕ → Debugging → List ℕ → Debugging → Type 0
 Looks seen old answer new = (new ≡ old) × (answer ≡ seen_by old seen)
 
--- a breakpoint stands, and its number is told
+-- a breakpoint is set, and its number printed
 pub record Sets (breakpoint : Breakpoint) (old : Debugging) (answer : List ℕ) (new : Debugging) : Type 0 where
   pub number : ℕ
   pub next : number ≡ old.breakpoints.numbered + 1
@@ -97,7 +97,7 @@ pub record Sets (breakpoint : Breakpoint) (old : Debugging) (answer : List ℕ) 
 abbrev pub RefusesToSet : Debugging → DebugFault → Debugging → Type 0
 RefusesToSet old fault new = RefusesSet old fault × (new ≡ old)
 
--- whether a breakpoint stood under the number
+-- whether a breakpoint with the number was set
 abbrev pub Clears : ℕ → Debugging → List ℕ → Debugging → Bool → Type 0
 Clears number old answer new true = (new ≡ record old { breakpoints = record old.breakpoints { standing = finite.remove old.breakpoints.standing number } }) × (answer ≡ line (codes "ok"))
 Clears number old answer new false = (new ≡ old) × (answer ≡ line (fault_text faults.NoBreakpoint))
@@ -109,7 +109,7 @@ Resets old answer new =
 abbrev pub RefusesReset : Debugging → DebugFault → Debugging → Type 0
 RefusesReset old fault new = (fault ≡ faults.NoMemory) × (new ≡ broken old)
 
--- what is answered to a command, and the debugger after it
+-- the output for a command, and the debugger after it
 abbrev pub Answers : Debugging → Command → List ℕ → Debugging → Type 0
 Answers old commands.Step answer new = Goes (λ to. to ≡ old.place + 1) old answer new ⊎ IsRefused (RefusesOn old) answer new
 Answers old commands.Back answer new = Goes (λ to. to + 1 ≡ old.place) old answer new ⊎ IsRefused (RefusesBack old) answer new
@@ -123,7 +123,7 @@ Answers old (commands.Break breakpoint) answer new = Sets breakpoint old answer 
 Answers old (commands.Clear number) answer new = Clears number old answer new (finite.contains_key old.breakpoints.standing number)
 Answers old commands.Reset answer new = Resets old answer new ⊎ IsRefused (RefusesReset old) answer new
 
--- the debugger does what a command says, and its answer is appended, unless memory for it is refused
+-- the debugger executes a command and appends its output, unless an allocation for the output fails
 pub record Obeys (old : Debugging) (command : Command) (before : List ℕ) (result : Result (Unit {0}) NoMemory) (after : List ℕ) (new : Debugging) : Type 0 where
   pub answer : List ℕ
   pub answers : Answers old command answer new

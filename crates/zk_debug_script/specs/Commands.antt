@@ -1,4 +1,4 @@
--- The commands of a debug script, and how each is spelled in its line. This project's own.
+-- The commands of a debug script and their lines: definitions of this project.
 use Rattle.std.specs.Prelude.{◌≡◌, ◌≢◌, ◌<◌, ◌^◌, ℕ, List, ◌++◌, Result, Ok, Err, FitsSigned, codes}
 use Rattle.std.specs.Fmt.{decimal}
 use Rattle.std.specs.Int.{w64}
@@ -6,8 +6,8 @@ use Rattle.zk_debug.specs.declared.breakpoint.Breakpoint.{Breakpoint}
 use Rattle.zk_debug.specs.declared.breakpoint.Breakpoint.TheVariants as breakpoints
 use Rattle.zk_debug.specs.declared.breakpoint.Kind.{Kind}
 use Rattle.zk_debug.specs.declared.breakpoint.Kind.TheVariants as kinds
-use Rattle.zk_spelling.specs.Listings.{IsListedPath}
-use Rattle.zk_spelling.specs.Spelling.{id_digits, quoted}
+use Rattle.zk_format.specs.Listings.{IsListedPath}
+use Rattle.zk_format.specs.Spelling.{id_digits, quoted}
 use Rattle.zk_debug_script.specs.declared.command.Command.{Command}
 use Rattle.zk_debug_script.specs.declared.command.Command.TheVariants as commands
 use Rattle.zk_debug_script.specs.declared.fault.CommandFault.{CommandFault}
@@ -61,7 +61,7 @@ IsCommand (commands.Break breakpoint) = IsBreakpoint breakpoint
 IsCommand (commands.Clear number) = number < 2 ^ 32
 IsCommand command = Unit {0}
 
--- the line says this command
+-- the line is this command
 pub record Says (line : List ℕ) (command : Command) : Type 0 where
   pub fits : IsCommand command
   pub spelled : line ≡ command_text command
@@ -69,7 +69,7 @@ pub record Says (line : List ℕ) (command : Command) : Type 0 where
 abbrev pub SaysNothing : List ℕ → Type 0
 SaysNothing line = (command : Command) → ¬ Says line command
 
--- a line is read as the command that it says, and refused where it says none
+-- a line is read as its command, or rejected if it is none
 abbrev pub ReadsCommand : List ℕ → Result Command CommandFault → Type 0
 ReadsCommand line (Ok command) = Says line command × ((other : Command) → Says line other → other ≡ command)
 ReadsCommand line (Err faults.Malformed) = SaysNothing line

@@ -1,4 +1,4 @@
--- How a line is read, word by word. A reading answers none where nothing is spelled so.
+-- Reading a line, word by word. A reading returns None for any other text.
 use Rattle.std.specs.Prelude.{◌≡◌, ◌^◌, ◌==◌, nat_lt, ℕ, ℤ, pos, negsuc, List, [], ◌∷◌, if◌then◌else◌, codes, Option, Some, None, Result, Ok, Err}
 use Rattle.std.specs.Int.{w64}
 use Rattle.std.specs.Str.{bytes_eq}
@@ -19,7 +19,7 @@ abbrev pub fault_of : ListCause → CommandFault
 fault_of causes.NoMemory = faults.NoMemory
 fault_of cause = faults.Malformed
 
--- what a reader answers: what its reading does, want of memory aside
+-- the result of a reader: that of its reading, except for an allocation failure
 abbrev pub Makes : {X : Type 0} → Result X CommandFault → Option X → Type 0
 Makes (Ok x) read = read ≡ Some x
 Makes (Err faults.Malformed) read = read ≡ None
@@ -31,7 +31,7 @@ abbrev pub with_rest : {X : Type 0} → X → List ℕ → Option X
 with_rest x [] = Some x
 with_rest x (b ∷ bs) = None
 
--- what is read, if nothing stands behind it
+-- what is read, if nothing follows it
 abbrev pub whole : {X : Type 0} → Option (X × List ℕ) → Option X
 whole read = read >>= λ x. with_rest x.0 x.1
 
@@ -45,7 +45,7 @@ number_from field = whole (int_at w64 field) >>= number_of
 
 -- ---- words
 
--- what stands before the first space, and what behind it
+-- the text before the first space, and the text after it
 unfoldable pub word_in : List ℕ → List ℕ
 word_in [] = []
 word_in (b ∷ bs) = if b == 32 then [] else b ∷ word_in bs
@@ -54,7 +54,7 @@ unfoldable pub field_in : List ℕ → Option (List ℕ)
 field_in [] = None
 field_in (b ∷ bs) = if b == 32 then Some bs else field_in bs
 
--- what a word stands for
+-- the value of a word
 abbrev pub looked_up : {X : Type 0} → List ℕ → List (List ℕ × X) → Option X
 looked_up word [] = None
 looked_up word (e ∷ es) = if bytes_eq word e.0 then Some e.1 else looked_up word es
@@ -68,7 +68,7 @@ kind_words =
 unfoldable pub kind_from : List ℕ → Option Kind
 kind_from word = looked_up word kind_words
 
--- a field's value, made into something
+-- a field's value, converted
 abbrev pub made : {X Y : Type 0} → (X → Y) → Option X → Option Y
 made make read = read >>= λ x. Some (make x)
 
@@ -79,7 +79,7 @@ breakpoint_words =
 unfoldable pub breakpoint_with : List ℕ → List ℕ → Option Breakpoint
 breakpoint_with word field = looked_up word breakpoint_words >>= λ read. read field
 
--- behind the word, if there is more
+-- the text after the word, if there is any
 abbrev pub breakpoint_by : List ℕ → Option (List ℕ) → Option Breakpoint
 breakpoint_by word None = None
 breakpoint_by word (Some field) = breakpoint_with word field

@@ -1,4 +1,4 @@
--- What a debugger answers a script. This project's own.
+-- The output of a debugger for a script: a definition of this project.
 use Rattle.std.specs.Prelude.{◌≡◌, ◌+◌, ◌⊎◌, ℕ, List, [], ◌∷◌, ◌++◌, length, map, Result, Ok, Err}
 use Rattle.std.specs.List.{AllByRecursion}
 use Rattle.zk_debug.specs.Debugging.{Debugging}
@@ -9,14 +9,14 @@ use Rattle.zk_debug_script.specs.declared.command.Command.{Command}
 use Rattle.zk_reports.specs.declared.fault.ScriptFault.{ScriptFault}
 use Rattle.zk_reports.specs.declared.fault.ScriptFault.TheVariants as faults
 
--- the answers to commands in turn
+-- the output for commands in order
 abbrev pub AnswersAll : Debugging → List Command → List ℕ → Debugging → Type 0
 AnswersAll old [] answers new = (answers ≡ []) × (new ≡ old)
 AnswersAll old (command ∷ commands) answers new =
     (between : Debugging) × (answer : List ℕ) × (others : List ℕ) × Answers old command answer between × AnswersAll between commands others new × (answers ≡ answer ++ others)
 
--- Why a script ends behind so many commands, with these lines left: none is left, or the first says no command. Where
--- memory was refused, the command of the first may be done already, and is not answered.
+-- A script stops after n commands, with these lines left: there are none, or the first is not a
+-- command. If an allocation failed, the command of the first may have been executed without output.
 abbrev pub EndsScript : ℕ → List (List ℕ) → Debugging → Result (Unit {0}) ScriptFault → Debugging → Type 0
 EndsScript done [] between (Ok x) new = new ≡ between
 EndsScript done (line ∷ lines) between (Err (faults.Malformed number)) new = (number ≡ done + 1) × SaysNothing line × (new ≡ between)
@@ -24,7 +24,7 @@ EndsScript done (line ∷ lines) between (Err faults.NoMemory) new =
     (new ≡ between) ⊎ ((command : Command) × (answer : List ℕ) × Says line command × Answers between command answer new)
 EndsScript done left between result new = ⊥
 
--- commands of a script are answered up to its end, or to its first line that says none
+-- the commands of a script are executed up to its end, or to its first line that is not a command
 pub record RunsScript (old : Debugging) (script before : List ℕ) (result : Result (Unit {0}) ScriptFault) (after : List ℕ) (new : Debugging) : Type 0 where
   pub commands : List Command
   pub left : List (List ℕ)

@@ -1,4 +1,4 @@
-//! What a debugger answers to a command.
+//! The output of a debugger for a command.
 ghost use Rattle.std.specs.Prelude.{◌≡◌, ◌++◌, false, OnOk, OnErr};
 ghost use Rattle.std.specs.String.{string_bytes};
 ghost use Rattle.zk_debug.specs.Debugging.{state_at, result_at};
@@ -12,8 +12,8 @@ use zk_machine::Machine;
 use zk_path::{NoMemory, Path};
 use zk_reports::spell_tree;
 
-/// Does what a command says, and appends the answer's lines. Where memory for the answer is refused, the debugger has
-/// done it, and nothing is appended.
+/// Executes a command and appends its output. If an allocation for the output fails, the debugger
+/// has executed the command, and nothing is appended.
 pub fn run_command(
     debugger: &mut Debugger,
     command: Command,
@@ -63,7 +63,7 @@ fn obey(debugger: &mut Debugger, command: Command, answer: &mut String) -> Resul
     }
 }
 
-/// Appends the line of a move that ended, or was refused, at the place of this zxid.
+/// Appends the line of a move that ended, or failed, at the place of this zxid.
 fn push_move(
     answer: &mut String,
     zxid: i64,
@@ -80,7 +80,7 @@ fn push_move(
     Ok(())
 }
 
-/// Appends where a debugger stands.
+/// Appends the debugger's place.
 fn push_place(answer: &mut String, zxid: i64, stop: Stop) -> Result<(), NoMemory>
     ensures { OnOk result
         (string_bytes answer.new ≡ string_bytes answer.old ++ place_text stop.place zxid stop.hit) }
@@ -93,7 +93,7 @@ fn push_place(answer: &mut String, zxid: i64, stop: Stop) -> Result<(), NoMemory
     }
 }
 
-/// Appends the number of a refusal.
+/// Appends the number of a fault.
 fn push_fault(answer: &mut String, fault: DebugFault) -> Result<(), NoMemory>
     ensures { OnOk result
         (string_bytes answer.new ≡ string_bytes answer.old ++ fault_text fault) }
@@ -115,7 +115,7 @@ fn number_of(fault: DebugFault) -> &'static str
     }
 }
 
-/// Appends the line of a breakpoint's number, or of why none was set.
+/// Appends the line of a breakpoint's number, or of the fault.
 fn push_set(answer: &mut String, set: Result<u32, DebugFault>) -> Result<(), NoMemory>
     ensures { OnOk result
         (string_bytes answer.new ≡ string_bytes answer.old ++ line (set_text set)) }
@@ -128,7 +128,7 @@ fn push_set(answer: &mut String, set: Result<u32, DebugFault>) -> Result<(), NoM
     Ok(())
 }
 
-/// Appends a line that tells that something was done, or why not.
+/// Appends the line of a command that succeeded, or of its fault.
 fn push_done(answer: &mut String, done: Result<(), DebugFault>, text: &str) -> Result<(), NoMemory>
     ensures { OnOk result
         (string_bytes answer.new ≡ string_bytes answer.old ++ line (done_text text.now done)) }
@@ -165,7 +165,7 @@ fn push_seen_node(answer: &mut String, debugger: &Debugger, path: &Path) -> Resu
     Ok(())
 }
 
-/// Appends the node at a path as its line has it, without the newline; `none` where there is no node.
+/// Appends the line of the node at a path, without the newline; `none` without a node.
 fn push_node_at(text: &mut String, machine: &Machine, path: &Path) -> Result<(), NoMemory>
     requires { machine.now.failed ≡ false }
     ensures { OnOk result (string_bytes text.new ≡ string_bytes text.old ++ node_text machine.now.state.nodes path.now) }
@@ -179,7 +179,7 @@ fn push_node_at(text: &mut String, machine: &Machine, path: &Path) -> Result<(),
     }
 }
 
-/// Appends the line of what the transaction that leads to the place answered, or `none`.
+/// Appends the line of the result of the transaction just before the place, or `none`.
 fn push_seen_result(answer: &mut String, debugger: &Debugger) -> Result<(), NoMemory>
     ensures { OnOk result (string_bytes answer.new ≡ string_bytes answer.old
         ++ seen_by debugger.now (line (result_text (result_at debugger.now.txns debugger.now.place)))) }

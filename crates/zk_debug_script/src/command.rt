@@ -1,29 +1,29 @@
 use zk_debug::Breakpoint;
 use zk_path::Path;
 
-/// What one line of a debug script asks of a debugger.
+/// The command in one line of a debug script.
 #[derive(Debug, Drop)]
 pub enum Command {
-    /// `step`: to the next place.
+    /// `step`: moves to the next place.
     Step,
-    /// `back`: to the place before.
+    /// `back`: moves to the previous place.
     Back,
-    /// `run`: to the first place above that matches a breakpoint, or to the end.
+    /// `run`: moves to the first later place that matches a breakpoint, or to the end.
     Run,
-    /// `runback`: to the last place below that matches a breakpoint, or to the start.
+    /// `runback`: moves to the last earlier place that matches a breakpoint, or to the start.
     RunBack,
-    /// `goto ZXID`: behind the transactions with at most this zxid.
+    /// `goto ZXID`: moves to the place after the transactions with at most this zxid.
     Goto(i64),
-    /// `tree`: the report of the tree at the place.
+    /// `tree`: prints the report of the tree at the place.
     Tree,
-    /// `node PATH`: the line of a node at the place.
+    /// `node PATH`: prints the line of a node at the place.
     Node(Path),
-    /// `last`: what the transaction that leads to the place answered.
+    /// `last`: prints the result of the transaction just before the place.
     Last,
     /// `break ..`: sets a breakpoint.
     Break(Breakpoint),
-    /// `clear N`: takes the breakpoint of a number away.
+    /// `clear N`: removes the breakpoint with a number.
     Clear(u32),
-    /// `reset`: to the start. The breakpoints stay.
+    /// `reset`: moves to the start. Keeps the breakpoints.
     Reset,
 }

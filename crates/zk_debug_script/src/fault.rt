@@ -6,13 +6,13 @@ ghost use Rattle.zk_debug_script.specs.declared.fault.CommandFault.TheVariants a
 use thiserror::Error;
 use zk_listing::ListCause;
 
-/// Why a line is no command.
+/// Why a line is not a command.
 #[derive(Clone, Copy, Debug, PartialEq, Eq, Error)]
 pub enum CommandFault {
-    /// No command is spelled so.
+    /// The line is not in the format of a command.
     #[error("malformed")]
     Malformed,
-    /// Memory was refused.
+    /// An allocation failed.
     #[error("no memory")]
     NoMemory,
 }

@@ -1,4 +1,4 @@
-//! The fields behind a command's word, each the rest of its line.
+//! The fields after a command's word, each the rest of its line.
 ghost use Rattle.std.specs.Prelude.{◌≡◌};
 ghost use Rattle.std.specs.Int.{w64};
 ghost use Rattle.zk_listing.specs.Reading.{id_at, int_at, path_at};

@@ -1,4 +1,5 @@
-//! Debug scripts: what one line may say, what a debugger answers to it, and what it answers to a whole script.
+//! Debug scripts: the commands of their lines, and the debugger's output for a command and for a
+//! whole script.
 #![tactic(auto)]
 
 mod answers;

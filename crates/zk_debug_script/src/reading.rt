@@ -9,7 +9,8 @@ use crate::fields::{id, path, read_number};
 use std::alloc::Global;
 use zk_debug::{Breakpoint, Kind};
 
-/// The command that a line says, without its newline. Each command has one spelling, and no other line is read as it.
+/// Parses a line, without its newline. Each command has exactly one line, and no other line is read
+/// as it.
 pub fn read_command(alloc: Global, line: &str) -> Result<Command, CommandFault>
     ensures { ReadsCommand line.now result }
 {
@@ -26,7 +27,7 @@ fn command_of(alloc: Global, line: &str) -> Result<Command, CommandFault>
     }
 }
 
-/// A command that is a word alone.
+/// A command that is a single word.
 #[tactic(auto, unfolding(crate::specs::Reading::alone_from))]
 fn command_alone(word: &str) -> Option<Command>
     ensures { result ≡ alone_from word.now }
@@ -43,7 +44,7 @@ fn command_alone(word: &str) -> Option<Command>
     }
 }
 
-/// A command whose word has something behind it.
+/// A command with a field after its word.
 #[tactic(auto, unfolding(crate::specs::Reading::with_from))]
 fn command_with(alloc: Global, word: &str, field: &str) -> Result<Command, CommandFault>
     ensures { Makes result (with_from word.now field.now) }
@@ -57,7 +58,6 @@ fn command_with(alloc: Global, word: &str, field: &str) -> Result<Command, Comma
     }
 }
 
-/// What places are looked for by.
 #[tactic(auto, unfolding(crate::specs::Reading::breakpoint_from))]
 fn breakpoint(alloc: Global, text: &str) -> Result<Breakpoint, CommandFault>
     ensures { Makes result (breakpoint_from text.now) }
@@ -84,7 +84,7 @@ fn breakpoint_with(alloc: Global, word: &str, field: &str) -> Result<Breakpoint,
     }
 }
 
-/// The kind of transactions that a listing's word stands for.
+/// The kind of transactions with this word in a listing.
 #[tactic(auto, unfolding(crate::specs::Reading::kind_from))]
 fn kind(word: &str) -> Option<Kind>
     ensures { result ≡ kind_from word.now }

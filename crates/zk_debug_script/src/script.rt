@@ -1,4 +1,4 @@
-//! What a debugger answers to a script.
+//! The output of a debugger for a script.
 ghost use Rattle.std.specs.String.{string_bytes};
 ghost use Rattle.zk_debug_script.specs.Scripts.{RunsScript};
 
@@ -9,8 +9,8 @@ use std::alloc::Global;
 use zk_debug::Debugger;
 use zk_reports::{ScriptFault, next_line};
 
-/// Does what the lines of a script say, one after the other, and appends what is answered to them, up to the first that
-/// says no command. A newline ends each line; the last one may have none.
+/// Executes the lines of a script in order and appends their output, up to the first line that is
+/// not a command. A newline ends each line; the last one may have none.
 pub fn run_script(
     alloc: Global,
     debugger: &mut Debugger,

@@ -6,32 +6,32 @@ use Rattle.zab_quorums.specs.Shares.{heavy_share}
 use Rattle.zab_epoch.specs.declared.history.Entry.{Entry}
 use Rattle.zab_laws.specs.Prefixes.{IsPrefix}
 use Rattle.zab_quorums.specs.Quorums.{is_heavy}
-use Rattle.zab_runs.specs.declared.event.Event.{Event as WorldEvent}
-use Rattle.zab_runs.specs.declared.event.Moved.{Moved}
-use Rattle.zab_runs.specs.declared.fault.WorldFault.{WorldFault}
-use Rattle.zab_runs.specs.Runs.{delivered_of}
-use Rattle.zab_runs.specs.Worlds.{World, Profile, running}
+use Rattle.zab_model.specs.declared.event.Event.{Event as WorldEvent}
+use Rattle.zab_model.specs.declared.event.Moved.{Moved}
+use Rattle.zab_model.specs.declared.fault.WorldFault.{WorldFault}
+use Rattle.zab_model.specs.Runs.{delivered_of}
+use Rattle.zab_model.specs.Worlds.{World, Profile, running}
 use Rattle.zk_ensemble.specs.Keeping.{WasDelivered, IsStanding}
 use Rattle.zk_ensemble.specs.Views.{Below, IsOfRun, profile_in}
 use Rattle.zk_ensemble.proofs.Runs.{IsStepped, counts_as, happened, stands, reached_more}
 use Rattle.zk_headline_laws.proofs.Following.{fit_more}
 use Rattle.zk_headline_laws.proofs.Headlines.{headline}
 use Rattle.zk_headline_laws.specs.Consequences.{FitEvents}
-use Rattle.zk_headline_laws.specs.Headline.{Shows}
+use Rattle.zk_headline_laws.specs.Headline.{ReplicaMatches}
 use Rattle.zk_requests.specs.declared.call.Call.{Call}
-use Rattle.zk_replicas.specs.declared.kept.Kept.{Kept}
+use Rattle.zk_replicas.specs.declared.crash_cache.CrashCache.{CrashCache}
 use Rattle.zk_replicas.specs.Keeping.{IsOver, MayServe, IsShownBy, EachKept, WasKept, WasShown}
-use Rattle.zk_runs.specs.Entries.{entry_zxid}
-use Rattle.zk_runs.specs.declared.event.Event.{Event}
-use Rattle.zk_runs.specs.declared.event.Event.TheVariants as events
-use Rattle.zk_runs.specs.declared.event.Question.{Question}
-use Rattle.zk_runs.specs.declared.fault.EnsembleFault.TheVariants as faults
-use Rattle.zk_runs.specs.Ensembles.{Ensemble, Shown, ensemble, shown_at, profile_by, Told, reads, of_world}
-use Rattle.zk_runs.specs.Counting.{counted}
-use Rattle.zk_runs.specs.Runs.{after, run, delivered_after}
-use Rattle.zk_runs.proofs.Worlds.{goes_on}
+use Rattle.zk_model.specs.Entries.{entry_zxid}
+use Rattle.zk_model.specs.declared.event.Event.{Event}
+use Rattle.zk_model.specs.declared.event.Event.TheVariants as events
+use Rattle.zk_model.specs.declared.event.Question.{Question}
+use Rattle.zk_model.specs.declared.fault.EnsembleFault.TheVariants as faults
+use Rattle.zk_model.specs.Ensembles.{Ensemble, ReplicaView, ensemble, replica_at, profile_by, Told, reads, of_world}
+use Rattle.zk_model.specs.Counting.{counted}
+use Rattle.zk_model.specs.Runs.{after, run, delivered_after}
+use Rattle.zk_model.proofs.Worlds.{goes_on}
 
-none_kept : (n place : ℕ) (it : Kept) → slice_get (replicate n None) place ≡ Some (Some it) → ⊥
+none_kept : (n place : ℕ) (it : CrashCache) → slice_get (replicate n None) place ≡ Some (Some it) → ⊥
 none_kept zero place it is = absurd cc
 none_kept (suc n) zero it is = absurd cc
 none_kept (suc n) (suc place) it is = none_kept n place it is
@@ -48,7 +48,7 @@ delivered_now profile servers some x number is =
     ∙ ap (λ (y : Ensemble). delivered_of y.world number) (sym is)
 
 -- what is kept may serve each server, whatever happens next
-pub may_serve : (below : Below) (shown : List Shown) (kept : List (Option Kept)) (more : List Event) (y : Ensemble) (number : ℕ) → IsStanding below shown kept → y ≡ after (profile_in below) (ensemble below.world shown) more → EachKept (MayServe (delivered_of y.world number)) kept
+pub may_serve : (below : Below) (shown : List ReplicaView) (kept : List (Option CrashCache)) (more : List Event) (y : Ensemble) (number : ℕ) → IsStanding below shown kept → y ≡ after (profile_in below) (ensemble below.world shown) more → EachKept (MayServe (delivered_of y.world number)) kept
 may_serve below shown kept more y number st is place it there =
     let d = st.aside place it there in
     let profile = profile_in below in
@@ -66,7 +66,7 @@ may_serve below shown kept more y number st is place it there =
           (h.one_order d.count (length all) d.number number));
     }
 
-still : (quorums : List ℕ) (servers : ℕ) (some more : List Event) (it : Kept) → WasDelivered quorums servers some it → WasDelivered quorums servers (some ++ more) it
+still : (quorums : List ℕ) (servers : ℕ) (some more : List Event) (it : CrashCache) → WasDelivered quorums servers some it → WasDelivered quorums servers (some ++ more) it
 still quorums servers some more it d = record {
   count = d.count;
   number = d.number;
@@ -74,10 +74,10 @@ still quorums servers some more it d = record {
   over = subst (λ l. IsOver l it) (sym (delivered_before (profile_by (is_heavy quorums)) servers some more d.count d.number d.within)) d.over;
 }
 
-shown_over : (entries : List Entry) (by : Shown) (it : Kept) → Shows entries by → IsShownBy by it → IsOver entries it
+shown_over : (entries : List Entry) (by : ReplicaView) (it : CrashCache) → ReplicaMatches entries by → IsShownBy by it → IsOver entries it
 shown_over entries by it s shows = record { fine = shows.fine; tree = shows.tree ∙ s.tree; answers = shows.answers ∙ s.answers }
 
-left : (below : Below) (shown : List Shown) (more : List Event) (number : ℕ) (it : Kept) (r : IsOfRun below shown) → WasShown shown number it → WasDelivered below.quorums below.servers (r.events ++ more) it
+left : (below : Below) (shown : List ReplicaView) (more : List Event) (number : ℕ) (it : CrashCache) (r : IsOfRun below shown) → WasShown shown number it → WasDelivered below.quorums below.servers (r.events ++ more) it
 left below shown more number it r s =
     let profile = profile_in below in
     let here = (stands below shown r).shows number s.by s.is in
@@ -92,15 +92,15 @@ left below shown more number it r s =
     }
 
 -- all that is kept then
-pub each_then : (below : Below) (shown given : List Shown) (kept was next : List (Option Kept)) (more : List Event) (number : ℕ) (st : IsStanding below shown kept) → given ≡ shown → was ≡ kept → EachKept (λ it. WasKept was it ⊎ WasShown given number it) next → EachKept (WasDelivered below.quorums below.servers (st.run.events ++ more)) next
+pub each_then : (below : Below) (shown given : List ReplicaView) (kept was next : List (Option CrashCache)) (more : List Event) (number : ℕ) (st : IsStanding below shown kept) → given ≡ shown → was ≡ kept → EachKept (λ it. WasKept was it ⊎ WasShown given number it) next → EachKept (WasDelivered below.quorums below.servers (st.run.events ++ more)) next
 each_then below shown given kept was next more number st all had each place it is =
     elim (each place it is) [
       | inl k ↦ still below.quorums below.servers st.run.events more it (st.aside k.place it (ap (λ l. slice_get l k.place) (sym had) ∙ k.is))
-      | inr s ↦ left below shown more number it st.run (record { by = s.by; is = ap (λ l. shown_at l number) (sym all) ∙ s.is; shows = s.shows })
+      | inr s ↦ left below shown more number it st.run (record { by = s.by; is = ap (λ l. replica_at l number) (sym all) ∙ s.is; shows = s.shows })
     ]
 
 -- it stands again
-pub stand_again : (below next : Below) (shown news : List Shown) (kept held : List (Option Kept)) (more : List Event) (st : IsStanding below shown kept) → FitEvents more → next.quorums ≡ below.quorums → next.servers ≡ below.servers → ensemble next.world news ≡ after (profile_in below) (ensemble below.world shown) more → length held ≡ length news → EachKept (WasDelivered below.quorums below.servers (st.run.events ++ more)) held → IsStanding next news held
+pub stand_again : (below next : Below) (shown news : List ReplicaView) (kept held : List (Option CrashCache)) (more : List Event) (st : IsStanding below shown kept) → FitEvents more → next.quorums ≡ below.quorums → next.servers ≡ below.servers → ensemble next.world news ≡ after (profile_in below) (ensemble below.world shown) more → length held ≡ length news → EachKept (WasDelivered below.quorums below.servers (st.run.events ++ more)) held → IsStanding next news held
 stand_again below next shown news kept held more st fits quorums servers is places each = record {
   run = record {
     events = st.run.events ++ more;
@@ -113,15 +113,15 @@ stand_again below next shown news kept held more st fits quorums servers is plac
 }
 
 -- with nothing changed that is kept
-pub still_each : (below : Below) (shown : List Shown) (kept : List (Option Kept)) (more : List Event) (st : IsStanding below shown kept) → EachKept (WasDelivered below.quorums below.servers (st.run.events ++ more)) kept
+pub still_each : (below : Below) (shown : List ReplicaView) (kept : List (Option CrashCache)) (more : List Event) (st : IsStanding below shown kept) → EachKept (WasDelivered below.quorums below.servers (st.run.events ++ more)) kept
 still_each below shown kept more st place it is = still below.quorums below.servers st.run.events more it (st.aside place it is)
 
 -- a new one keeps nothing
-pub none_aside : (below : Below) (shown : List Shown) (r : IsOfRun below shown) (n : ℕ) (kept : List (Option Kept)) → kept ≡ replicate n None → EachKept (WasDelivered below.quorums below.servers r.events) kept
+pub none_aside : (below : Below) (shown : List ReplicaView) (r : IsOfRun below shown) (n : ℕ) (kept : List (Option CrashCache)) → kept ≡ replicate n None → EachKept (WasDelivered below.quorums below.servers r.events) kept
 none_aside below shown r n kept none place it is = absurd (none_kept n place it (ap (λ l. slice_get l place) (sym none) ∙ is))
 
 -- after a read
-pub read_stands : (below : Below) (shown given news : List Shown) (kept : List (Option Kept)) (question : Question) (told : Told) → IsStanding below shown kept → given ≡ shown → length news ≡ length given → OnErr told (news ≡ given) → (told ≢ Err faults.NoMemory → (ensemble below.world news, told) ≡ reads (ensemble below.world shown) question (running below.world.servers question.server)) → IsStanding below news kept
+pub read_stands : (below : Below) (shown given news : List ReplicaView) (kept : List (Option CrashCache)) (question : Question) (told : Told) → IsStanding below shown kept → given ≡ shown → length news ≡ length given → OnErr told (news ≡ given) → (told ≢ Err faults.NoMemory → (ensemble below.world news, told) ≡ reads (ensemble below.world shown) question (running below.world.servers question.server)) → IsStanding below news kept
 read_stands below shown given news kept question (Err fault) st all many same acts = subst (λ l. IsStanding below l kept) (sym (same ∙ all)) st
 read_stands below shown given news kept question (Ok answer) st all many same acts =
     let more = events.Read question ∷ [] in
@@ -130,13 +130,13 @@ read_stands below shown given news kept question (Ok answer) st all many same ac
 
 -- ---- an event of the world
 
-stepped_world : (profile : Profile Call) (w : World Call) (shown : List Shown) (event : WorldEvent Call) (answer : Result Moved WorldFault) (next : World Call) → IsStepped profile w event answer next → (after profile (ensemble w shown) (counted (events.World event) (of_world answer))).world ≡ next
+stepped_world : (profile : Profile Call) (w : World Call) (shown : List ReplicaView) (event : WorldEvent Call) (answer : Result Moved WorldFault) (next : World Call) → IsStepped profile w event answer next → (after profile (ensemble w shown) (counted (events.World event) (of_world answer))).world ≡ next
 stepped_world profile w shown event answer next s =
     ap (λ (l : List Event). (after profile (ensemble w shown) l).world) (counts_as profile w event answer s.answers s.kept).same
     ∙ sym (happened profile w event answer next s)
 
 -- what is kept may serve each server then
-pub may_serve_then : (below : Below) (shown : List Shown) (kept given : List (Option Kept)) (event : WorldEvent Call) (answer : Result Moved WorldFault) (next : World Call) (number : ℕ) → IsStanding below shown kept → given ≡ kept → IsStepped (profile_in below) below.world event answer next → EachKept (MayServe (delivered_of next number)) given
+pub may_serve_then : (below : Below) (shown : List ReplicaView) (kept given : List (Option CrashCache)) (event : WorldEvent Call) (answer : Result Moved WorldFault) (next : World Call) (number : ℕ) → IsStanding below shown kept → given ≡ kept → IsStepped (profile_in below) below.world event answer next → EachKept (MayServe (delivered_of next number)) given
 may_serve_then below shown kept given event answer next number st had s =
     let more = counted (events.World event) (of_world answer) in
     let y = after (profile_in below) (ensemble below.world shown) more in
@@ -145,5 +145,5 @@ may_serve_then below shown kept given event answer next number st had s =
     (may_serve below shown kept more y number st refl))
 
 -- the same list
-pub held_then : (below : Below) {kept next : List (Option Kept)} (some : List Event) → next ≡ kept → EachKept (WasDelivered below.quorums below.servers some) kept → EachKept (WasDelivered below.quorums below.servers some) next
+pub held_then : (below : Below) {kept next : List (Option CrashCache)} (some : List Event) → next ≡ kept → EachKept (WasDelivered below.quorums below.servers some) kept → EachKept (WasDelivered below.quorums below.servers some) next
 held_then below some same each = subst (EachKept (WasDelivered below.quorums below.servers some)) (sym same) each

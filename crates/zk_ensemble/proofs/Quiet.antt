@@ -1,4 +1,4 @@
--- Which events deliver nothing: those of a server that does not run, and those that are refused.
+-- Which events deliver nothing: those of a server that does not run, and those that are rejected.
 use Rattle.std.proofs.Common.{◌≡◌, ℕ, ℤ, ◌==◌, ◌&&◌, not, max, Bool, true, false, cond, List, length, take, Option, Some, None, Result, Ok, Err, refl, sym, ap, ◌∙◌}
 use Rattle.zab_epoch.specs.declared.fault.RuleFault.{RuleFault}
 use Rattle.zab_epoch.specs.declared.history.Entry.{Entry}
@@ -16,16 +16,16 @@ use Rattle.zab_broadcast.specs.declared.state.State.{State}
 use Rattle.zab_broadcast.specs.Calls.{Setting, is_taken}
 use Rattle.zab_broadcast.specs.Rules as rules
 use Rattle.zab_broadcast.specs.Syncs.{is_asked}
-use Rattle.zab_runs.specs.declared.event.Event.{Event}
-use Rattle.zab_runs.specs.declared.event.Event.TheVariants.{Lead, Follow, Arrive, Submit, Expire, Sync, Crash, Restart}
-use Rattle.zab_runs.specs.declared.fault.WorldFault.{WorldFault}
-use Rattle.zab_runs.specs.declared.fault.WorldFault.TheVariants as faults
-use Rattle.zab_runs.specs.Movers.{mover, addressee_of}
-use Rattle.zab_runs.specs.Running.{is_up, is_running}
-use Rattle.zab_runs.specs.Runs.{delivered_list, delivered_of}
-use Rattle.zab_runs.specs.Standings.{Standing, standing}
-use Rattle.zab_runs.specs.Worlds.{World, Profile, Answer, is_server, server_at, if_up, running, resting, told, said, with_server, acts, receives, message_at, arrives, spends, submits, spends_sync, syncs, crashes, restarts, happens}
-use Rattle.zab_runs.proofs.ServerLists.{found, same_place, up_is, down_is}
+use Rattle.zab_model.specs.declared.event.Event.{Event}
+use Rattle.zab_model.specs.declared.event.Event.TheVariants.{Lead, Follow, Arrive, Submit, Expire, Sync, Crash, Restart}
+use Rattle.zab_model.specs.declared.fault.WorldFault.{WorldFault}
+use Rattle.zab_model.specs.declared.fault.WorldFault.TheVariants as faults
+use Rattle.zab_model.specs.Movers.{mover, addressee_of}
+use Rattle.zab_model.specs.Running.{is_up, is_running}
+use Rattle.zab_model.specs.Runs.{delivered_list, delivered_of}
+use Rattle.zab_model.specs.ProcessStates.{ProcessState, standing}
+use Rattle.zab_model.specs.Worlds.{World, Profile, Answer, is_server, server_at, if_up, running, resting, told, said, with_server, acts, receives, message_at, arrives, spends, submits, spends_sync, syncs, crashes, restarts, happens}
+use Rattle.zab_model.proofs.ServerLists.{found, same_place, up_is, down_is}
 
 by_test : {A : Type 0} (P : A → Type 0) (b : Bool) (x y : A) → P x → P y → P (cond b x y)
 by_test P true x y p q = p
@@ -36,11 +36,11 @@ no_fault x fault e = absurd cc
 
 -- ---- the rules of the first two phases
 
--- one that is refused leaves the history
+-- one that fails leaves the history unchanged
 abbrev LeavesPeer : {C : Type 0} → Peer → epoch_rules.Acts C → Type 0
 LeavesPeer peer made = (fault : RuleFault) → made.1 ≡ Err fault → made.0.stable.history ≡ peer.stable.history
 
--- one that is never refused
+-- one that never fails
 abbrev Speaks : {C : Type 0} → epoch_rules.Acts C → Type 0
 Speaks made = (fault : RuleFault) → made.1 ≡ Err fault → ⊥
 
@@ -225,32 +225,32 @@ receives_leaves setting from (Request epoch call) old = request_leaves setting o
 receives_leaves setting from (SyncAsk epoch tag) old = sync_ask_leaves old from epoch tag old.peer.role
 receives_leaves setting from (SyncTell epoch tag count) old = sync_tell_leaves old from epoch tag count
 
--- ---- an event that is refused
+-- ---- an event that is rejected
 
 abbrev IsQuiet : {C : Type 0} → World C → ℕ → World C × Answer → Type 0
 IsQuiet w n next = (fault : WorldFault) → next.1 ≡ Err fault → delivered_of next.0 n ≡ delivered_of w n
 
 -- a server stands so that nothing is delivered
-same_list : {C : Type 0} (w : World C) (n : ℕ) (it stands : Standing) → server_at w.servers n ≡ Some it → IsLeft it.state stands.state → delivered_of (with_server w n stands) n ≡ delivered_of w n
+same_list : {C : Type 0} (w : World C) (n : ℕ) (it stands : ProcessState) → server_at w.servers n ≡ Some it → IsLeft it.state stands.state → delivered_of (with_server w n stands) n ≡ delivered_of w n
 same_list w n it stands is left =
     ap delivered_list (same_place w.servers n it stands (found w.servers n it is))
     ∙ ap (λ k. take k stands.state.peer.stable.history) left.delivered
     ∙ ap (take it.state.delivered) left.history
     ∙ sym (ap delivered_list is)
 
-told_quiet : {C : Type 0} (w : World C) (n : ℕ) (it stands : Standing) (r : Result (List (Message C)) RuleFault) → server_at w.servers n ≡ Some it → Leaves it.state (stands.state, r) → IsQuiet w n (told (with_server w n stands) (said r))
+told_quiet : {C : Type 0} (w : World C) (n : ℕ) (it stands : ProcessState) (r : Result (List (Message C)) RuleFault) → server_at w.servers n ≡ Some it → Leaves it.state (stands.state, r) → IsQuiet w n (told (with_server w n stands) (said r))
 told_quiet w n it stands (Ok messages) is leaves fault e = absurd (no_fault _ fault e)
 told_quiet w n it stands (Err given) is leaves fault e = same_list w n it stands is (leaves given refl)
 
-spends_quiet : {C : Type 0} (t : ℕ) (w : World C) (n : ℕ) (it stands : Standing) (r : Result (List (Message C)) RuleFault) → server_at w.servers n ≡ Some it → Leaves it.state (stands.state, r) → IsQuiet w n (spends t (told (with_server w n stands) (said r)))
+spends_quiet : {C : Type 0} (t : ℕ) (w : World C) (n : ℕ) (it stands : ProcessState) (r : Result (List (Message C)) RuleFault) → server_at w.servers n ≡ Some it → Leaves it.state (stands.state, r) → IsQuiet w n (spends t (told (with_server w n stands) (said r)))
 spends_quiet t w n it stands (Ok messages) is leaves fault e = absurd (no_fault _ fault e)
 spends_quiet t w n it stands (Err given) is leaves fault e = same_list w n it stands is (leaves given refl)
 
-spends_sync_quiet : {C : Type 0} (t : ℕ) (w : World C) (n : ℕ) (it stands : Standing) (r : Result (List (Message C)) RuleFault) → server_at w.servers n ≡ Some it → Leaves it.state (stands.state, r) → IsQuiet w n (spends_sync t (told (with_server w n stands) (said r)))
+spends_sync_quiet : {C : Type 0} (t : ℕ) (w : World C) (n : ℕ) (it stands : ProcessState) (r : Result (List (Message C)) RuleFault) → server_at w.servers n ≡ Some it → Leaves it.state (stands.state, r) → IsQuiet w n (spends_sync t (told (with_server w n stands) (said r)))
 spends_sync_quiet t w n it stands (Ok messages) is leaves fault e = absurd (no_fault _ fault e)
 spends_sync_quiet t w n it stands (Err given) is leaves fault e = same_list w n it stands is (leaves given refl)
 
-acts_quiet : {C : Type 0} (w : World C) (n : ℕ) (rule : State → rules.Acts C) (r : Result Standing WorldFault) → ((it : Standing) → r ≡ Ok it → server_at w.servers n ≡ Some it) → ((old : State) → Leaves old (rule old)) → IsQuiet w n (acts w n rule r)
+acts_quiet : {C : Type 0} (w : World C) (n : ℕ) (rule : State → rules.Acts C) (r : Result ProcessState WorldFault) → ((it : ProcessState) → r ≡ Ok it → server_at w.servers n ≡ Some it) → ((old : State) → Leaves old (rule old)) → IsQuiet w n (acts w n rule r)
 acts_quiet w n rule (Err given) is leaves = λ fault e. refl
 acts_quiet w n rule (Ok it) is leaves = told_quiet w n it (standing it.up (rule it.state).0) (rule it.state).1 (is it refl) (leaves it.state)
 
@@ -260,7 +260,7 @@ arrives_quiet setting w (Some m) =
     acts_quiet w m.addressee (receives setting m.sender m.body) (running w.servers m.addressee)
     (λ it is. up_is (server_at w.servers m.addressee) it is) (receives_leaves setting m.sender m.body)
 
-submits_quiet : {C : Type 0} (setting : Setting C) (w : World C) (n : ℕ) (call : C) (r : Result Standing WorldFault) → ((it : Standing) → r ≡ Ok it → server_at w.servers n ≡ Some it) → IsQuiet w n (submits setting w n call r)
+submits_quiet : {C : Type 0} (setting : Setting C) (w : World C) (n : ℕ) (call : C) (r : Result ProcessState WorldFault) → ((it : ProcessState) → r ≡ Ok it → server_at w.servers n ≡ Some it) → IsQuiet w n (submits setting w n call r)
 submits_quiet setting w n call (Err given) is = λ fault e. refl
 submits_quiet {C} setting w n call (Ok it) is =
     let made : rules.Acts C = rules.submit setting it.state call in
@@ -270,7 +270,7 @@ submits_quiet {C} setting w n call (Ok it) is =
     (spends_quiet (setting.tag call) w n it (standing it.up made.0) made.1 (is it refl) (submit_leaves setting it.state call it.state.peer.role)))
     (λ fault e. refl)
 
-syncs_quiet : {C : Type 0} (w : World C) (n tag : ℕ) (r : Result Standing WorldFault) → ((it : Standing) → r ≡ Ok it → server_at w.servers n ≡ Some it) → IsQuiet w n (syncs w n tag r)
+syncs_quiet : {C : Type 0} (w : World C) (n tag : ℕ) (r : Result ProcessState WorldFault) → ((it : ProcessState) → r ≡ Ok it → server_at w.servers n ≡ Some it) → IsQuiet w n (syncs w n tag r)
 syncs_quiet w n tag (Err given) is = λ fault e. refl
 syncs_quiet {C} w n tag (Ok it) is =
     let made : rules.Acts C = rules.sync it.state tag in
@@ -280,11 +280,11 @@ syncs_quiet {C} w n tag (Ok it) is =
     (spends_sync_quiet tag w n it (standing it.up made.0) made.1 (is it refl) (sync_leaves it.state tag it.state.peer.role)))
     (λ fault e. refl)
 
-crashes_quiet : {C : Type 0} (w : World C) (n : ℕ) (r : Result Standing WorldFault) → IsQuiet w n (crashes w n r)
+crashes_quiet : {C : Type 0} (w : World C) (n : ℕ) (r : Result ProcessState WorldFault) → IsQuiet w n (crashes w n r)
 crashes_quiet w n (Ok it) fault e = absurd (no_fault _ fault e)
 crashes_quiet w n (Err given) fault e = refl
 
-restarts_quiet : {C : Type 0} (w : World C) (n : ℕ) (r : Result Standing WorldFault) → IsQuiet w n (restarts w n r)
+restarts_quiet : {C : Type 0} (w : World C) (n : ℕ) (r : Result ProcessState WorldFault) → IsQuiet w n (restarts w n r)
 restarts_quiet w n (Ok it) fault e = absurd (no_fault _ fault e)
 restarts_quiet w n (Err given) fault e = refl
 
@@ -303,15 +303,15 @@ refused_is_quiet profile w (Restart n) = restarts_quiet w n (resting w.servers n
 
 -- ---- a server that does not run
 
-never_runs : (o : Option Standing) (it : Standing) → is_up o ≡ false → if_up o ≡ Ok it → ⊥
+never_runs : (o : Option ProcessState) (it : ProcessState) → is_up o ≡ false → if_up o ≡ Ok it → ⊥
 never_runs None it down is = absurd cc
 never_runs (Some other) it down is = by_up other.up down is
   where
-    by_up : (b : Bool) → b ≡ false → (let r : Result Standing WorldFault = cond b (Ok other) (Err faults.Down) in r ≡ Ok it) → ⊥
+    by_up : (b : Bool) → b ≡ false → (let r : Result ProcessState WorldFault = cond b (Ok other) (Err faults.Down) in r ≡ Ok it) → ⊥
     by_up true rests runs = absurd cc
     by_up false rests runs = absurd cc
 
-acts_rest : {C : Type 0} (w : World C) (n : ℕ) (rule : State → rules.Acts C) (r : Result Standing WorldFault) → ((it : Standing) → r ≡ Ok it → ⊥) → delivered_of (acts w n rule r).0 n ≡ delivered_of w n
+acts_rest : {C : Type 0} (w : World C) (n : ℕ) (rule : State → rules.Acts C) (r : Result ProcessState WorldFault) → ((it : ProcessState) → r ≡ Ok it → ⊥) → delivered_of (acts w n rule r).0 n ≡ delivered_of w n
 acts_rest w n rule (Ok it) rests = absurd (rests it refl)
 acts_rest w n rule (Err given) rests = refl
 
@@ -320,19 +320,19 @@ arrives_rest setting w None down = refl
 arrives_rest setting w (Some m) down =
     acts_rest w m.addressee (receives setting m.sender m.body) (running w.servers m.addressee) (λ it is. never_runs (server_at w.servers m.addressee) it down is)
 
-submits_rest : {C : Type 0} (setting : Setting C) (w : World C) (n : ℕ) (call : C) (r : Result Standing WorldFault) → ((it : Standing) → r ≡ Ok it → ⊥) → delivered_of (submits setting w n call r).0 n ≡ delivered_of w n
+submits_rest : {C : Type 0} (setting : Setting C) (w : World C) (n : ℕ) (call : C) (r : Result ProcessState WorldFault) → ((it : ProcessState) → r ≡ Ok it → ⊥) → delivered_of (submits setting w n call r).0 n ≡ delivered_of w n
 submits_rest setting w n call (Ok it) rests = absurd (rests it refl)
 submits_rest setting w n call (Err given) rests = refl
 
-syncs_rest : {C : Type 0} (w : World C) (n tag : ℕ) (r : Result Standing WorldFault) → ((it : Standing) → r ≡ Ok it → ⊥) → delivered_of (syncs w n tag r).0 n ≡ delivered_of w n
+syncs_rest : {C : Type 0} (w : World C) (n tag : ℕ) (r : Result ProcessState WorldFault) → ((it : ProcessState) → r ≡ Ok it → ⊥) → delivered_of (syncs w n tag r).0 n ≡ delivered_of w n
 syncs_rest w n tag (Ok it) rests = absurd (rests it refl)
 syncs_rest w n tag (Err given) rests = refl
 
-crashes_rest : {C : Type 0} (w : World C) (n : ℕ) (r : Result Standing WorldFault) → ((it : Standing) → r ≡ Ok it → ⊥) → delivered_of (crashes w n r).0 n ≡ delivered_of w n
+crashes_rest : {C : Type 0} (w : World C) (n : ℕ) (r : Result ProcessState WorldFault) → ((it : ProcessState) → r ≡ Ok it → ⊥) → delivered_of (crashes w n r).0 n ≡ delivered_of w n
 crashes_rest w n (Ok it) rests = absurd (rests it refl)
 crashes_rest w n (Err given) rests = refl
 
-restarts_rest : {C : Type 0} (w : World C) (n : ℕ) (r : Result Standing WorldFault) → ((it : Standing) → r ≡ Ok it → server_at w.servers n ≡ Some it) → delivered_of (restarts w n r).0 n ≡ delivered_of w n
+restarts_rest : {C : Type 0} (w : World C) (n : ℕ) (r : Result ProcessState WorldFault) → ((it : ProcessState) → r ≡ Ok it → server_at w.servers n ≡ Some it) → delivered_of (restarts w n r).0 n ≡ delivered_of w n
 restarts_rest w n (Ok it) is = same_list w n it (standing true it.state) (is it refl) (record { delivered = refl; history = refl })
 restarts_rest w n (Err given) is = refl
 

@@ -6,71 +6,71 @@ use Rattle.zab_quorums.specs.Quorums.{is_heavy}
 use Rattle.std.proofs.lemmas.List.{length-append}
 use Rattle.zab_laws.specs.Prefixes.{IsPrefix}
 use Rattle.zab_agreement_laws.proofs.Deliveries.{down_after_crash}
-use Rattle.zab_runs.specs.declared.event.Event.{Event as WorldEvent}
-use Rattle.zab_runs.specs.declared.event.Event.TheVariants as world_events
-use Rattle.zab_runs.specs.declared.event.Moved.{Moved}
-use Rattle.zab_runs.specs.declared.fault.WorldFault.{WorldFault}
-use Rattle.zab_runs.specs.declared.fault.WorldFault.TheVariants as world_faults
-use Rattle.zab_runs.specs.Counting as zab_counting
-use Rattle.zab_runs.specs.Counting.{HasDied, IsNoRestart}
-use Rattle.zab_runs.specs.Movers.{mover}
-use Rattle.zab_runs.specs.Running.{is_running, is_up, if_running}
-use Rattle.zab_runs.specs.Standings.{Standing}
-use Rattle.zab_runs.specs.Runs as zab_runs
-use Rattle.zab_runs.specs.Runs.{delivered_of}
-use Rattle.zab_runs.specs.Worlds as zab
-use Rattle.zab_runs.specs.Worlds.{World, Profile, is_server, server_at, running, if_up, if_down, restarts}
+use Rattle.zab_model.specs.declared.event.Event.{Event as WorldEvent}
+use Rattle.zab_model.specs.declared.event.Event.TheVariants as world_events
+use Rattle.zab_model.specs.declared.event.Moved.{Moved}
+use Rattle.zab_model.specs.declared.fault.WorldFault.{WorldFault}
+use Rattle.zab_model.specs.declared.fault.WorldFault.TheVariants as world_faults
+use Rattle.zab_model.specs.Counting as zab_counting
+use Rattle.zab_model.specs.Counting.{HasDied, IsNoRestart}
+use Rattle.zab_model.specs.Movers.{mover}
+use Rattle.zab_model.specs.Running.{is_running, is_up, if_running}
+use Rattle.zab_model.specs.ProcessStates.{ProcessState}
+use Rattle.zab_model.specs.Runs as zab_model
+use Rattle.zab_model.specs.Runs.{delivered_of}
+use Rattle.zab_model.specs.Worlds as zab
+use Rattle.zab_model.specs.Worlds.{World, Profile, is_server, server_at, running, if_up, if_down, restarts}
 use Rattle.zk_requests.specs.declared.call.Call.{Call}
 use Rattle.zab_epoch.specs.Entries.{txns_of}
-use Rattle.zk_runs.specs.Entries.{entry_zxid}
-use Rattle.zk_runs.specs.declared.answer.Answer.{Answer}
-use Rattle.zk_runs.specs.declared.event.Event.{Event}
-use Rattle.zk_runs.specs.declared.event.Event.TheVariants as events
-use Rattle.zk_runs.specs.declared.event.Question.{Question}
-use Rattle.zk_runs.specs.declared.fault.EnsembleFault.{EnsembleFault}
-use Rattle.zk_runs.specs.declared.fault.EnsembleFault.TheVariants as faults
+use Rattle.zk_model.specs.Entries.{entry_zxid}
+use Rattle.zk_model.specs.declared.answer.Answer.{Answer}
+use Rattle.zk_model.specs.declared.event.Event.{Event}
+use Rattle.zk_model.specs.declared.event.Event.TheVariants as events
+use Rattle.zk_model.specs.declared.event.Question.{Question}
+use Rattle.zk_model.specs.declared.fault.EnsembleFault.{EnsembleFault}
+use Rattle.zk_model.specs.declared.fault.EnsembleFault.TheVariants as faults
 use Rattle.zk_headline_laws.specs.Consequences.{FitsEvent, FitEvents}
-use Rattle.zk_runs.specs.Counting.{counted, IsAnswered}
-use Rattle.zk_runs.specs.Ensembles.{Ensemble, Shown, Told, fresh, ensemble, new_ensemble, happens, moves, looks, reads, at_server, shown_then, shown_at, of_world}
-use Rattle.zk_headline_laws.specs.Headline.{Shows, IsNextInRun}
-use Rattle.zk_runs.specs.Runs.{after, run, answered_of}
-use Rattle.zk_headline_laws.proofs.Following.{fit_more, follows}
-use Rattle.zk_runs.proofs.Lists.{is_there}
+use Rattle.zk_model.specs.Counting.{counted, IsAnswered}
+use Rattle.zk_model.specs.Ensembles.{Ensemble, ReplicaView, Told, fresh, ensemble, new_ensemble, happens, moves, looks, reads, at_server, shown_then, replica_at, of_world}
+use Rattle.zk_headline_laws.specs.Headline.{ReplicaMatches, IsNextInRun, IsReached}
+use Rattle.zk_model.specs.Runs.{after, run, answered_of}
+use Rattle.zk_headline_laws.proofs.Following.{follows}
+use Rattle.zk_model.proofs.Lists.{is_there}
 use Rattle.zk_headline_laws.proofs.Standing.{Stands, stands_in_run, grows}
-use Rattle.zk_runs.proofs.Worlds.{goes_on}
+use Rattle.zk_model.proofs.Worlds.{goes_on}
 use Rattle.zk_table.specs.Histories.{tree_of}
-use Rattle.zab_world.specs.Joinings.{MayFall}
+use Rattle.zab_world.specs.Adoptions.{MayFall}
 use Rattle.zk_ensemble.specs.Views.{Below, EnsembleView, state_of, profile_in, IsOfRun, answers_in, tree_in}
 use Rattle.zk_ensemble.proofs.Quiet.{refused_is_quiet, resting_is_quiet}
 
 -- ---- how it stands
 
-pub stands : (below : Below) (shown : List Shown) → IsOfRun below shown → Stands (profile_in below) below.servers (ensemble below.world shown)
+pub stands : (below : Below) (shown : List ReplicaView) → IsOfRun below shown → Stands (profile_in below) below.servers (ensemble below.world shown)
 stands below shown r =
     subst (Stands (profile_in below) below.servers) (sym r.reached)
     (stands_in_run (profile_in below) entry_zxid (heavy_share below.quorums) below.servers r.events)
 
-record IsShownAs (below : Below) (shown : List Shown) (number : ℕ) : Type 0 where
-  pub it : Shown
-  pub is : shown_at shown number ≡ Some it
-  pub shows : Shows (delivered_of below.world number) it
+record IsShownAs (below : Below) (shown : List ReplicaView) (number : ℕ) : Type 0 where
+  pub it : ReplicaView
+  pub is : replica_at shown number ≡ Some it
+  pub shows : ReplicaMatches (delivered_of below.world number) it
 
-shown_as : (below : Below) (shown : List Shown) (number : ℕ) → IsOfRun below shown → is_server below.servers number ≡ true → IsShownAs below shown number
+shown_as : (below : Below) (shown : List ReplicaView) (number : ℕ) → IsOfRun below shown → is_server below.servers number ≡ true → IsShownAs below shown number
 shown_as below shown number r one =
     let s = stands below shown r in
     let there = is_there shown number (ap (λ n. is_server n number) s.count ∙ one) in
     record { it = there.it; is = there.is; shows = s.shows number there.it there.is }
 
--- what is answered and the tree are the table's over the delivered list
-pub answers_of_table : (below : Below) (shown : List Shown) (number : ℕ) → IsOfRun below shown → is_server below.servers number ≡ true → answers_in (shown_at shown number) ≡ answered_of (delivered_of below.world number)
+-- the results and the tree are the table's over the delivered list
+pub answers_of_table : (below : Below) (shown : List ReplicaView) (number : ℕ) → IsOfRun below shown → is_server below.servers number ≡ true → answers_in (replica_at shown number) ≡ answered_of (delivered_of below.world number)
 answers_of_table below shown number r one = let s = shown_as below shown number r one in ap answers_in s.is ∙ s.shows.answers
 
-pub tree_of_table : (below : Below) (shown : List Shown) (number : ℕ) → IsOfRun below shown → is_server below.servers number ≡ true → tree_in (shown_at shown number) ≡ tree_of (txns_of (delivered_of below.world number))
+pub tree_of_table : (below : Below) (shown : List ReplicaView) (number : ℕ) → IsOfRun below shown → is_server below.servers number ≡ true → tree_in (replica_at shown number) ≡ tree_of (txns_of (delivered_of below.world number))
 tree_of_table below shown number r one = let s = shown_as below shown number r one in ap tree_in s.is ∙ s.shows.tree
 
 -- ---- how an event of the world counts
 
--- one that was not refused memory counts as one, at its server
+-- without a failed allocation it counts as one, at its server
 pub record CountsAs (w : World Call) (event : WorldEvent Call) (answer : Result Moved WorldFault) : Type 0 where
   pub it : WorldEvent Call
   pub one : zab_counting.counted event answer ≡ it ∷ []
@@ -93,7 +93,7 @@ counts_as profile w event (Err world_faults.NoMemory) is kept = absurd (kept ref
 counts_as profile w event (Err (world_faults.Died number)) is kept = record { it = world_events.Crash number; one = refl; same = refl; at = is.is }
 
 -- its answer is the ensemble's
-pub answered_on : (profile : Profile Call) (w : World Call) (shown : List Shown) (event : WorldEvent Call) (answer : Result Moved WorldFault) → zab_counting.IsAnswered profile w event answer → IsAnswered profile (ensemble w shown) (events.World event) (of_world answer)
+pub answered_on : (profile : Profile Call) (w : World Call) (shown : List ReplicaView) (event : WorldEvent Call) (answer : Result Moved WorldFault) → zab_counting.IsAnswered profile w event answer → IsAnswered profile (ensemble w shown) (events.World event) (of_world answer)
 answered_on profile w shown event (Ok moved) is = ap of_world is
 answered_on profile w shown event (Err world_faults.NoServer) is = ap of_world is
 answered_on profile w shown event (Err world_faults.NoMessage) is = ap of_world is
@@ -125,7 +125,7 @@ prefix_length : {X : Type 0} (a b : List X) → IsPrefix a b → length a ≤ le
 prefix_length a b p = grind (arith, length-append a p.rest, p.is)
 
 -- a server that runs has delivered at least what it had
-longer : (below : Below) (shown : List Shown) (event : WorldEvent Call) (next : World Call) (number : ℕ) → IsOfRun below shown → next ≡ (zab.happens (profile_in below) below.world event).0 → is_running next number ≡ true → length (delivered_of below.world number) ≤ length (delivered_of next number)
+longer : (below : Below) (shown : List ReplicaView) (event : WorldEvent Call) (next : World Call) (number : ℕ) → IsOfRun below shown → next ≡ (zab.happens (profile_in below) below.world event).0 → is_running next number ≡ true → length (delivered_of below.world number) ≤ length (delivered_of next number)
 longer below shown event next number r same runs =
     let s = stands below shown r in
     let more = grows (profile_in below) entry_zxid (heavy_share below.quorums) below.servers s.es event below.world number s.world (ap (λ w. is_running w number) (sym same) ∙ runs) in
@@ -133,26 +133,26 @@ longer below shown event next number r same runs =
 
 -- what a step of the world leaves
 pub record IsStepped (profile : Profile Call) (w : World Call) (event : WorldEvent Call) (answer : Result Moved WorldFault) (next : World Call) : Type 0 where
-  pub counts : next ≡ zab_runs.after profile w (zab_counting.counted event answer)
+  pub counts : next ≡ zab_model.after profile w (zab_counting.counted event answer)
   pub answers : zab_counting.IsAnswered profile w event answer
   pub kept : answer ≢ Err world_faults.NoMemory
 
 pub happened : (profile : Profile Call) (w : World Call) (event : WorldEvent Call) (answer : Result Moved WorldFault) (next : World Call) (s : IsStepped profile w event answer next) → next ≡ (zab.happens profile w (counts_as profile w event answer s.answers s.kept).it).0
-happened profile w event answer next s = s.counts ∙ ap (zab_runs.after profile w) (counts_as profile w event answer s.answers s.kept).one
+happened profile w event answer next s = s.counts ∙ ap (zab_model.after profile w) (counts_as profile w event answer s.answers s.kept).one
 
-pub no_shorter : (below : Below) (shown : List Shown) (event : WorldEvent Call) (answer : Result Moved WorldFault) (next : World Call) (number : ℕ) → IsOfRun below shown → IsStepped (profile_in below) below.world event answer next → is_running next number ≡ true → length (delivered_of below.world number) ≤ length (delivered_of next number)
+pub no_shorter : (below : Below) (shown : List ReplicaView) (event : WorldEvent Call) (answer : Result Moved WorldFault) (next : World Call) (number : ℕ) → IsOfRun below shown → IsStepped (profile_in below) below.world event answer next → is_running next number ≡ true → length (delivered_of below.world number) ≤ length (delivered_of next number)
 no_shorter below shown event answer next number r s runs =
     longer below shown (counts_as (profile_in below) below.world event answer s.answers s.kept).it next number r (happened (profile_in below) below.world event answer next s) runs
 
 -- what the code does is what happens
-moved : (profile : Profile Call) (w : World Call) (shown news : List Shown) (it : WorldEvent Call) (next : World Call) (number : ℕ) → number ≡ mover w it → next ≡ (zab.happens profile w it).0 → news ≡ at_server (shown_then (is_running next number) (length (delivered_of w number)) (delivered_of next number)) shown number → ensemble next news ≡ (happens profile (ensemble w shown) (events.World it)).0
+moved : (profile : Profile Call) (w : World Call) (shown news : List ReplicaView) (it : WorldEvent Call) (next : World Call) (number : ℕ) → number ≡ mover w it → next ≡ (zab.happens profile w it).0 → news ≡ at_server (shown_then (is_running next number) (length (delivered_of w number)) (delivered_of next number)) shown number → ensemble next news ≡ (happens profile (ensemble w shown) (events.World it)).0
 moved profile w shown news it next number at is shows =
     ap (ensemble next) shows
     ∙ ap (λ v. (moves (ensemble w shown) number (v, (zab.happens profile w it).1)).0) is
     ∙ ap (λ n. (moves (ensemble w shown) n (zab.happens profile w it)).0) at
 
--- the server caught up, and it is told so
-pub went_on : (profile : Profile Call) (w : World Call) (shown given news items : List Shown) (event : WorldEvent Call) (answer : Result Moved WorldFault) (next : World Call) (number before : ℕ) (said : Told) → given ≡ shown → number ≡ mover w event → before ≡ length (delivered_of w number) → IsStepped profile w event answer next → news ≡ at_server (shown_then (is_running next number) before (delivered_of next number)) given number → items ≡ news → said ≡ of_world answer → ensemble next items ≡ after profile (ensemble w shown) (counted (events.World event) said)
+-- the server caught up, as its answer says
+pub went_on : (profile : Profile Call) (w : World Call) (shown given news items : List ReplicaView) (event : WorldEvent Call) (answer : Result Moved WorldFault) (next : World Call) (number before : ℕ) (said : Told) → given ≡ shown → number ≡ mover w event → before ≡ length (delivered_of w number) → IsStepped profile w event answer next → news ≡ at_server (shown_then (is_running next number) before (delivered_of next number)) given number → items ≡ news → said ≡ of_world answer → ensemble next items ≡ after profile (ensemble w shown) (counted (events.World event) said)
 went_on profile w shown given news items event answer next number before said all at had s shows keeps tells =
     let c = counts_as profile w event answer s.answers s.kept in
     moved profile w shown items c.it next number (at ∙ sym c.at) (happened profile w event answer next s)
@@ -164,7 +164,7 @@ went_on profile w shown given news items event answer next number before said al
 
 -- ---- a server that has something to deliver
 
--- it ran, and its event was not refused
+-- it ran, and its event was accepted
 pub record HasActed (w : World Call) (event : WorldEvent Call) (answer : Result Moved WorldFault) : Type 0 where
   pub ran : is_running w (mover w event) ≡ true
   pub numbers : Moved
@@ -215,7 +215,7 @@ acted profile w event answer next number before at had s runs more =
     (subst (λ n. before < length (delivered_of next n)) at more)
     answer s
 
--- ---- it is refused memory for that
+-- ---- an allocation fails there
 
 -- the world that its crash leaves: it has delivered more
 pub fallen_is : (profile : Profile Call) (w : World Call) (event : WorldEvent Call) (answer : Result Moved WorldFault) (next : World Call) (number before : ℕ) (fallen : Option (World Call)) → number ≡ mover w event → before ≡ length (delivered_of w number) → before < length (delivered_of next number) → HasActed w event answer → OnOk answer (is_running w (mover w event) ≡ true → MayFall profile w event next fallen) → fallen ≡ Some (zab.happens profile w (world_events.Crash (mover w event))).0
@@ -234,7 +234,7 @@ same_world : (a b : World Call) → (let o : Option (World Call) = Some a in o �
 same_world a b e = cc
 
 -- the ensemble that it leaves
-pub fell : (profile : Profile Call) (w : World Call) (shown given news items : List Shown) (event : WorldEvent Call) (fallen : Option (World Call)) (next : World Call) (number : ℕ) → given ≡ shown → number ≡ mover w event → fallen ≡ Some (zab.happens profile w (world_events.Crash (mover w event))).0 → fallen ≡ Some next → news ≡ at_server (λ _. fresh) given number → items ≡ news → ensemble next items ≡ after profile (ensemble w shown) (events.World (world_events.Crash number) ∷ [])
+pub fell : (profile : Profile Call) (w : World Call) (shown given news items : List ReplicaView) (event : WorldEvent Call) (fallen : Option (World Call)) (next : World Call) (number : ℕ) → given ≡ shown → number ≡ mover w event → fallen ≡ Some (zab.happens profile w (world_events.Crash (mover w event))).0 → fallen ≡ Some next → news ≡ at_server (λ _. fresh) given number → items ≡ news → ensemble next items ≡ after profile (ensemble w shown) (events.World (world_events.Crash number) ∷ [])
 fell profile w shown given news items event fallen next number all at is left shows keeps =
     let here : next ≡ (zab.happens profile w (world_events.Crash number)).0 = same_world _ _ (sym left ∙ is) ∙ ap (λ n. (zab.happens profile w (world_events.Crash n)).0) (sym at) in
     let down : is_running next number ≡ false = ap (λ v. is_running v number) here ∙ down_after_crash profile w number in
@@ -244,7 +244,7 @@ fell profile w shown given news items event fallen next number all at is left sh
     ∙ ap (λ b. at_server (shown_then b (length (delivered_of w number)) (delivered_of next number)) shown number) (sym down))
 
 -- a server that runs is not started
-starts_none : (w : World Call) (n : ℕ) (o : Option Standing) (numbers : Moved) → is_up o ≡ true → (restarts w n (if_down o)).1 ≡ Ok numbers → ⊥
+starts_none : (w : World Call) (n : ℕ) (o : Option ProcessState) (numbers : Moved) → is_up o ≡ true → (restarts w n (if_down o)).1 ≡ Ok numbers → ⊥
 starts_none w n None numbers up is = absurd cc
 starts_none w n (Some it) numbers up is = absurd (by_up it.up up is)
   where
@@ -271,29 +271,25 @@ has_died profile w event answer number at answers a = record {
 
 -- ---- the run goes on
 
-pub record IsViewOfRun (v : EnsembleView) : Type 0 where
-  pub some : List Event
-  pub fit : FitEvents some
-  pub reached : state_of v ≡ (run (profile_in v.below) v.below.servers some).0
+abbrev pub IsViewOfRun : EnsembleView → Type 0
+IsViewOfRun v = IsReached (profile_in v.below) v.below.servers (state_of v)
 
-pub view_of_run : (below : Below) (shown : List Shown) → IsOfRun below shown → IsViewOfRun (record { below = below; shown = shown })
+pub view_of_run : (below : Below) (shown : List ReplicaView) → IsOfRun below shown → IsViewOfRun (record { below = below; shown = shown })
 view_of_run below shown r = record { some = r.events; fit = r.fit; reached = r.reached }
 
 pub next_in_run : (v : EnsembleView) (more : List Event) (y : Ensemble) → IsViewOfRun v → FitEvents more → y ≡ after (profile_in v.below) (state_of v) more → IsNextInRun (profile_in v.below) v.below.servers (state_of v) more y
-next_in_run v more y r fits is =
-    follows (is_heavy v.below.quorums) (heavy_share v.below.quorums) v.below.servers r.some (state_of v) more y r.reached
-    (goes_on (profile_in v.below) (new_ensemble v.below.servers) (state_of v) y r.some more r.reached is)
-    (fit_more r.some more r.fit fits)
+next_in_run v more y reached fits is =
+    follows (is_heavy v.below.quorums) (heavy_share v.below.quorums) v.below.servers (state_of v) more y reached fits is
 
 -- and so it is that of a run again
-pub reached_more : (below next : Below) (shown news : List Shown) (more : List Event) (r : IsOfRun below shown) → next.quorums ≡ below.quorums → next.servers ≡ below.servers → ensemble next.world news ≡ after (profile_in below) (ensemble below.world shown) more → ensemble next.world news ≡ (run (profile_in next) next.servers (r.events ++ more)).0
+pub reached_more : (below next : Below) (shown news : List ReplicaView) (more : List Event) (r : IsOfRun below shown) → next.quorums ≡ below.quorums → next.servers ≡ below.servers → ensemble next.world news ≡ after (profile_in below) (ensemble below.world shown) more → ensemble next.world news ≡ (run (profile_in next) next.servers (r.events ++ more)).0
 reached_more below next shown news more r quorums servers is =
     goes_on (profile_in below) (new_ensemble below.servers) (ensemble below.world shown) (ensemble next.world news) r.events more r.reached is
     ∙ ap (λ (q : List ℕ). (run (profile_in (record { quorums = q; servers = below.servers; world = next.world })) below.servers (r.events ++ more)).0) (sym quorums)
     ∙ ap (λ n. (run (profile_in next) n (r.events ++ more)).0) (sym servers)
 
 -- a new one
-pub new_of_run : (below : Below) (shown : List Shown) → ensemble below.world shown ≡ new_ensemble below.servers → IsOfRun below shown
+pub new_of_run : (below : Below) (shown : List ReplicaView) → ensemble below.world shown ≡ new_ensemble below.servers → IsOfRun below shown
 new_of_run below shown is = record { events = []; fit = tt; reached = is }
 
 pub ok_of : {T E P : Type 0} (r : Result T E) → OnOk r P → is_err r ≡ false → P
@@ -307,21 +303,21 @@ err_of (Err e) p is = p
 -- ---- reads
 
 -- a read at a server that runs
-pub reads_running : (x : Ensemble) (question : Question) (r : Result Standing WorldFault) → if_running r ≡ Ok tt → reads x question r ≡ looks x question (shown_at x.shown question.server)
+pub reads_running : (x : Ensemble) (question : Question) (r : Result ProcessState WorldFault) → if_running r ≡ Ok tt → reads x question r ≡ looks x question (replica_at x.shown question.server)
 reads_running x question (Ok it) is = refl
 reads_running x question (Err fault) is = absurd cc
 
-pub looked_on : (w : World Call) (shown given news : List Shown) (question : Question) (told : Told) (said : Result (Unit {0}) WorldFault) → given ≡ shown → said ≡ if_running (running w.servers question.server) → said ≡ Ok tt → (ensemble w news, told) ≡ looks (ensemble w given) question (shown_at given question.server) → (ensemble w news, told) ≡ reads (ensemble w shown) question (running w.servers question.server)
+pub looked_on : (w : World Call) (shown given news : List ReplicaView) (question : Question) (told : Told) (said : Result (Unit {0}) WorldFault) → given ≡ shown → said ≡ if_running (running w.servers question.server) → said ≡ Ok tt → (ensemble w news, told) ≡ looks (ensemble w given) question (replica_at given question.server) → (ensemble w news, told) ≡ reads (ensemble w shown) question (running w.servers question.server)
 looked_on w shown given news question told said all was runs is =
     is
-    ∙ ap (λ l. looks (ensemble w l) question (shown_at l question.server)) all
+    ∙ ap (λ l. looks (ensemble w l) question (replica_at l question.server)) all
     ∙ sym (reads_running (ensemble w shown) question (running w.servers question.server) (sym was ∙ runs))
 
--- what a read would be told
-pub peeked : (w : World Call) (shown given : List Shown) (question : Question) (told : Told) (said : Result (Unit {0}) WorldFault) → given ≡ shown → said ≡ if_running (running w.servers question.server) → said ≡ Ok tt → told ≡ (looks (ensemble w given) question (shown_at given question.server)).1 → told ≡ (reads (ensemble w shown) question (running w.servers question.server)).1
+-- the reply to a read
+pub peeked : (w : World Call) (shown given : List ReplicaView) (question : Question) (told : Told) (said : Result (Unit {0}) WorldFault) → given ≡ shown → said ≡ if_running (running w.servers question.server) → said ≡ Ok tt → told ≡ (looks (ensemble w given) question (replica_at given question.server)).1 → told ≡ (reads (ensemble w shown) question (running w.servers question.server)).1
 peeked w shown given question told said all was runs is =
     is
-    ∙ ap (λ l. (looks (ensemble w l) question (shown_at l question.server)).1) all
+    ∙ ap (λ l. (looks (ensemble w l) question (replica_at l question.server)).1) all
     ∙ ap (λ (p : Ensemble × Told). p.1) (sym (reads_running (ensemble w shown) question (running w.servers question.server) (sym was ∙ runs)))
 
 -- no server dies of a read
@@ -335,16 +331,16 @@ lives_by : (x next : Ensemble) (b : Bool) (seen at : ℤ) (answer : Answer) (num
 lives_by x next true seen at answer number is = not_died (faults.Behind seen at) number (λ e. absurd cc) is
 lives_by x next false seen at answer number is = not_died_ok answer number is
 
-looks_alive : (x : Ensemble) (question : Question) (o : Option Shown) (number : ℕ) → (looks x question o).1 ≡ Err (faults.Died number) → ⊥
+looks_alive : (x : Ensemble) (question : Question) (o : Option ReplicaView) (number : ℕ) → (looks x question o).1 ≡ Err (faults.Died number) → ⊥
 looks_alive x question None number is = not_died faults.NoServer number (λ e. absurd cc) is
 looks_alive x question (Some it) number is = lives_by x _ (int_lt it.tree.last question.seen) question.seen it.tree.last _ number is
 
-reads_alive : (x : Ensemble) (question : Question) (o : Option Standing) (number : ℕ) → (reads x question (if_up o)).1 ≡ Err (faults.Died number) → ⊥
+reads_alive : (x : Ensemble) (question : Question) (o : Option ProcessState) (number : ℕ) → (reads x question (if_up o)).1 ≡ Err (faults.Died number) → ⊥
 reads_alive x question None number is = not_died faults.NoServer number (λ e. absurd cc) is
 reads_alive x question (Some it) number is = by_up it.up is
   where
     by_up : (b : Bool) → (reads x question (cond b (Ok it) (Err world_faults.Down))).1 ≡ Err (faults.Died number) → ⊥
-    by_up true is = looks_alive x question (shown_at x.shown question.server) number is
+    by_up true is = looks_alive x question (replica_at x.shown question.server) number is
     by_up false is = not_died faults.Down number (λ e. absurd cc) is
 
 abbrev HasRead : Profile Call → Ensemble → Question → Ensemble → Told → Type 0

@@ -1,37 +1,37 @@
 ghost use Rattle.std.specs.Prelude.{◌≡◌, ◌≢◌, ◌≤◌, ◌<◌, ◌⊎◌, length, true, false, Err, OnOk, OnErr};
-ghost use Rattle.zab_runs.specs.declared.fault.WorldFault.TheVariants as world_faults;
-ghost use Rattle.zab_runs.specs.Running.{is_running};
-ghost use Rattle.zab_runs.specs.Runs.{delivered_of};
+ghost use Rattle.zab_model.specs.declared.fault.WorldFault.TheVariants as world_faults;
+ghost use Rattle.zab_model.specs.Running.{is_running};
+ghost use Rattle.zab_model.specs.Runs.{delivered_of};
 ghost use Rattle.zk_headline_laws.specs.Consequences.{FitsInWorld};
 ghost use Rattle.zk_replicas.specs.Keeping.{MayServe, EachKept, WasKept, WasShown};
-ghost use Rattle.zk_runs.specs.Ensembles.{fresh, at_server, shown_then, of_world};
+ghost use Rattle.zk_model.specs.Ensembles.{fresh, at_server, shown_then, of_world};
 
 use std::alloc::Global;
 use std::marker::Model;
 use zab_epoch::{Entries, Message, Weighted};
-use zab_runs::Moved;
+use zab_model::Moved;
 use zab_world::{Caught, World, WorldFault};
 use zk_machine::Machine;
+use zk_model::{Answer, Answered, EnsembleFault, Event, Preparer, Question};
 use zk_path::NoMemory;
 use zk_records::Journal;
-use zk_replicas::{Kept, Replica, find, look, peek};
+use zk_replicas::{CrashCache, Replica, find, look, peek};
 use zk_requests::Call;
-use zk_runs::{Answer, Answered, EnsembleFault, Event, Preparer, Question};
 use zk_watch::Fired;
 
-/// Servers with trees, and the messages between them, after some events. Servers are numbered from 1.
+/// Servers with trees, and the messages between them, after some events. Servers are numbered from
+/// 1.
 ///
-/// An ensemble is always that of a run: a list of events from a new ensemble on. Memory that is refused leaves it as it was, or
-/// makes the event the crash of its server.
+/// An ensemble is always that of a run: a list of events from a new ensemble on. If an allocation
+/// fails, the ensemble is unchanged, or the event becomes the crash of its server.
 pub struct Ensemble {
     alloc: Global,
     world: World<Preparer, Weighted>,
     replicas: Vec<Replica>,
-    /// What each server had delivered before it crashed, while it has delivered nothing since.
-    kept: Vec<Option<Kept>>,
+    /// What each server had delivered before it crashed, until it delivers something again.
+    kept: Vec<Option<CrashCache>>,
 }
 
-// (by hand, and so proved once: a derived one is proved wherever a value may be dropped)
 impl Drop for Ensemble {
     fn drop(self) {
         let Ensemble {
@@ -48,7 +48,7 @@ impl Model for Ensemble {
     ghost use Rattle.zab_broadcast.specs.contracts.state.State as state;
     ghost use Rattle.zk_requests.specs.contracts.call.Call as call;
     ghost use Rattle.zk_txn.specs.contracts.node.Node as node;
-    ghost use Rattle.zk_runs.specs.contracts.answer.Answered as answered;
+    ghost use Rattle.zk_model.specs.contracts.answer.Answered as answered;
     ghost use Rattle.zk_watch.specs.contracts.watch.Watch as watch;
     ghost use Rattle.zk_watch.specs.contracts.watch.Fired as fired;
     ghost use Rattle.zk_ensemble.specs.Views.{EnsembleView, world_code, below_code, ensemble_code, below_by};
@@ -69,19 +69,20 @@ impl Model for Ensemble {
 impl Ensemble {
     ghost use Rattle.std.specs.Prelude.{◌≡◌, ◌≢◌, replicate, length, true, false, IfOk, Err};
     ghost use Rattle.std.specs.Option.{option_copied, option_map};
-    ghost use Rattle.zab_runs.specs.Runs.{delivered_of, stable_of, syncs_of};
-    ghost use Rattle.zab_runs.specs.Worlds.{new_world, is_server};
+    ghost use Rattle.zab_model.specs.Runs.{delivered_of, stable_of, syncs_of};
+    ghost use Rattle.zab_model.specs.Worlds.{new_world, is_server};
     ghost use Rattle.zab_epoch.specs.Entries.{txns_of};
-    ghost use Rattle.zk_runs.specs.declared.event.Event.TheVariants as events;
-    ghost use Rattle.zk_runs.specs.declared.fault.EnsembleFault.TheVariants as faults;
-    ghost use Rattle.zk_runs.specs.Counting.{counted, IsAnswered};
-    ghost use Rattle.zk_runs.specs.Ensembles.{fresh, happens, shown_at};
+    ghost use Rattle.zk_model.specs.declared.event.Event.TheVariants as events;
+    ghost use Rattle.zk_model.specs.declared.fault.EnsembleFault.TheVariants as faults;
+    ghost use Rattle.zk_model.specs.Counting.{counted, IsAnswered};
+    ghost use Rattle.zk_model.specs.Ensembles.{fresh, happens, replica_at};
     ghost use Rattle.zk_headline_laws.specs.Headline.{IsNextInRun};
-    ghost use Rattle.zk_runs.specs.Runs.{after, answered_of};
+    ghost use Rattle.zk_model.specs.Runs.{after, answered_of};
     ghost use Rattle.zk_table.specs.Histories.{tree_of};
     ghost use Rattle.zk_ensemble.specs.Views.{state_of, profile_in, server_of, answers_in, events_in, tree_in};
 
-    /// A new ensemble of so many servers, all of them up, each of weight 1: the quorums are the majorities.
+    /// Creates an ensemble of `servers` running servers of weight 1: the quorums are the
+    /// majorities.
     pub fn new(alloc: Global, servers: usize) -> Result<Ensemble, NoMemory>
         ensures { IfOk result (λ it. it ≡ record {
           below = record {
@@ -95,8 +96,8 @@ impl Ensemble {
         Ensemble::with(alloc, Weighted::even(alloc, servers)?)
     }
 
-    /// A new ensemble of a server for each weight, all of them up, in which the quorums are the sets with more than half of
-    /// the weight. The weights never change.
+    /// Creates an ensemble of one running server for each weight. The quorums are the sets with
+    /// more than half of the weight; the weights never change.
     pub fn with(alloc: Global, weights: Weighted) -> Result<Ensemble, NoMemory>
         ensures { IfOk result (λ it. it ≡ record {
           below = record {
@@ -123,11 +124,11 @@ impl Ensemble {
         })
     }
 
-    /// One event happens.
+    /// Executes an event.
     ///
-    /// Where memory was refused before anything happened, nothing has: [`EnsembleFault::NoMemory`]. Where it was refused behind
-    /// that, to what the event's server says or delivers, that server has crashed instead: [`EnsembleFault::Died`]. A read is
-    /// never answered so.
+    /// If an allocation fails before anything happened, nothing has: [`EnsembleFault::NoMemory`].
+    /// If it fails later, while the event's server sends or delivers, that server has crashed
+    /// instead: [`EnsembleFault::Died`]. A read never fails so.
     pub fn step(&mut self, event: Event) -> Result<Answer, EnsembleFault>
         ensures counts { state_of self.new ≡ after (profile_in self.old.below) (state_of self.old) (counted event result) }
         ensures answers { IsAnswered (profile_in self.old.below) (state_of self.old) event result }
@@ -136,7 +137,7 @@ impl Ensemble {
         ensures unchanged { result ≡ Err faults.NoMemory → self.new ≡ self.old }
         ensures same { (self.new.below.quorums ≡ self.old.below.quorums) × (self.new.below.servers ≡ self.old.below.servers) }
     {
-        // That it is of a run is known once a field is read.
+        // Once a field is read, the prover knows that the ensemble is of a run.
         let _alloc = self.alloc;
         match event {
             Event::World(event) => self.move_world(event),
@@ -148,8 +149,8 @@ impl Ensemble {
         self.alloc
     }
 
-    /// An event of the world happens, and the server that it is about delivers what it has not yet.
-    fn move_world(&mut self, event: zab_runs::Event<Call>) -> Result<Answer, EnsembleFault>
+    /// Executes an event of the world; its server delivers what is new.
+    fn move_world(&mut self, event: zab_model::Event<Call>) -> Result<Answer, EnsembleFault>
         ensures counts { state_of self.new
             ≡ after (profile_in self.old.below) (state_of self.old) (counted (events.World event) result) }
         ensures answers { IsAnswered (profile_in self.old.below) (state_of self.old) (events.World event) result }
@@ -172,7 +173,7 @@ impl Ensemble {
         told(answer)
     }
 
-    /// A client reads.
+    /// Executes a client's read.
     fn look(&mut self, question: &Question) -> Result<Answer, EnsembleFault>
         ensures acts { result ≢ Err faults.NoMemory → (state_of self.new, result) ≡ happens (profile_in self.old.below) (state_of self.old) (events.Read question.now) }
         ensures below { self.new.below ≡ self.old.below }
@@ -184,7 +185,7 @@ impl Ensemble {
         look(&mut self.replicas, question)
     }
 
-    /// What a client would be answered that reads now. It sets no watch.
+    /// Returns the reply to a read now, without setting its watch.
     pub fn peek(&self, question: &Question) -> Result<Answer, EnsembleFault>
         ensures { result ≢ Err faults.NoMemory → result ≡ (happens (profile_in self.now.below) (state_of self.now) (events.Read question.now)).1 }
     {
@@ -194,10 +195,10 @@ impl Ensemble {
         peek(&self.replicas, question)
     }
 
-    /// What each entry that a server has delivered was answered, lent: the table's results, in order. None where no server
-    /// has this number.
+    /// Borrows the table's result for each entry that a server has delivered, in order; empty for
+    /// an unknown number.
     pub fn answers(&self, number: usize) -> &[Answered]
-        ensures shown { result.now ≡ answers_in (shown_at self.now.shown number) }
+        ensures shown { result.now ≡ answers_in (replica_at self.now.shown number) }
         ensures table { is_server self.now.below.servers number ≡ true → result.now ≡ answered_of (delivered_of self.now.below.world number) }
     {
         match find(&self.replicas, number) {
@@ -206,9 +207,10 @@ impl Ensemble {
         }
     }
 
-    /// What was fired at a server since it started, lent, in order; none where no server has this number.
+    /// Borrows the events fired at a server since it started, in order; empty for an unknown
+    /// number.
     pub fn events_of(&self, number: usize) -> &[Fired]
-        ensures { result.now ≡ events_in (shown_at self.now.shown number) }
+        ensures { result.now ≡ events_in (replica_at self.now.shown number) }
     {
         match find(&self.replicas, number) {
             Some(replica) => replica.events(),
@@ -216,10 +218,10 @@ impl Ensemble {
         }
     }
 
-    /// The last transaction of a server's tree: 0 before the first, where the server is down, and where no server has this
-    /// number.
+    /// Returns the zxid of a server's tree: 0 before the first transaction, for a server that is
+    /// down, and for an unknown number.
     pub fn last(&self, number: usize) -> i64
-        ensures { result ≡ (tree_in (shown_at self.now.shown number)).last }
+        ensures { result ≡ (tree_in (replica_at self.now.shown number)).last }
     {
         match find(&self.replicas, number) {
             Some(replica) => replica.last(),
@@ -227,7 +229,8 @@ impl Ensemble {
         }
     }
 
-    /// The server that an event is about: the one that it may change, or that is read. 0 where there is no such message.
+    /// Returns the server that an event may change, or that it reads; 0 for the arrival of an
+    /// unknown message.
     pub fn server_of(&self, event: &Event) -> usize
         ensures { result ≡ server_of self.now.below.world event.now }
     {
@@ -237,10 +240,10 @@ impl Ensemble {
         }
     }
 
-    /// A machine in the state of a server's tree, which is what its delivered list leads to: the start state where the server
-    /// is down, or where no server has this number.
+    /// Returns a machine in the state of a server's tree, which is that of its delivered list: the
+    /// start state for a server that is down and for an unknown number.
     pub fn tree(&self, number: usize) -> Result<Machine, NoMemory>
-        ensures shown { IfOk result (λ machine. machine ≡ record { state = tree_in (shown_at self.now.shown number); steps = 0; failed = false }) }
+        ensures shown { IfOk result (λ machine. machine ≡ record { state = tree_in (replica_at self.now.shown number); steps = 0; failed = false }) }
         ensures table { is_server self.now.below.servers number ≡ true
             → IfOk result (λ machine. machine.state ≡ tree_of (txns_of (delivered_of self.now.below.world number))) }
     {
@@ -250,23 +253,24 @@ impl Ensemble {
         }
     }
 
-    /// The entries that a server has delivered, lent; none where no server has this number.
+    /// Borrows the entries that a server has delivered; none for an unknown number.
     pub fn delivered(&self, number: usize) -> Entries<'_>
         ensures { result ≡ delivered_of self.now.below.world number }
     {
         self.world.delivered(number)
     }
 
-    /// The syncs that a server has answered since it started, in the order of answers, lent: the tag of each, and how
-    /// many entries were to be delivered for it. None where no server has this number; a crash drops them.
+    /// Borrows the syncs that a server has completed since it started, in the order of completion:
+    /// each tag, and the number of entries that had to be delivered. Empty for an unknown number; a
+    /// crash clears it.
     pub fn syncs(&self, number: usize) -> &[Caught]
         ensures { result.now ≡ syncs_of self.now.below.world number }
     {
         self.world.syncs(number)
     }
 
-    /// The transactions of a server's history, with the bytes of their entries in a log, lent; those of a server that is down,
-    /// too, and none where no server has this number.
+    /// Borrows the transactions of a server's history with their bytes in a log, also for a server
+    /// that is down; `None` for an unknown number.
     pub fn journal(&self, number: usize) -> Option<&Journal>
         ensures { option_copied result ≡ option_map (λ stable. txns_of stable.history) (stable_of self.now.below.world number) }
     {
@@ -276,7 +280,7 @@ impl Ensemble {
         }
     }
 
-    /// All messages ever sent, lent, from number 1 on.
+    /// Borrows all messages ever sent, numbered from 1.
     pub fn messages(&self) -> &[Message<Call>]
         ensures { result.now ≡ self.now.below.world.messages }
     {
@@ -284,12 +288,12 @@ impl Ensemble {
     }
 }
 
-/// The server with this number delivers what it has not delivered before, or shows nothing any more where it does not run.
+/// Brings a server up to its delivered list; one that does not run shows nothing.
 fn catch_up(
     alloc: Global,
     world: &World<Preparer, Weighted>,
     replicas: &mut [Replica],
-    kept: &mut [Option<Kept>],
+    kept: &mut [Option<CrashCache>],
     number: usize,
     before: usize,
 ) -> Result<(), NoMemory>
@@ -316,18 +320,18 @@ fn is_running(world: &World<Preparer, Weighted>, number: usize) -> bool
     world.running(number).is_ok()
 }
 
-/// The type of a session says that it is a number of 64 bits: it is known once the session is read.
-fn know_session(event: &zab_runs::Event<Call>)
+/// Once a session is read, the prover knows that it is a number of 64 bits.
+fn know_session(event: &zab_model::Event<Call>)
     ensures { FitsInWorld event.now }
 {
     let _session = match event {
-        zab_runs::Event::Submit { call, .. } => call.session,
-        zab_runs::Event::Expire { session, .. } => *session,
+        zab_model::Event::Submit { call, .. } => call.session,
+        zab_model::Event::Expire { session, .. } => *session,
         _ => 0,
     };
 }
 
-/// A world's answer, as an ensemble's.
+/// Converts a world's answer.
 fn told(answer: Result<Moved, WorldFault>) -> Result<Answer, EnsembleFault>
     ensures { result ≡ of_world answer }
 {

@@ -1,4 +1,4 @@
-//! What has come of a call or a sync at a server, and what a session is to be told there.
+//! The outcome of a call or a sync at a server, and a session's new events there.
 
 ghost use Rattle.std.specs.Prelude.{◌≡◌, ◌==◌, drop, map, option_map, IfOk};
 ghost use Rattle.std.specs.List.{filter};
@@ -8,24 +8,24 @@ use crate::ensemble::Ensemble;
 use std::alloc::Global;
 use zab_world::Caught;
 use zk_machine::Change;
+use zk_model::Answered;
 use zk_path::NoMemory;
-use zk_runs::Answered;
 use zk_watch::Fired;
 
-/// What has come of a call or a sync at a server, and what a session is to be told there.
+/// The outcome of a call or a sync at a server, and a session's new events there.
 #[derive(Debug, Drop)]
 pub struct Outcome {
-    /// What the call with the tag was answered, where the server has delivered it.
+    /// The result of the call with the tag, once the server has delivered it.
     pub answered: Option<Answered>,
-    /// How many entries were to be delivered for the sync with the tag, where the server has caught up.
+    /// The number of entries that the sync with the tag waited for, once it has completed.
     pub caught: Option<u64>,
-    /// The session's events behind the first ones, in order.
+    /// The session's events after the mark, in order.
     pub events: Vec<Change>,
     /// All that the server has now.
     pub mark: Mark,
 }
 
-/// How far a server's answers, caught syncs and events were looked at: how many of each, since it started.
+/// How many of a server's results, completed syncs and events were looked at since it started.
 #[derive(Clone, Copy, Debug, Drop, PartialEq, Eq)]
 pub struct Mark {
     pub answers: usize,
@@ -34,7 +34,7 @@ pub struct Mark {
 }
 
 impl Mark {
-    /// Nothing was looked at.
+    /// Nothing looked at yet.
     pub fn new() -> Mark
         ensures { result ≡ mark 0 0 0 }
     {
@@ -48,13 +48,14 @@ impl Mark {
 
 impl Ensemble {
     ghost use Rattle.std.specs.Prelude.{◌≡◌, length, option_map, IfOk};
-    ghost use Rattle.zab_runs.specs.Runs.{syncs_of};
-    ghost use Rattle.zk_runs.specs.Ensembles.{shown_at};
+    ghost use Rattle.zab_model.specs.Runs.{syncs_of};
+    ghost use Rattle.zk_model.specs.Ensembles.{replica_at};
     ghost use Rattle.zk_ensemble.specs.Views.{answers_in, events_in};
     ghost use Rattle.zk_ensemble.specs.Outcomes.{answered_with, caught_with, news_of, IsOutcome};
 
-    /// What has come of the call or the sync with this tag at a server, and the session's events there, of all that stands behind
-    /// the mark. Nothing, where no server has this number. It costs what stands behind the mark.
+    /// Returns the outcome of the call or sync with this tag at a server, and the session's events
+    /// there, among all that is new since the mark. Nothing for an unknown number. The cost is that
+    /// of what is new.
     pub fn outcome(
         &self,
         number: usize,
@@ -62,8 +63,8 @@ impl Ensemble {
         session: i64,
         from: Mark,
     ) -> Result<Outcome, NoMemory>
-        ensures { IfOk result (λ outcome. IsOutcome (answers_in (shown_at self.now.shown number))
-            (syncs_of self.now.below.world number) (events_in (shown_at self.now.shown number)) tag session from outcome) }
+        ensures { IfOk result (λ outcome. IsOutcome (answers_in (replica_at self.now.shown number))
+            (syncs_of self.now.below.world number) (events_in (replica_at self.now.shown number)) tag session from outcome) }
     {
         let answers = self.answers(number);
         let syncs = self.syncs(number);
@@ -80,23 +81,23 @@ impl Ensemble {
         })
     }
 
-    /// What the call with this tag was answered at a server, lent.
+    /// Borrows the result of the call with this tag at a server.
     pub fn answered(&self, number: usize, tag: u64) -> Option<&Answered>
-        ensures { option_map (λ it. it.now) result ≡ answered_with tag (answers_in (shown_at self.now.shown number)) }
+        ensures { option_map (λ it. it.now) result ≡ answered_with tag (answers_in (replica_at self.now.shown number)) }
     {
         answered_with(self.answers(number), tag)
     }
 
-    /// How many entries were to be delivered for the sync with this tag, where the server has caught up.
+    /// Returns the number of entries that the sync with this tag waited for, once it has completed.
     pub fn caught(&self, number: usize, tag: u64) -> Option<u64>
         ensures { result ≡ caught_with tag (syncs_of self.now.below.world number) }
     {
         caught_with(self.syncs(number), tag)
     }
 
-    /// A session's events at a server behind the first `from` of all, in order.
+    /// Returns a session's events at a server after the first `from` of all, in order.
     pub fn news(&self, number: usize, session: i64, from: usize) -> Result<Vec<Change>, NoMemory>
-        ensures { IfOk result (λ news. news.items ≡ news_of session from (events_in (shown_at self.now.shown number))) }
+        ensures { IfOk result (λ news. news.items ≡ news_of session from (events_in (replica_at self.now.shown number))) }
     {
         let alloc = self.allocator();
         news_of(
@@ -107,7 +108,7 @@ impl Ensemble {
     }
 }
 
-/// The last answer with this tag: a call's answer is among the last where its client waits for it.
+/// Finds the last result with this tag: the result of a call whose client waits is among the last.
 fn answered_with(answers: &[Answered], tag: u64) -> Option<&Answered>
     ensures { option_map (λ it. it.now) result ≡ answered_with tag answers.now }
 {
@@ -132,7 +133,7 @@ fn caught_with(syncs: &[Caught], tag: u64) -> Option<u64>
     }
 }
 
-/// What stands behind the first so many.
+/// Borrows the elements after the first `from`.
 fn behind<T>(all: &[T], from: usize) -> &[T]
     ensures { result.now ≡ drop from all.now }
 {
@@ -142,7 +143,7 @@ fn behind<T>(all: &[T], from: usize) -> &[T]
     }
 }
 
-/// A session's events.
+/// Selects a session's events.
 fn news_of(alloc: Global, fired: &[Fired], session: u64) -> Result<Vec<Change>, NoMemory>
     ensures { IfOk result (λ news. news.items ≡ map change_in (filter (λ it. it.session == session) fired.now)) }
 {

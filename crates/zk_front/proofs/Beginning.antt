@@ -1,8 +1,8 @@
--- One server more that follows, and one message more that arrives.
+-- One more server follows, and one more message arrives.
 use Rattle.std.proofs.Common.{◌≡◌, ℕ, suc, ◌+◌, ◌-◌, ◌≤◌, ◌<◌, List, [], ◌∷◌, ◌++◌, refl, sym, ap, subst, ◌∙◌, arith}
-use Rattle.zab_runs.specs.declared.event.Event.TheVariants.{Arrive, Follow, Lead}
-use Rattle.zk_runs.specs.declared.event.Event.{Event}
-use Rattle.zk_runs.specs.declared.event.Event.TheVariants as events
+use Rattle.zab_model.specs.declared.event.Event.TheVariants.{Arrive, Follow, Lead}
+use Rattle.zk_model.specs.declared.event.Event.{Event}
+use Rattle.zk_model.specs.declared.event.Event.TheVariants as events
 use Rattle.zk_front.specs.Calling.{Calling, Calls, CallsOne}
 use Rattle.zk_front.specs.Starting.{Arrives, Begins, arrivals, followings}
 use Rattle.zk_front.proofs.Calling.{calls_none, calls_one, calls_then}

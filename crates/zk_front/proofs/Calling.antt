@@ -1,12 +1,12 @@
--- What a service calls, one event after the other.
+-- The calls of a service, event by event.
 use Rattle.std.proofs.Common.{◌≡◌, ℕ, ◌+◌, ◌≤◌, ◌<◌, All, List, [], ◌∷◌, ◌++◌, length, map, refl, sym, ap, subst, ◌∙◌, arith}
 use Rattle.std.specs.Prelude.{Result, Ok, Err, OnOk, OnErr}
 use Rattle.std.proofs.lemmas.List.{map-append, append_assoc, append-nil}
 use Rattle.std.proofs.lemmas.List.Elements.{All-append}
 use lib.ListN.{get_or}
-use Rattle.zab_runs.specs.declared.event.Event.TheVariants.{Lead, Follow, Arrive, Submit, Expire, Sync, Crash, Restart}
-use Rattle.zk_runs.specs.declared.event.Event.{Event}
-use Rattle.zk_runs.specs.declared.event.Event.TheVariants as events
+use Rattle.zab_model.specs.declared.event.Event.TheVariants.{Lead, Follow, Arrive, Submit, Expire, Sync, Crash, Restart}
+use Rattle.zk_model.specs.declared.event.Event.{Event}
+use Rattle.zk_model.specs.declared.event.Event.TheVariants as events
 use Rattle.zk_chronicle.specs.Calls.{made}
 use Rattle.zk_servers.specs.Turns.{events_of, numbers_of, numbers_told}
 use Rattle.zk_chronicle.specs.declared.record.Receipt.{Receipt}
@@ -26,7 +26,7 @@ given_more tag (events.World (Crash server)) is = tt
 given_more tag (events.World (Restart server)) is = tt
 given_more tag (events.Read question) is = tt
 
--- one tag more is given out
+-- one more tag is used
 pub kept_tag : (old new : Calling) → IsKept old → new.calls ≡ old.calls → new.receipts ≡ old.receipts → new.tag ≡ old.tag + 1 → IsKept new
 kept_tag old new kept calls receipts tag = record {
   given = subst (λ (n : ℕ). All (λ call. IsGiven n call.event) new.calls) (sym tag)
@@ -34,7 +34,7 @@ kept_tag old new kept calls receipts tag = record {
   told = ap numbers_told receipts ∙ kept.told ∙ sym (ap numbers_of calls);
 }
 
--- one call more
+-- one more call
 pub kept_call : (old : Calling) (event : Event) (receipt : Receipt) (new : Calling) → IsKept old → IsGiven old.tag event
     → new.calls ≡ old.calls ++ made receipt.number event ∷ [] → new.receipts ≡ old.receipts ++ receipt ∷ [] → new.tag ≡ old.tag → IsKept new
 kept_call old event receipt new kept is calls receipts tag =
@@ -68,7 +68,7 @@ calls_one old event new one = record {
   made = refl;
 }
 
--- where the calls before it were none
+-- there were no calls before it
 pub one_from : (old between new : Calling) (event : Event) → between.calls ≡ old.calls → between.receipts ≡ old.receipts → CallsOne between event new → Calls old (event ∷ []) new
 one_from old between new event calls receipts one = record {
   calls = made one.receipt.number event ∷ [];
@@ -87,7 +87,7 @@ calls_then old xs between ys new a b = record {
   made = map-append (λ (m : Made). m.event) a.calls b.calls ∙ ap (λ l. l ++ events_of b.calls) a.made ∙ ap (λ l. xs ++ l) b.made;
 }
 
--- ---- what a call answers
+-- ---- the reply to a call
 
 pub on_err : {A E : Type 0} (P : Type 0) (r : Result A E) → P → OnErr r P
 on_err P (Ok x) is = tt

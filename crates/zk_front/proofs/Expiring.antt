@@ -1,23 +1,26 @@
--- Sessions that are due, one more; and then what is asked.
-use Rattle.std.proofs.Common.{◌≡◌, inl, inr, ℕ, ℤ, ◌+◌, List, [], ◌∷◌, ◌++◌, length, refl, sym, ap, subst, ◌∙◌, arith}
+-- One more expired session; and then the event of the ask.
+use Rattle.std.proofs.Common.{◌≡◌, inl, inr, ℕ, ℤ, ◌+◌, List, [], ◌∷◌, ◌++◌, Option, length, refl, sym, ap, subst, ◌∙◌, arith}
 use Rattle.std.specs.Prelude.{Result, Ok, Err, OnErr, IfOk}
 use Rattle.std.proofs.lemmas.List.{length-append, append_assoc, append-nil}
-use Rattle.zk_connections.specs.declared.ask.Ask.{Ask}
-use Rattle.zk_connections.specs.declared.ask.Ask.TheVariants as asks
-use Rattle.zk_connections.specs.declared.told.ServiceFault.{ServiceFault}
-use Rattle.zk_connections.specs.declared.told.Told.{Told}
-use Rattle.zk_serving.specs.Asks.{event_of, session_of, sought_by}
-use Rattle.zk_serving.specs.declared.sought.Sought.{Sought}
+use Rattle.zk_line_protocol.specs.declared.ask.Ask.{Ask}
+use Rattle.zk_line_protocol.specs.declared.ask.Ask.TheVariants as asks
+use Rattle.zk_line_protocol.specs.declared.told.ServiceFault.{ServiceFault}
+use Rattle.zk_line_protocol.specs.declared.told.Told.{Told}
+use Rattle.zk_service.specs.Asks.{event_of, session_of, sought_by}
+use Rattle.zk_service.specs.declared.reply_kind.ReplyKind.{ReplyKind}
 use Rattle.zk_prepare.specs.Deadlines.{expired_at}
-use Rattle.zk_runs.specs.declared.event.Event.{Event}
+use Rattle.zk_model.specs.declared.event.Event.{Event}
 use Rattle.zk_front.specs.Calling.{Calling, Calls, IsGiven}
 use Rattle.zk_front.specs.Keeping.{Keeping, KeepsOrNot, all_let_go, heard, let_go, ready, settled, turn_of}
 use Rattle.zk_front.specs.Remotes.{AsksAt, Expires, IsCutShort, IsTold, Misses, Serving, Stops, events_for, expiries, expiry}
-use Rattle.zk_front.specs.declared.turn.Turn.{Turn}
+use Rattle.zk_front.specs.declared.session_effect.SessionEffect.{SessionEffect}
 use Rattle.zk_front.proofs.Calling.{calls_none, calls_then}
+use Rattle.zk_front.specs.Reading.{HasEventsOf, IsToldReadBy, TellsEvents}
 use Rattle.zk_front.proofs.Keeping.{all_let_go_more, none_opened}
+use Rattle.zk_front.proofs.Reading.{tells_events}
+use Rattle.zk_ensemble.specs.declared.outcome.Outcome.{Outcome}
 
--- ---- sessions that are due
+-- ---- expired sessions
 
 expiries_parts : (tag : ℕ) (now : ℤ) (due more : List ℤ) → expiries tag now (due ++ more) ≡ expiries tag now due ++ expiries (tag + length due) now more
 expiries_parts tag now [] more =
@@ -27,7 +30,7 @@ expiries_parts tag now (first ∷ due) more =
     let same : tag + 1 + length due ≡ tag + length (first ∷ due) = omega arith in
     ap (λ (l : List Event). expiry tag first now ∷ l) (expiries_parts (tag + 1) now due more ∙ ap (λ (n : ℕ). expiries (tag + 1) now due ++ expiries n now more) same)
 
--- some of them are closed and let go, and these are left
+-- some of them are closed and no longer kept, and these are left
 pub record Expiring (now : ℤ) (due left : List ℤ) (old new : Serving) : Type 0 where
   pub done : List ℤ
   pub parts : due ≡ done ++ left
@@ -63,7 +66,7 @@ expiring_more now due left session old between new so_far calls tag gone = recor
   are = gone ∙ ap (let_go session) so_far.are ∙ sym (all_let_go_more so_far.done (session ∷ []) old.keeping);
 }
 
--- it stopped before this session, or behind it
+-- it stopped before this session, or after it
 pub expiring_stopped : (now : ℤ) (due left : List ℤ) (session : ℤ) (old between new : Serving) → Expiring now due (session ∷ left) old between → Stops now (session ∷ []) between new → Stops now due old new
 expiring_stopped now due left session old between new so_far some = record {
   first = so_far.done ++ some.first;
@@ -91,7 +94,7 @@ none_stops now due old new calls receipts same = record {
   left = same;
 }
 
--- one was closed and let go, and refused
+-- one was closed and no longer kept, and the close failed
 pub one_stops : (now session : ℤ) (old new : Serving) → Calls old.calling (expiry (old.calling.tag + 1) session now ∷ []) new.calling → new.keeping ≡ let_go session old.keeping → Stops now (session ∷ []) old new
 one_stops now session old new calls gone = record {
   first = session ∷ [];
@@ -101,7 +104,7 @@ one_stops now session old new calls gone = record {
   left = gone;
 }
 
--- ---- what is asked
+-- ---- the event of the ask
 
 pub given_own : (ask : Ask) (tag : ℕ) (now : ℤ) → IsGiven tag (event_of ask tag now)
 given_own (asks.Write session cxid auths request) tag now = omega arith
@@ -115,7 +118,7 @@ asked_whole now due ask old between new before own =
     let first : List Event = expiries (old.calling.tag + 1) now due in
     subst (λ (n : ℕ). Calls old.calling (first ++ event_of ask n now ∷ []) new) next (calls_then old.calling first between.calling (event_of ask (between.calling.tag + 1) now ∷ []) new before.calls own)
 
--- nothing more was called
+-- no more events were called
 after_due : (now : ℤ) (due : List ℤ) (old between : Serving) (new : Calling) → Expires now due old between → Calls between.calling [] new → Calls old.calling (expiries (old.calling.tag + 1) now due) new
 after_due now due old between new before none =
     let first : List Event = expiries (old.calling.tag + 1) now due in
@@ -135,24 +138,27 @@ asked_missed now due ask old between new is before (inl (none, inl same)) = inl 
 asked_missed now due ask old between new is before (inl (none, inr own)) = inr (inl (after_due now due old between new.calling before none, is_ready now due ask old between new.keeping is before own))
 asked_missed now due ask old between new is before (inr (own, was)) = inr (inr (asked_whole now due ask old between new.calling before own, none_opened (turn_of ask) now (ready now old.keeping ask) new.keeping (is_ready now due ask old between new.keeping is before was)))
 
-keeps_or_not : (turn turn' : Turn) (at now : ℤ) (a b new : Keeping) → turn ≡ turn' → at ≡ now → a ≡ b → KeepsOrNot turn at a new → KeepsOrNot turn' now b new
+keeps_or_not : (turn turn' : SessionEffect) (at now : ℤ) (a b new : Keeping) → turn ≡ turn' → at ≡ now → a ≡ b → KeepsOrNot turn at a new → KeepsOrNot turn' now b new
 keeps_or_not turn turn' at now a b new turns when same kept = subst (λ t. KeepsOrNot t now b new) turns (subst (λ n. KeepsOrNot turn n b new) when (subst (λ x. KeepsOrNot turn at x new) same kept))
 
--- once the own event was called, what is told decides
-pub asked_told : (now : ℤ) (due : List ℤ) (ask : Ask) (old between after new : Serving) (seeks : Sought) (turn : Turn) (session at : ℤ) (r : Result Told ServiceFault) → due ≡ expired_at old.keeping.deadlines now → Expires now due old between
+-- after the ask's own event was called, the reply decides
+pub asked_told : (now : ℤ) (due : List ℤ) (ask : Ask) (old between after new : Serving) (seeks : ReplyKind) (turn : SessionEffect) (session at : ℤ) (outcome : Option Outcome) (r : Result Told ServiceFault) → due ≡ expired_at old.keeping.deadlines now → Expires now due old between
     → Calls between.calling (event_of ask (between.calling.tag + 1) now ∷ []) after.calling → after.keeping ≡ heard (session_of ask) now between.keeping
     → seeks ≡ sought_by ask → turn ≡ turn_of ask → session ≡ session_of ask → at ≡ now → new.calling ≡ after.calling → IfOk r (λ told. IsTold seeks new.calling.receipts told.reply)
+    → IsToldReadBy seeks ask after.calling.receipts outcome → IfOk r (λ told. HasEventsOf outcome told.events)
     → IfOk r (λ told. new.keeping ≡ settled turn session at told.reply after.keeping) → OnErr r (KeepsOrNot turn at after.keeping new.keeping) → AsksAt now due old ask r new
-asked_told now due ask old between after new seeks turn session at (Ok told) is before own was sought turns who when same fits kept left = (
+asked_told now due ask old between after new seeks turn session at outcome (Ok told) is before own was sought turns who when same fits read has kept left = (
   subst (λ (x : Calling). Calls old.calling (events_for (old.calling.tag + 1) now due ask) x) (sym same) (asked_whole now due ask old between after.calling before own),
-  subst (λ (s : Sought). IsTold s new.calling.receipts told.reply) sought fits,
+  subst (λ (s : ReplyKind). IsTold s new.calling.receipts told.reply) sought fits,
+  subst (λ (s : ReplyKind). TellsEvents s ask new.calling.receipts told.events) sought
+      (subst (λ (x : Calling). TellsEvents seeks ask x.receipts told.events) (sym same) (tells_events seeks ask after.calling.receipts outcome told.events read has)),
   kept
       ∙ ap (λ t. settled t session at told.reply after.keeping) turns
       ∙ ap (λ s. settled (turn_of ask) s at told.reply after.keeping) who
       ∙ ap (λ n. settled (turn_of ask) (session_of ask) n told.reply after.keeping) when
       ∙ ap (settled (turn_of ask) (session_of ask) now told.reply) (is_ready now due ask old between after.keeping is before was),
 )
-asked_told now due ask old between after new seeks turn session at (Err fault) is before own was sought turns who when same fits kept left = inr (inr (
+asked_told now due ask old between after new seeks turn session at outcome (Err fault) is before own was sought turns who when same fits read has kept left = inr (inr (
   subst (λ (x : Calling). Calls old.calling (events_for (old.calling.tag + 1) now due ask) x) (sym same) (asked_whole now due ask old between after.calling before own),
   keeps_or_not turn (turn_of ask) at now after.keeping (ready now old.keeping ask) new.keeping turns when (is_ready now due ask old between after.keeping is before was) left,
 ))

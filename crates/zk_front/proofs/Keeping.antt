@@ -1,4 +1,4 @@
--- What becomes of the sessions that are kept.
+-- Changes of the sessions that are kept.
 use Rattle.std.proofs.Common.{◌≡◌, inl, ℤ, Bool, true, cond, List, [], ◌∷◌, ◌++◌, Option, Some, None, int_cmp, refl, sym, ap, subst, ◌∙◌}
 use Rattle.std.specs.BTreeMap as tree
 use Rattle.std.specs.BTreeMap.{BTreeMap}
@@ -7,8 +7,8 @@ use Rattle.std.specs.FinMap.{FinMap}
 use Rattle.zk_prepare.specs.Deadlines.{DeadlineMap, touched, forgotten}
 use Rattle.zk_tree.proofs.Kept.{get-sessions, sessions_inserted, sessions_removed}
 use Rattle.zk_front.specs.Keeping.{Keeping, KeepsOrNot, all_let_go, heard, heard_by, kept, let_go}
-use Rattle.zk_front.specs.declared.turn.Turn.{Turn}
-use Rattle.zk_front.specs.declared.turn.Turn.TheVariants as turns
+use Rattle.zk_front.specs.declared.session_effect.SessionEffect.{SessionEffect}
+use Rattle.zk_front.specs.declared.session_effect.SessionEffect.TheVariants as turns
 
 abbrev pub keeping : FinMap int_cmp ℤ → DeadlineMap → Keeping
 keeping timeouts deadlines = record { timeouts = timeouts; deadlines = deadlines }
@@ -16,7 +16,7 @@ keeping timeouts deadlines = record { timeouts = timeouts; deadlines = deadlines
 alike : (a b : FinMap int_cmp ℤ) (d e : DeadlineMap) → a ≡ b → d ≡ e → keeping a d ≡ keeping b e
 alike a b d e timeouts deadlines = ap (λ m. keeping m d) timeouts ∙ ap (keeping b) deadlines
 
--- one session is kept, heard of, and let go
+-- one session is kept, its deadline moves, and it is no longer kept
 
 pub touched_alike : (it : DeadlineMap) (s s' t t' n n' : ℤ) → s ≡ s' → t ≡ t' → n ≡ n' → touched it s t n ≡ touched it s' t' n'
 touched_alike it s s' t t' n n' session timeout now = ap (λ x. touched it x t n) session ∙ ap (λ x. touched it s' x n) timeout ∙ ap (touched it s' t') now
@@ -42,14 +42,14 @@ heard_is session key now timeouts found before after same is due =
     let there : found ≡ finite.get (finite.from_entries timeouts.entries) session = is ∙ ap (λ s. tree.get_by (int_cmp s) timeouts) same ∙ sym (get-sessions timeouts session) in
     ap (keeping (finite.from_entries timeouts.entries)) (due ∙ ap (λ o. heard_by o session now before) there)
 
--- ---- several are let go
+-- ---- several are no longer kept
 
 pub all_let_go_more : (first more : List ℤ) (it : Keeping) → all_let_go (first ++ more) it ≡ all_let_go more (all_let_go first it)
 all_let_go_more [] more it = refl
 all_let_go_more (session ∷ first) more it = all_let_go_more first more (let_go session it)
 
--- nothing is left of a session that was opened
-pub none_opened : (turn : Turn) (now : ℤ) (old new : Keeping) → new ≡ old → KeepsOrNot turn now old new
+-- a session that was opened is neither kept nor has a deadline
+pub none_opened : (turn : SessionEffect) (now : ℤ) (old new : Keeping) → new ≡ old → KeepsOrNot turn now old new
 none_opened (turns.Opens timeout) now old new same = inl same
 none_opened turns.Closes now old new same = same
 none_opened turns.Neither now old new same = same

@@ -1,14 +1,14 @@
--- What a service calls by a seat. Own.
+-- The calls of a service by a seat. Own.
 use Rattle.std.specs.Prelude.{◌≡◌, ◌≤◌, ℕ, All, List, [], ◌∷◌, ◌++◌}
-use Rattle.zab_runs.specs.declared.event.Event.TheVariants.{Submit, Expire, Sync}
-use Rattle.zk_runs.specs.declared.event.Event.{Event}
-use Rattle.zk_runs.specs.declared.event.Event.TheVariants as events
+use Rattle.zab_model.specs.declared.event.Event.TheVariants.{Submit, Expire, Sync}
+use Rattle.zk_model.specs.declared.event.Event.{Event}
+use Rattle.zk_model.specs.declared.event.Event.TheVariants as events
 use Rattle.zk_chronicle.specs.declared.record.Receipt.{Receipt}
 use Rattle.zk_chronicle.specs.declared.calls.Made.{Made}
 use Rattle.zk_chronicle.specs.Calls.{made}
 use Rattle.zk_servers.specs.Turns.{events_of, numbers_of, numbers_told}
 
--- the calls of a seat, a receipt for each, and the last tag that was given out
+-- the calls of a seat, a receipt for each, and the last tag that was used
 pub record Calling : Type 0 where
   pub calls : List Made
   pub receipts : List Receipt
@@ -18,14 +18,14 @@ pub record Calling : Type 0 where
 abbrev pub unused : Calling
 unused = record { calls = []; receipts = []; tag = 0 }
 
--- an event has no tag that was not given out
+-- the tag of an event is at most the last one used
 abbrev pub IsGiven : ℕ → Event → Type 0
 IsGiven tag (events.World (Submit server call)) = call.tag ≤ tag
 IsGiven tag (events.World (Expire server own session now)) = own ≤ tag
 IsGiven tag (events.World (Sync server own)) = own ≤ tag
 IsGiven tag event = Unit {0}
 
--- so a tag above the last one is new to the seat; and there is a receipt for each call
+-- a tag above the last one is therefore new to the seat; and there is a receipt for each call
 pub record IsKept (it : Calling) : Type 0 where
   pub given : All (λ call. IsGiven it.tag call.event) it.calls
   pub told : numbers_told it.receipts ≡ numbers_of it.calls

@@ -1,5 +1,6 @@
--- What the contracts of this crate cite.
+-- The definitions that this crate's contracts cite.
 pub mod Calling
 pub mod Keeping
+pub mod Reading
 pub mod Remotes
 pub mod Starting

@@ -1,16 +1,16 @@
--- How a service over servers begins. Own.
+-- The start of a service over servers. Own.
 use Rattle.std.specs.Prelude.{◌≤◌, ℕ, zero, suc, ◌+◌, ◌-◌, List, [], ◌∷◌, ◌++◌}
-use Rattle.zab_runs.specs.declared.event.Event.TheVariants.{Arrive, Follow, Lead}
-use Rattle.zk_runs.specs.declared.event.Event.{Event}
-use Rattle.zk_runs.specs.declared.event.Event.TheVariants as events
+use Rattle.zab_model.specs.declared.event.Event.TheVariants.{Arrive, Follow, Lead}
+use Rattle.zk_model.specs.declared.event.Event.{Event}
+use Rattle.zk_model.specs.declared.event.Event.TheVariants as events
 use Rattle.zk_front.specs.Calling.{Calling, Calls}
 
--- so many other servers follow server 1
+-- `n` other servers follow server 1
 abbrev pub followings : ℕ → List Event
 followings zero = []
 followings (suc others) = followings others ++ events.World (Follow (others + 2) 1) ∷ []
 
--- the first so many messages arrive, once each
+-- the first `n` messages arrive, once each
 abbrev pub arrivals : ℕ → List Event
 arrivals zero = []
 arrivals (suc messages) = arrivals messages ++ events.World (Arrive (messages + 1)) ∷ []

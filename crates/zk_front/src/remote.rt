@@ -7,28 +7,30 @@ ghost use Rattle.zk_front.specs.Remotes.{Asks, serving};
 ghost use Rattle.zk_front.specs.Starting.{Begins};
 ghost use Rattle.zk_servers.specs.Turns.{numbers_of, numbers_told};
 
-use crate::asker::Asker;
-use crate::caller::Caller;
-use crate::clients::Clients;
+use crate::request_driver::RequestDriver;
+use crate::seat_caller::SeatCaller;
+use crate::session_table::SessionTable;
 use std::alloc::Global;
 use std::sync::Wait;
 use std::sync::ledger::Ledger;
 use std::time;
-use zk_servers::{Mark, Receipt, Seat, Senders, Shared};
-use zk_serving::{Ask, Clock, Service, ServiceFault, Told};
+use zk_servers::{CallLedger, Mark, Receipt, Seat, Senders, Shared};
+use zk_service::{Ask, Clock, Service, ServiceFault, Told};
 
-/// A service over servers that run as threads: each ask is made at server 1, by calls of a seat. It keeps a receipt for each call.
+/// A service over servers that run as threads: executes each ask at server 1, by calls of a seat,
+/// and keeps a receipt for each call.
 ///
-/// A session that it opened is kept until it closes. An ask first closes each session whose deadline has come, and then its own
-/// session is heard of. It waits for what comes of a write or a sync, and faults [`ServiceFault::Server`] where nothing has come
-/// after 1,048,576 looks, most of them 50 microseconds apart.
+/// A session that it opened is kept until it closes. An ask first closes each session whose
+/// deadline has passed, and then moves the deadline of its own session. It waits for the outcome of
+/// a write or a sync, and fails with [`ServiceFault::Server`] after 1,048,576 looks without one,
+/// most of them 50 microseconds apart.
 #[derive(Drop)]
-pub struct Remote<'s, L: Ledger, R: Wait, C: Clock> {
-    asker: Asker<'s, L, R>,
+pub struct Remote<'s, L: CallLedger, R: Wait, C: Clock> {
+    asker: RequestDriver<'s, L, R>,
     clock: C,
 }
 
-/// What is handed back where a service can't start.
+/// What is returned if a service can't start.
 #[derive(Drop)]
 pub struct Unstarted<L: Ledger> {
     pub fault: ServiceFault,
@@ -38,9 +40,10 @@ pub struct Unstarted<L: Ledger> {
     pub receipts: Vec<Receipt>,
 }
 
-impl<'s, L: Ledger, R: Wait, C: Clock> Remote<'s, L, R, C> {
-    /// Server 1 leads, the others follow it, and each message arrives once, in order of number, at most 1,048,576, past which it
-    /// faults. Only then are the servers' threads to run. The senders are those of the servers' inboxes.
+impl<'s, L: CallLedger, R: Wait, C: Clock> Remote<'s, L, R, C> {
+    /// Has server 1 lead, the others follow it, and each message arrive once, in order of number;
+    /// fails after 1,048,576 messages. Start the servers' threads after this call. The senders are
+    /// those of the servers' inboxes.
     pub fn start(
         rt: &'s R,
         alloc: Global,
@@ -55,7 +58,7 @@ impl<'s, L: Ledger, R: Wait, C: Clock> Remote<'s, L, R, C> {
         ensures none { IfOk result (λ it. keeping_of it.asker.clients ≡ none_kept) }
         ensures refused { IfErr result (λ it. numbers_told it.receipts.items ≡ numbers_of it.seat) }
     {
-        let mut caller = Caller {
+        let mut caller = SeatCaller {
             rt,
             alloc,
             shared,
@@ -72,27 +75,27 @@ impl<'s, L: Ledger, R: Wait, C: Clock> Remote<'s, L, R, C> {
                 receipts,
             });
         }
-        let asker = Asker {
+        let asker = RequestDriver {
             caller,
-            clients: Clients::new(alloc),
+            clients: SessionTable::new(alloc),
             mark: Mark::new(),
         };
         Ok(Remote { asker, clock })
     }
 
-    /// The seat, and a receipt for each of its calls, in order.
+    /// Returns the seat, and a receipt for each of its calls, in order.
     pub fn end(self) -> (Seat<L>, Vec<Receipt>)
         ensures seat { result.0 ≡ self.entry.asker.caller.calls }
         ensures receipts { result.1.items ≡ self.entry.asker.caller.receipts }
         ensures told { numbers_told result.1.items ≡ numbers_of result.0 }
     {
         let Remote { asker, .. } = self;
-        let Asker { caller, .. } = asker;
+        let RequestDriver { caller, .. } = asker;
         caller.end()
     }
 }
 
-impl<L: Ledger, R: Wait + time::Clock, C: Clock> Service for Remote<'_, L, R, C> {
+impl<L: CallLedger, R: Wait + time::Clock, C: Clock> Service for Remote<'_, L, R, C> {
     ghost does = { λ old ask told new. Asks C.tells old.clock new.clock (serving old.asker.caller old.asker.clients) ask told (serving new.asker.caller new.asker.clients) };
 
     fn ask(&mut self, ask: Ask) -> Result<Told, ServiceFault> {

@@ -1,23 +1,24 @@
-//! How a service over servers begins: server 1 leads, and the others follow it.
+//! Starts a service over servers: server 1 leads, and the others follow it.
 
 ghost use Rattle.std.specs.Prelude.{◌≡◌, ◌≤◌, ◌-◌, OnOk};
-ghost use Rattle.zab_runs.specs.declared.event.Event.TheVariants.{Arrive, Follow, Lead};
+ghost use Rattle.zab_model.specs.declared.event.Event.TheVariants.{Arrive, Follow, Lead};
 ghost use Rattle.zk_front.specs.Calling.{Calls, CallsOne};
 ghost use Rattle.zk_front.specs.Starting.{Arrives, Begins, followings};
-ghost use Rattle.zk_runs.specs.declared.event.Event.TheVariants as events;
+ghost use Rattle.zk_model.specs.declared.event.Event.TheVariants as events;
 
-use crate::caller::{Caller, sent_by};
+use crate::seat_caller::{SeatCaller, sent_by};
 use std::sync::Wait;
-use std::sync::ledger::Ledger;
-use zab_runs::Event as WorldEvent;
-use zk_runs::{EnsembleFault, Event};
-use zk_serving::{HOME, ServiceFault, service_fault_of};
+use zab_model::Event as WorldEvent;
+use zk_model::{EnsembleFault, Event};
+use zk_servers::CallLedger;
+use zk_service::{HOME, ServiceFault, service_fault_of};
 
-/// How many messages arrive at most until the servers are ready.
+/// The most messages that arrive until the servers are ready.
 const MOST_ARRIVALS: usize = 1_048_576;
 
-impl<L: Ledger, R: Wait> Caller<'_, L, R> {
-    /// Server 1 leads, the others follow it, and each message arrives once. Messages are not sent to inboxes.
+impl<L: CallLedger, R: Wait> SeatCaller<'_, L, R> {
+    /// Has server 1 lead, the others follow it, and each message arrive once. Messages are not sent
+    /// to inboxes.
     #[tactic(auto, using(crate::proofs::Beginning::begun))]
     pub(crate) fn begin(&mut self, servers: usize) -> Result<(), ServiceFault>
         ensures { OnOk result (Begins servers self.old self.new) }
@@ -77,7 +78,7 @@ impl<L: Ledger, R: Wait> Caller<'_, L, R> {
         Ok(())
     }
 
-    /// A message arrives. That it is refused is no fault, unless its server died.
+    /// Delivers a message. A message that is rejected is no fault, unless its server died.
     fn arrive(&mut self, message: usize) -> Result<(), ServiceFault>
         ensures { OnOk result (CallsOne self.old (events.World (Arrive message)) self.new) }
     {
@@ -88,7 +89,7 @@ impl<L: Ledger, R: Wait> Caller<'_, L, R> {
         }
     }
 
-    /// The number of the last message that was sent so far.
+    /// Returns the number of the last message that was sent so far.
     fn last_sent(&self) -> Result<usize, ServiceFault> {
         let mut last = 0;
         for receipt in &self.receipts {

@@ -1,28 +1,27 @@
-//! Waiting for what comes of a call at the server.
+//! Waits for the outcome of a call at the server.
 
-use crate::caller::Caller;
+use crate::seat_caller::SeatCaller;
 use std::sync::Wait;
-use std::sync::ledger::Ledger;
 use std::time::Duration;
 use std::{thread, time};
-use zk_servers::{Mark, Outcome};
-use zk_serving::{HOME, ServiceFault, Sought};
+use zk_servers::{CallLedger, Mark, Outcome};
+use zk_service::{HOME, ReplyKind, ServiceFault};
 
-/// How often it is looked whether something has happened.
+/// The most times that the caller looks for a change.
 const MOST_LOOKS: u32 = 1_048_576;
 
-/// How often at most other threads are let run in between, before this one sleeps.
+/// The most times that other threads are let run in between, before this one sleeps.
 const YIELDS: u32 = 256;
 
-/// Microseconds that it sleeps.
+/// Microseconds of a sleep.
 const PAUSE: u64 = 50;
 
-impl<L: Ledger, R: Wait + time::Clock> Caller<'_, L, R> {
-    /// What has come of an ask, and of the session's events, once it is there. The lock is taken only where something has happened at
-    /// the server since it was taken last.
+impl<L: CallLedger, R: Wait + time::Clock> SeatCaller<'_, L, R> {
+    /// Waits until an ask has its outcome, and returns it with the session's events. Takes the lock
+    /// only if the server had a call since the lock was taken last.
     pub(crate) fn wait_for(
         &self,
-        sought: Sought,
+        sought: ReplyKind,
         tag: u64,
         session: i64,
         from: Mark,
@@ -47,7 +46,7 @@ impl<L: Ledger, R: Wait + time::Clock> Caller<'_, L, R> {
         Err(ServiceFault::Server)
     }
 
-    /// Lets the servers go on.
+    /// Lets the servers run.
     fn pause(&self, looks: u32) {
         if looks < YIELDS {
             thread::yield_now();
@@ -57,10 +56,10 @@ impl<L: Ledger, R: Wait + time::Clock> Caller<'_, L, R> {
     }
 }
 
-fn is_found(sought: Sought, outcome: &Outcome) -> bool {
+fn is_found(sought: ReplyKind, outcome: &Outcome) -> bool {
     match sought {
-        Sought::Written => outcome.answered.is_some(),
-        Sought::Looked => true,
-        Sought::Caught => outcome.caught.is_some(),
+        ReplyKind::Written => outcome.answered.is_some(),
+        ReplyKind::Looked => true,
+        ReplyKind::Caught => outcome.caught.is_some(),
     }
 }

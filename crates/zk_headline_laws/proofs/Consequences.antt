@@ -1,4 +1,4 @@
--- What the servers of every run hold are prepared transactions.
+-- The histories of every run's servers are prepared transactions.
 use Rattle.std.proofs.Common.{◌≡◌, ℕ, zero, suc, Bool, true, List, [], ◌∷◌, ◌++◌, take, slice_get, Option, Some, None, refl, sym, ap, subst, ◌∙◌}
 use Rattle.std.proofs.lemmas.List.{map-append}
 use Rattle.std.specs.Int.{w64}
@@ -7,25 +7,25 @@ use Rattle.std.specs.List.{AllByRecursion}
 use Rattle.zab_epoch.specs.declared.history.Entry.{Entry}
 use Rattle.zab_quorums.specs.Quorums.{IsQuorumSystem}
 use Rattle.zab_laws.specs.Prefixes.{IsPrefix}
-use Rattle.zab_runs.specs.declared.event.Event.{Event as WorldEvent}
-use Rattle.zab_runs.specs.declared.event.Event.TheVariants as world
+use Rattle.zab_model.specs.declared.event.Event.{Event as WorldEvent}
+use Rattle.zab_model.specs.declared.event.Event.TheVariants as world
 use Rattle.zab_agreement_laws.specs.Origins.{IsOrigin, call_of}
-use Rattle.zab_runs.specs.Worlds.{server_at}
+use Rattle.zab_model.specs.Worlds.{server_at}
 use Rattle.zk_requests.specs.declared.call.Call.{Call}
 use Rattle.zk_requests.specs.Requests.{meaning_of}
-use Rattle.zk_prepared_laws.specs.Consequences.{HasOpenOwners}
-use Rattle.zk_prepared_laws.specs.Prepared.{ArePrepared, HaveSessions, is_in_session}
-use Rattle.zk_prepared_laws.proofs.Each.{prepared_front, each_front}
-use Rattle.zk_prepared_laws.proofs.Refusing.{refused_only_as_error, multi_is_whole_or_nothing}
-use Rattle.zk_prepared_laws.proofs.Sessions.{sessions_of_calls}
-use Rattle.zk_prepared_laws.proofs.Standing.{owners_are_open}
+use Rattle.zk_prepare_laws.specs.Consequences.{HasOpenOwners}
+use Rattle.zk_prepare_laws.specs.Prepared.{ArePrepared, HaveSessions, is_in_session}
+use Rattle.zk_prepare_laws.proofs.Each.{prepared_front, each_front}
+use Rattle.zk_prepare_laws.proofs.Refusing.{refused_only_as_error, multi_is_whole_or_nothing}
+use Rattle.zk_prepare_laws.proofs.Sessions.{sessions_of_calls}
+use Rattle.zk_prepare_laws.proofs.Standing.{owners_are_open}
 use Rattle.zab_epoch.specs.Entries.{txns_of}
-use Rattle.zk_runs.specs.Entries.{entry_zxid}
-use Rattle.zk_runs.specs.declared.event.Event.{Event}
-use Rattle.zk_runs.specs.declared.event.Event.TheVariants as events
+use Rattle.zk_model.specs.Entries.{entry_zxid}
+use Rattle.zk_model.specs.declared.event.Event.{Event}
+use Rattle.zk_model.specs.declared.event.Event.TheVariants as events
 use Rattle.zk_headline_laws.specs.Consequences.{FitsInWorld, FitEvents, HasConsequences}
-use Rattle.zk_runs.specs.Ensembles.{profile_by}
-use Rattle.zk_runs.specs.Runs.{in_world, ensemble_after, delivered_after, history_after}
+use Rattle.zk_model.specs.Ensembles.{profile_by}
+use Rattle.zk_model.specs.Runs.{in_world, ensemble_after, delivered_after, history_after}
 use Rattle.zk_headline_laws.proofs.Headlines.{headline, delivered_in_history}
 use Rattle.zk_txn.specs.declared.txn.Txn.{Txn}
 use Rattle.zk_table.specs.Histories.{tree_of}
@@ -124,7 +124,7 @@ module _ (passes : List Bool → Bool) (system : IsQuorumSystem passes) (servers
   owners : FitEvents some → (count number : ℕ) → HasOpenOwners (tree_of (txns_of (history count number)))
   owners fit count number = owners_are_open (txns_of (history count number)) (prepared count number) (sessions fit count number)
 
-  -- a list that another begins with
+  -- a prefix of another list
   owners_in : (delivered whole : List Entry) → IsPrefix delivered whole → ArePrepared (txns_of whole) → HaveSessions (txns_of whole) → HasOpenOwners (tree_of (txns_of delivered))
   owners_in delivered whole p all sessions =
       let is : txns_of whole ≡ txns_of delivered ++ txns_of p.rest = ap txns_of (sym p.is) ∙ map-append (λ (e : Entry). e.txn) delivered p.rest in

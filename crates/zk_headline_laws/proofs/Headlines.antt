@@ -9,31 +9,31 @@ use Rattle.zab_laws.specs.Prefixes.{IsPrefix, Rises}
 use Rattle.zab_laws.proofs.PrefixLaws.{prefix_refl, rises_front, prefix_take}
 use Rattle.zab_rule_laws.proofs.Hearing.{CarriesZxid}
 use Rattle.zab_rule_laws.proofs.TagCalls.{CarriesTag}
-use Rattle.zab_runs.specs.declared.fault.WorldFault.{WorldFault}
+use Rattle.zab_model.specs.declared.fault.WorldFault.{WorldFault}
 use Rattle.zab_call_laws.proofs.Origins.{come_from_calls}
 use Rattle.zab_agreement_laws.specs.Origins.{IsOrigin}
-use Rattle.zab_runs.specs.Runs as zab
-use Rattle.zab_runs.specs.Standings.{Standing}
-use Rattle.zab_runs.specs.Worlds.{Profile, is_server, running, server_at}
+use Rattle.zab_model.specs.Runs as zab
+use Rattle.zab_model.specs.ProcessStates.{ProcessState}
+use Rattle.zab_model.specs.Worlds.{Profile, is_server, running, server_at}
 use Rattle.zab_agreement_laws.proofs.AgreeRuns.{runs_agree}
 use Rattle.zk_requests.specs.declared.call.Call.{Call}
 use Rattle.zab_epoch.specs.Entries.{txns_of}
-use Rattle.zk_runs.specs.declared.answer.Answer.TheVariants.{Looked}
-use Rattle.zk_runs.specs.declared.event.Event.{Event}
-use Rattle.zk_runs.specs.declared.event.Event.TheVariants as events
-use Rattle.zk_runs.specs.declared.event.Question.{Question}
-use Rattle.zk_runs.specs.declared.fault.EnsembleFault.{EnsembleFault}
-use Rattle.zk_runs.specs.declared.fault.EnsembleFault.TheVariants as faults
-use Rattle.zk_runs.specs.Refusals.{ensemble_fault_of}
-use Rattle.zk_runs.specs.Ensembles.{Ensemble, Shown, Told, new_ensemble, looks, reads, shown_at, reply_of, waiting, waiting_by}
-use Rattle.zk_headline_laws.specs.Headline.{Shows, IsShown, IsAnswered, ClosingIsUntold, Headline, last_zxid}
-use Rattle.zk_headline_laws.specs.Occasions.{met_after, entries_met, fired_in}
-use Rattle.zk_runs.specs.Runs.{in_world, world_count, ensemble_after, shown_after, delivered_after, history_after}
+use Rattle.zk_model.specs.declared.answer.Answer.TheVariants.{Looked}
+use Rattle.zk_model.specs.declared.event.Event.{Event}
+use Rattle.zk_model.specs.declared.event.Event.TheVariants as events
+use Rattle.zk_model.specs.declared.event.Question.{Question}
+use Rattle.zk_model.specs.declared.fault.EnsembleFault.{EnsembleFault}
+use Rattle.zk_model.specs.declared.fault.EnsembleFault.TheVariants as faults
+use Rattle.zk_model.specs.Refusals.{ensemble_fault_of}
+use Rattle.zk_model.specs.Ensembles.{Ensemble, ReplicaView, Told, new_ensemble, looks, reads, replica_at, reply_of, waiting, waiting_by}
+use Rattle.zk_headline_laws.specs.Headline.{ReplicaMatches, HasMatchingReplica, IsAnswered, ClosingIsUntold, Headline, last_zxid}
+use Rattle.zk_headline_laws.specs.Traces.{trace_after, trace_entries, trace_events}
+use Rattle.zk_model.specs.Runs.{in_world, world_count, ensemble_after, replica_after, delivered_after, history_after}
 use Rattle.zk_headline_laws.proofs.Firing.{fires_in_run}
-use Rattle.zk_runs.proofs.Lists.{is_there}
+use Rattle.zk_model.proofs.Lists.{is_there}
 use Rattle.zk_headline_laws.proofs.ReadLaws.{earlier_is_prefix, last_of_the_list}
 use Rattle.zk_headline_laws.proofs.Standing.{stands_in_run}
-use Rattle.zk_runs.proofs.Worlds.{take_in_world, delivered_then, history_then, answer_at}
+use Rattle.zk_model.proofs.Worlds.{take_in_world, delivered_then, history_then, answer_at}
 use Rattle.zk_txn.specs.declared.read.ReadReply.{ReadReply}
 use Rattle.zk_txn.specs.declared.txn.Op.TheVariants.{CloseSession}
 use Rattle.zk_txn.specs.declared.txn.Txn.{Txn}
@@ -44,11 +44,11 @@ use Rattle.zk_watch.specs.declared.watch.Watch.{Watch}
 use Rattle.zk_watch.specs.Watching.{fired_by, without_session}
 use Rattle.zk_watch.specs.WatchLaws.{is_told}
 
--- ---- a read that was answered
+-- ---- an accepted read
 
 record LooksAt (x : Ensemble) (question : Question) (reply : ReadReply) : Type 0 where
-  pub it : Shown
-  pub is : shown_at x.shown question.server ≡ Some it
+  pub it : ReplicaView
+  pub is : replica_at x.shown question.server ≡ Some it
   pub near : int_lt it.tree.last question.seen ≡ false
   pub reply_is : reply ≡ reply_of question it.tree
 
@@ -58,7 +58,7 @@ same_reply a b e = cc
 is_refusal : (fault : EnsembleFault) (reply : ReadReply) → (let told : Told = Err fault in told ≡ Ok (Looked reply)) → ⊥
 is_refusal fault reply e = absurd cc
 
-near_by : (x : Ensemble) (question : Question) (reply : ReadReply) (it : Shown) → shown_at x.shown question.server ≡ Some it → (b : Bool) → int_lt it.tree.last question.seen ≡ b → (left next : Ensemble) → (fault : EnsembleFault) → (let one : Ensemble × Told = (left, Err fault) in let other : Ensemble × Told = (next, Ok (Looked (reply_of question it.tree))) in (cond b one other).1 ≡ Ok (Looked reply)) → LooksAt x question reply
+near_by : (x : Ensemble) (question : Question) (reply : ReadReply) (it : ReplicaView) → replica_at x.shown question.server ≡ Some it → (b : Bool) → int_lt it.tree.last question.seen ≡ b → (left next : Ensemble) → (fault : EnsembleFault) → (let one : Ensemble × Told = (left, Err fault) in let other : Ensemble × Told = (next, Ok (Looked (reply_of question it.tree))) in (cond b one other).1 ≡ Ok (Looked reply)) → LooksAt x question reply
 near_by x question reply it is true behind left next fault was = absurd (is_refusal fault reply was)
 near_by x question reply it is false near left next fault was = record {
   it = it;
@@ -67,12 +67,12 @@ near_by x question reply it is false near left next fault was = record {
   reply_is = sym (same_reply (reply_of question it.tree) reply was);
 }
 
-looks_told : (x : Ensemble) (question : Question) (reply : ReadReply) (o : Option Shown) → shown_at x.shown question.server ≡ o → (looks x question o).1 ≡ Ok (Looked reply) → LooksAt x question reply
+looks_told : (x : Ensemble) (question : Question) (reply : ReadReply) (o : Option ReplicaView) → replica_at x.shown question.server ≡ o → (looks x question o).1 ≡ Ok (Looked reply) → LooksAt x question reply
 looks_told x question reply None is was = absurd (is_refusal faults.NoServer reply was)
 looks_told x question reply (Some it) is was = near_by x question reply it is (int_lt it.tree.last question.seen) refl _ _ _ was
 
-reads_told : (x : Ensemble) (question : Question) (reply : ReadReply) (r : Result Standing WorldFault) → (reads x question r).1 ≡ Ok (Looked reply) → LooksAt x question reply
-reads_told x question reply (Ok it) was = looks_told x question reply (shown_at x.shown question.server) refl was
+reads_told : (x : Ensemble) (question : Question) (reply : ReadReply) (r : Result ProcessState WorldFault) → (reads x question r).1 ≡ Ok (Looked reply) → LooksAt x question reply
+reads_told x question reply (Ok it) was = looks_told x question reply (replica_at x.shown question.server) refl was
 reads_told x question reply (Err fault) was = absurd (is_refusal (ensemble_fault_of fault) reply was)
 
 same_told : (a b : Told) → (let o : Option Told = Some a in o ≡ Some b) → a ≡ b
@@ -94,22 +94,22 @@ closing_untold tree txn watches is =
     ap (λ ws. is_told (cast_unsigned w64 txn.session) (fired_by (changes_of tree txn) ws)) (waits_without txn watches is)
     ∙ stay_untold (cast_unsigned w64 txn.session) (changes_of tree txn) watches
 
--- ---- lists that rise
+-- ---- increasing lists
 
 not_behind : (a b seen : ℤ) → int_lt b seen ≡ false → a ≤ℤ seen → a ≤ℤ b
 not_behind a b seen near ends = grind (arith, nat_tests, ints)
 
-pub delivered_in_history : (o : Option Standing) → IsPrefix (zab.delivered_list o) (zab.history_list o)
+pub delivered_in_history : (o : Option ProcessState) → IsPrefix (zab.delivered_list o) (zab.history_list o)
 delivered_in_history None = prefix_refl []
 delivered_in_history (Some it) = prefix_take it.state.delivered it.state.peer.stable.history
 
 -- ---- the headline
 
 module _ (profile : Profile Call) (law : CarriesZxid profile.setting) (system : IsQuorumSystem profile.setting.passes) (tags : CarriesTag profile.setting) (servers : ℕ) (some : List Event) where
-  shows_at : (count number : ℕ) (it : Shown) → shown_after profile servers some count number ≡ Some it → Shows (delivered_after profile servers some count number) it
+  shows_at : (count number : ℕ) (it : ReplicaView) → replica_after profile servers some count number ≡ Some it → ReplicaMatches (delivered_after profile servers some count number) it
   shows_at count number it is = (stands_in_run profile law system servers (take count some)).shows number it is
 
-  shown : (count number : ℕ) → is_server servers number ≡ true → IsShown profile servers some count number
+  shown : (count number : ℕ) → is_server servers number ≡ true → HasMatchingReplica profile servers some count number
   shown count number one =
       let s = stands_in_run profile law system servers (take count some) in
       let there = is_there (ensemble_after profile servers some count).shown number (ap (λ n. is_server n number) s.count ∙ one) in
@@ -147,10 +147,10 @@ module _ (profile : Profile Call) (law : CarriesZxid profile.setting) (system : 
       earlier_is_prefix (λ entry. entry.txn.zxid) (pos 0) _ _ (one_order count place number question.server) (delivered_rises count number)
       (not_behind (last_zxid (delivered_after profile servers some count number)) (last_zxid (delivered_after profile servers some place question.server)) question.seen near ends)
 
-  met : (count number : ℕ) → entries_met (met_after profile servers some count number) ≡ delivered_after profile servers some count number
+  met : (count number : ℕ) → trace_entries (trace_after profile servers some count number) ≡ delivered_after profile servers some count number
   met count number = (fires_in_run profile law system servers (take count some) number).entries
 
-  fired : (count number : ℕ) (it : Shown) → shown_after profile servers some count number ≡ Some it → it.events ≡ fired_in (met_after profile servers some count number)
+  fired : (count number : ℕ) (it : ReplicaView) → replica_after profile servers some count number ≡ Some it → it.events ≡ trace_events (trace_after profile servers some count number)
   fired count number it is = ((fires_in_run profile law system servers (take count some) number).tells it is).events
 
   pub headline : Headline profile servers some

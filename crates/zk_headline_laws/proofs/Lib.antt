@@ -3,5 +3,6 @@ pub mod Firing
 pub mod Following
 pub mod Headlines
 pub mod ReadLaws
+pub mod ReadWatches
 pub mod Showing
 pub mod Standing

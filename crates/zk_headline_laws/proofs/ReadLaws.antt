@@ -15,7 +15,7 @@ use Rattle.zk_table.specs.Histories.{state_after, tree_of}
 use Rattle.zk_table.specs.States.{State, start_state}
 use Rattle.zk_table.specs.Steps.{step, step_by}
 
--- of two lists that agree and rise the one that ends earlier is a prefix of the other
+-- of two increasing lists that agree, the one that ends earlier is a prefix of the other
 pub earlier_is_prefix : {X : Type 0} (key : X → ℤ) (start : ℤ) (a b : List X) → IsPrefix a b ⊎ IsPrefix b a → Rises key start a → last_key key start a ≤ℤ last_key key start b → IsPrefix a b
 earlier_is_prefix key start a b (inl p) r h = p
 earlier_is_prefix key start a b (inr p) r h = prefix_by_last key start a b a r (prefix_refl a) p h

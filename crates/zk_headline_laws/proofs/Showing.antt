@@ -1,18 +1,18 @@
--- What a server shows that delivers entries.
+-- What a server shows after it delivers entries.
 use Rattle.std.proofs.Common.{◌≡◌, List, [], ◌∷◌, ◌++◌, map, length, drop, Bool, true, false, refl, sym, ap, ◌∙◌, subst}
 use Rattle.std.proofs.lemmas.List.{append-nil, append_assoc}
 use Rattle.zab_epoch.specs.declared.history.Entry.{Entry}
 use Rattle.zab_laws.specs.Prefixes.{IsPrefix}
 use Rattle.zab_epoch.specs.Entries.{txns_of}
-use Rattle.zk_runs.specs.declared.answer.Answered.{Answered}
-use Rattle.zk_runs.specs.Ensembles.{Shown, fresh, answered, take_in, take_all, shown_then}
-use Rattle.zk_headline_laws.specs.Headline.{Shows}
-use Rattle.zk_runs.specs.Runs.{answered_after, answered_of}
+use Rattle.zk_model.specs.declared.answer.Answered.{Answered}
+use Rattle.zk_model.specs.Ensembles.{ReplicaView, fresh, answered, take_in, take_all, shown_then}
+use Rattle.zk_headline_laws.specs.Headline.{ReplicaMatches}
+use Rattle.zk_model.specs.Runs.{answered_after, answered_of}
 use Rattle.zk_table.specs.Histories.{state_after, results_after, results_of}
 use Rattle.zk_table.specs.States.{State, start_state}
 use Rattle.zk_table.specs.Steps.{step}
 
--- ---- one entry more
+-- ---- one more entry
 
 state_more : (s : State) (d : List Entry) (e : Entry) → state_after s (txns_of (d ++ e ∷ [])) ≡ (step (state_after s (txns_of d)) e.txn).0
 state_more s [] e = refl
@@ -32,30 +32,30 @@ answered_are_results entries = results_are start_state entries
 
 -- ---- a server
 
-pub shows_in : (d : List Entry) (s : Shown) (e : Entry) → Shows d s → Shows (d ++ e ∷ []) (take_in s e)
+pub shows_in : (d : List Entry) (s : ReplicaView) (e : Entry) → ReplicaMatches d s → ReplicaMatches (d ++ e ∷ []) (take_in s e)
 shows_in d s e h = record {
   tree = ap (λ t. (step t e.txn).0) h.tree ∙ sym (state_more start_state d e);
   answers = ap (λ (l : List Answered). l ++ answered e (step s.tree e.txn).1 ∷ []) h.answers
       ∙ ap (λ t. answered_of d ++ answered e (step t e.txn).1 ∷ []) h.tree ∙ sym (answered_more start_state d e);
 }
 
-shows_all : (more d : List Entry) (s : Shown) → Shows d s → Shows (d ++ more) (take_all s more)
-shows_all [] d s h = subst (λ l. Shows l s) (sym (append-nil d)) h
-shows_all (e ∷ more) d s h = subst (λ l. Shows l (take_all (take_in s e) more)) (append_assoc d (e ∷ []) more) (shows_all more (d ++ e ∷ []) (take_in s e) (shows_in d s e h))
+shows_all : (more d : List Entry) (s : ReplicaView) → ReplicaMatches d s → ReplicaMatches (d ++ more) (take_all s more)
+shows_all [] d s h = subst (λ l. ReplicaMatches l s) (sym (append-nil d)) h
+shows_all (e ∷ more) d s h = subst (λ l. ReplicaMatches l (take_all (take_in s e) more)) (append_assoc d (e ∷ []) more) (shows_all more (d ++ e ∷ []) (take_in s e) (shows_in d s e h))
 
 drop_front : {X : Type 0} (a rest : List X) → drop (length a) (a ++ rest) ≡ rest
 drop_front [] rest = refl
 drop_front (x ∷ a) rest = drop_front a rest
 
-pub shows_fresh : (d : List Entry) → d ≡ [] → Shows d fresh
-shows_fresh d none = subst (λ l. Shows l fresh) (sym none) (record { tree = refl; answers = refl })
+pub shows_fresh : (d : List Entry) → d ≡ [] → ReplicaMatches d fresh
+shows_fresh d none = subst (λ l. ReplicaMatches l fresh) (sym none) (record { tree = refl; answers = refl })
 
-shows_on : (before now : List Entry) (s : Shown) → IsPrefix before now → Shows before s → Shows now (take_all s (drop (length before) now))
+shows_on : (before now : List Entry) (s : ReplicaView) → IsPrefix before now → ReplicaMatches before s → ReplicaMatches now (take_all s (drop (length before) now))
 shows_on before now s p h =
     let more : drop (length before) now ≡ p.rest = ap (drop (length before)) (sym p.is) ∙ drop_front before p.rest in
-    subst (λ l. Shows now (take_all s l)) (sym more) (subst (λ l. Shows l (take_all s p.rest)) p.is (shows_all p.rest before s h))
+    subst (λ l. ReplicaMatches now (take_all s l)) (sym more) (subst (λ l. ReplicaMatches l (take_all s p.rest)) p.is (shows_all p.rest before s h))
 
--- of a server that runs the list grows, and one that does not has none
-pub shows_then : (runs : Bool) (before now : List Entry) (s : Shown) → (runs ≡ true → IsPrefix before now) → (runs ≡ false → now ≡ []) → Shows before s → Shows now (shown_then runs (length before) now s)
+-- the list of a running server grows, and that of a stopped one is empty
+pub shows_then : (runs : Bool) (before now : List Entry) (s : ReplicaView) → (runs ≡ true → IsPrefix before now) → (runs ≡ false → now ≡ []) → ReplicaMatches before s → ReplicaMatches now (shown_then runs (length before) now s)
 shows_then true before now s grows none h = shows_on before now s (grows refl) h
 shows_then false before now s grows none h = shows_fresh now (none refl)

@@ -1,4 +1,5 @@
 -- What the contracts of this crate cite.
 pub mod Consequences
 pub mod Headline
-pub mod Occasions
+pub mod Traces
+pub mod ReadWatches

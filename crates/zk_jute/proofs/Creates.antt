@@ -1,4 +1,4 @@
--- Bodies that stand alone and in a multi: what is read is spelled so, and what is spelled so is read.
+-- Bodies that occur alone and in a multi: reading is the inverse of writing.
 use Rattle.std.proofs.Common.{◌≡◌, ℕ, List, ◌++◌, Ok, refl, ap, ◌∙◌, append_assoc}
 use Rattle.std.specs.Int.{w32}
 use Rattle.zk_jute.specs.declared.bodies.CreateTxn.{CreateTxn}

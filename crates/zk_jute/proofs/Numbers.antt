@@ -1,4 +1,4 @@
--- What a reader takes from the front, and numbers.
+-- The prefix that a reader consumes, and numbers.
 use Rattle.std.proofs.Common.{◌≡◌, ℕ, ℤ, ◌+◌, ◌^◌, ◌<◌, ◌≤◌, Bool, true, false, cond, ltb, eqb, List, [], ◌++◌, length, get_or, take, drop, Result, Ok, Err, refl, sym, ap, subst, ◌∙◌, append_assoc, arith, inl, inr}
 use Rattle.std.specs.Prelude.{FitsSigned}
 use Rattle.std.specs.Int.{Width, w32, w64, byte_len, from_be_bytes, to_be_bytes, cast_signed, cast_unsigned}
@@ -34,19 +34,20 @@ IsBytes-front front rest h i =
 IsBytes-back : (front rest : List ℕ) → IsBytes (front ++ rest) → IsBytes rest
 IsBytes-back front rest h i = rw (← get_or-append-add front rest i 0) (h (length front + i))
 
--- what lies between
+-- the part between two others
 pub IsBytes-between : (bytes front middle rest : List ℕ) → bytes ≡ (front ++ middle) ++ rest → IsBytes bytes → IsBytes middle
 IsBytes-between bytes front middle rest parts fits =
     IsBytes-back front middle (IsBytes-front (front ++ middle) rest (subst IsBytes parts fits))
 
 -- ---- readers
 
--- what a reader took from the front
+-- the prefix that a reader consumed
 pub record TakesFront (bytes front rest : List ℕ) : Type 0 where
   pub parts : bytes ≡ front ++ rest
   pub rest_fits : IsBytes rest
 
--- a reader and a spelling belong together: what is read is spelled so, and what is spelled so is read, whatever follows
+-- a reader and a format are inverse: a value that is read is written as the consumed bytes, and a
+-- written value is read, with any rest
 pub record IsField {A : Type 0} (read : List ℕ → Result (A × List ℕ) JuteFault) (spell : A → List ℕ) (Fits : A → Type 0) : Type 0 where
   pub takes : (bytes : List ℕ) (x : A × List ℕ) → IsBytes bytes → read bytes ≡ Ok x → TakesFront bytes (spell x.0) x.1 × Fits x.0
   pub again : (x : A) (rest : List ℕ) → Fits x → read (spell x ++ rest) ≡ Ok (x, rest)
@@ -54,7 +55,7 @@ pub record IsField {A : Type 0} (read : List ℕ → Result (A × List ℕ) Jute
 pub TakesFront-then : (a x b y c : List ℕ) → TakesFront a x b → TakesFront b y c → TakesFront a (x ++ y) c
 TakesFront-then a x b y c p q = record { parts = p.parts ∙ ap (λ (t : List ℕ). x ++ t) q.parts ∙ sym (append_assoc x y c); rest_fits = q.rest_fits }
 
--- what was taken with nothing left
+-- a reader that consumed everything
 pub took_all : (bytes front : List ℕ) → TakesFront bytes front [] → bytes ≡ front
 took_all bytes front took = took.parts ∙ append-nil front
 
@@ -63,7 +64,7 @@ pub bind_ok : {A B : Type 0} (r : Result A JuteFault) (f : A → Result B JuteFa
 bind_ok (Ok x) f y e = (x, refl, e)
 bind_ok (Err d) f y e = absurd cc
 
--- a field that was read first: its value, and that the rest was read behind it
+-- a field that was read first: its value, and that the rest was read after it
 pub record FirstRead {A B : Type 0} (spell : A → List ℕ) (Fits : A → Type 0) (bytes : List ℕ) (f : A × List ℕ → Result B JuteFault) (y : B) : Type 0 where
   pub got : A × List ℕ
   pub goes : f got ≡ Ok y
@@ -91,11 +92,11 @@ done x = Ok x
 pub ok_is : {A : Type 0} (x y : A) → done x ≡ done y → x ≡ y
 ok_is x y e = cc
 
--- what holds of the value that was made holds of the answer
+-- a property of the computed value holds for the result
 pub at_ok : {A : Type 0} (P : A → Type 0) (x y : A) → done x ≡ done y → P x → P y
 at_ok P x y e h = subst P (ok_is x y e) h
 
--- the same where a value is made of what was read
+-- the same for a value computed from what was read
 pub made_takes : {A B : Type 0} (read : List ℕ → Result (A × List ℕ) JuteFault) (spell : A → List ℕ) (Fits : A → Type 0) → IsField read spell Fits → (make : A → B) (bytes : List ℕ) (x : B × List ℕ) (P : B × List ℕ → Type 0) → IsBytes bytes → made_of make (read bytes) ≡ Ok x
     → ((y : A) (rest : List ℕ) → TakesFront bytes (spell y) rest → Fits y → P (make y, rest)) → P x
 made_takes {A} {B} read spell Fits field make bytes x P fits e holds =
@@ -103,21 +104,21 @@ made_takes {A} {B} read spell Fits field make bytes x P fits e holds =
     let made : B × List ℕ = (make a.got.0, a.got.1) in
     at_ok P made x a.goes (holds a.got.0 a.got.1 a.took a.fits)
 
--- what was read whole
+-- a value that was read with no rest
 pub whole_ok : {A : Type 0} (read : Result (A × List ℕ) JuteFault) (y : A) → whole read ≡ Ok y → read ≡ Ok (y, [])
 whole_ok {A} (Ok x) y e =
     let g = guard_ended (eqb (length x.1) 0) faults.Trailing x.0 y e in
     ap (λ (z : A). Ok (z, x.1)) g.1 ∙ ap (λ (r : List ℕ). Ok (y, r)) (nil_from_length x.1 (eqb-true _ _ g.0))
 whole_ok (Err fault) y e = absurd cc
 
--- one of two readers answered, by a test
+-- the result of one of two readers, by a test
 pub either : {A : Type 0} (b : Bool) (first second : Result A JuteFault) (x : A) (P : Type 0) → ((b ≡ true) → first ≡ Ok x → P) → (second ≡ Ok x → P) → cond b first second ≡ Ok x → P
 either true first second x P here there e = here refl e
 either false first second x P here there e = there e
 
 -- ---- numbers
 
--- a width whose bytes are known
+-- a width with a known number of bytes
 pub record IsWide (w : Width) (limit : ℕ) : Type 0 where
   pub len : (n : ℕ) → length (to_be_bytes w n) ≡ byte_len w
   pub back : (bytes : List ℕ) → length bytes ≡ byte_len w → IsBytes bytes → to_be_bytes w (from_be_bytes w bytes) ≡ bytes

@@ -1,4 +1,4 @@
--- Bodies by their types: what is read is spelled so, and what is spelled so is read.
+-- Bodies by their types: reading is the inverse of writing.
 use Rattle.std.proofs.Common.{◌≡◌, ℕ, ℤ, [], ◌∷◌, length, arith, length-append, Bool, Option, pos, negsuc, true, List, ◌++◌, Ok, refl, sym, ap, subst, ◌∙◌, append_assoc, lit<}
 use Rattle.std.specs.Prelude.{FitsSigned}
 use Rattle.std.specs.Int.{w32}
@@ -36,7 +36,7 @@ set_acl_takes bytes x fits e =
     let made : Op × List ℕ = (ops.SetAcl a.got.0 b.got.0 c.got.0, c.got.1) in
     at_ok (λ (y : Op × List ℕ). IsBody bytes (pos 7) y) made x c.goes (record { took = all; typed = refl {a = pos 7}; fits = (a.fits, b.fits, c.fits) })
 
--- a create that stands alone: with its count, or ended
+-- a create that occurs alone: with its count, or without
 ended_takes : (bytes : List ℕ) (front : CreateTxnV0) (left : List ℕ) (x : Op × List ℕ) → TakesFront bytes (front_txn front) left → IsFront front → ended_or_counted front left ≡ Ok x → IsBody bytes (pos 1) x
 unfolding ended_or_counted
 ended_takes bytes front [] x took is e = at_ok (λ (y : Op × List ℕ). IsBody bytes (pos 1) y) (old_create_op front, []) x e (record { took = took; typed = refl; fits = is })
@@ -72,12 +72,12 @@ op_takes kind bytes x fits e =
     (either _ _ _ x P (λ same h. at_kind kind (negsuc 10) bytes x same (at_ok (is_body bytes (negsuc 10)) (ops.CloseSession, bytes) x h (record { took = record { parts = refl; rest_fits = fits }; typed = refl; fits = tt })))
     (λ h. absurd (cc))))))))) e
 
--- ---- and again
+-- ---- reading what was written
 
 regroup3 : (a b c r : List ℕ) → ((a ++ b) ++ c) ++ r ≡ a ++ (b ++ (c ++ r))
 regroup3 a b c r = simp append_assoc
 
--- behind four bytes of a number a create is one with a count
+-- a create followed by the four bytes of a number is one with a count
 filled_again : (front : CreateTxnV0) (count : ℤ) (rest bytes : List ℕ) → bytes ≡ int count ++ rest → FitsSigned w32 count → ended_or_counted front bytes ≡ Ok (create_op (with_count front count), rest)
 unfolding ended_or_counted
 filled_again front count rest [] is fits = absurd (omega (arith, length-append (int count) rest, ap length is))
@@ -90,7 +90,7 @@ counted_again front count rest is fits =
     ap created_at (append_assoc (front_txn front) (int count) rest)
     ∙ rw (front_field.again front (int count ++ rest) is) (filled_again front count rest (int count ++ rest) refl fits)
 
--- a create of 3.3 is read where nothing follows
+-- a 3.3 create is read if nothing follows
 pub old_again : (path : List ℕ) (content : Option (List ℕ)) (acl : List Acl) (ephemeral : Bool) → IsCreateOld path content acl → op_at (pos 1) (create_old_body path content acl ephemeral) ≡ Ok (ops.CreateOld path content acl ephemeral, [])
 unfolding op_at created_at ended_or_counted
 old_again path content acl ephemeral is =

@@ -1,4 +1,4 @@
--- Parts of a multi: what is read is spelled so, and what is spelled so is read.
+-- Parts of a multi: reading is the inverse of writing.
 use Rattle.std.proofs.Common.{◌≡◌, ℕ, ℤ, pos, negsuc, true, List, [], ◌++◌, length, Ok, refl, sym, ap, subst, ◌∙◌, append_assoc, lit<}
 use Rattle.std.specs.Prelude.{FitsSigned}
 use Rattle.std.specs.Int.{w32}

@@ -1,4 +1,4 @@
--- Counts, texts, paths, contents and booleans: what is read is spelled so, and what is spelled so is read.
+-- Counts, texts, paths, contents and booleans: reading is the inverse of writing.
 use Rattle.std.proofs.Common.{◌≡◌, ℕ, zero, suc, ℤ, pos, negsuc, ◌^◌, ◌<◌, Bool, true, false, cond, List, [], ◌∷◌, ◌++◌, length, Option, Some, None, Ok, Err, refl, sym, ap, subst, ◌∙◌, append_assoc, lit<}
 use Rattle.std.specs.Prelude.{FitsSigned, is_none}
 use Rattle.std.specs.Int.{w32, w64}

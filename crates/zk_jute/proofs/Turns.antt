@@ -1,11 +1,11 @@
--- Reading elements one after the other, as a loop does.
+-- Reading elements in order, as a loop does.
 use Rattle.std.proofs.Common.{◌≡◌, ℕ, suc, ◌-◌, ◌+◌, ◌≤◌, ◌<◌, List, [], ◌∷◌, ◌++◌, Result, Ok, Err, refl, sym, ap, ◌∙◌, append_assoc, arith}
 use Rattle.std.proofs.lemmas.List.{append-nil}
 use Rattle.zk_jute.specs.declared.fault.JuteFault.{JuteFault}
 use Rattle.zk_jute.specs.declared.fault.JuteFault.TheVariants as faults
 use Rattle.zk_jute.specs.Reading.{◌>>=◌, Fails, many_at}
 
--- what was read before, and what is still read
+-- the elements read before, and those still to be read
 abbrev pub with_front : {A : Type 0} → List A → Result (List A × List ℕ) JuteFault → Result (List A × List ℕ) JuteFault
 with_front front read = read >>= λ x. Ok (front ++ x.0, x.1)
 

@@ -9,7 +9,7 @@ use Rattle.zk_jute.specs.Reading.{◌>>=◌, text_at, count_at, many_at, vector_
 use Rattle.zk_jute.proofs.Numbers.{IsBytes, TakesFront, TakesFront-then, IsField, first_read, bind_ok, ok_is, at_ok}
 use Rattle.zk_jute.proofs.Texts.{int_field, count, IsCount, count_field, text_field}
 
--- ---- so many elements
+-- ---- n elements
 
 pub many_take : {A : Type 0} (read : List ℕ → Result (A × List ℕ) JuteFault) (element : A → List ℕ) (Fits : A → Type 0) → IsField read element Fits → (n : ℕ) (bytes : List ℕ) (x : List A × List ℕ) → IsBytes bytes → many_at read n bytes ≡ Ok x → TakesFront bytes (flat_map element x.0) x.1 × (length x.0 ≡ n) × AllByRecursion Fits x.0
 unfolding many_at

@@ -1,4 +1,4 @@
--- What a record's reader tells of a path that is refused.
+-- The fault of a record's reader for each fault of a path.
 use Rattle.zk_jute.specs.declared.fault.JuteFault.{JuteFault}
 use Rattle.zk_jute.specs.declared.fault.JuteFault.TheVariants as faults
 use Rattle.zk_path.specs.declared.fault.PathFault.{PathFault}

@@ -22,7 +22,7 @@ fn acl(alloc: Global, input: &mut &[u8]) -> Result<Acl, JuteFault>
     })
 }
 
-/// So many entries.
+/// Reads `count` entries.
 fn entries(alloc: Global, count: u32, input: &mut &[u8]) -> Result<Acls, JuteFault>
     ensures { Takes result input.new.now (many_at acl_at count input.old.now) }
 {
@@ -33,8 +33,8 @@ fn entries(alloc: Global, count: u32, input: &mut &[u8]) -> Result<Acls, JuteFau
     Ok(Acls::new(alloc, entries)?)
 }
 
-/// A vector of `ACL`. Most vectors of a log are alike: where this one is `earlier`, its list shares the entries, and no
-/// memory is taken; any other is the earlier one from here on.
+/// A vector of `ACL`. Most lists in a log are equal: a list equal to `earlier` shares its entries
+/// without allocating. Any other list becomes `earlier`.
 #[tactic(auto, unfolding(crate::specs::Reading::vector_at))]
 pub fn acl_vector(
     alloc: Global,
@@ -52,7 +52,8 @@ pub fn acl_vector(
     Ok(read)
 }
 
-/// The earlier list, where it has so many entries and they stand next. Else the input stays.
+/// The earlier list, if it has `count` entries and they come next. Otherwise the input does not
+/// advance.
 fn the_earlier(earlier: &Option<Acls>, count: u32, input: &mut &[u8]) -> Option<Acls>
     ensures found { IfSome result (λ acls. many_at acl_at count input.old.now ≡ Ok (acls, input.new.now)) }
     ensures stays { IfNone result (input.new.now ≡ input.old.now) }
@@ -74,7 +75,7 @@ fn the_earlier(earlier: &Option<Acls>, count: u32, input: &mut &[u8]) -> Option<
     Some(shared)
 }
 
-/// Whether these entries stand next, one after the other.
+/// Whether these entries come next, in order.
 fn stand_next(entries: &[Acl], input: &mut &[u8]) -> bool
     ensures { IsTrue result → many_at acl_at (length entries.now) input.old.now ≡ Ok (entries.now, input.new.now) }
 {
@@ -86,7 +87,7 @@ fn stand_next(entries: &[Acl], input: &mut &[u8]) -> bool
     true
 }
 
-/// Whether an entry stands next.
+/// Whether an entry comes next.
 #[tactic(auto, unfolding(crate::specs::Reading::acl_at))]
 fn stands_next(entry: &Acl, input: &mut &[u8]) -> bool
     ensures { IsTrue result → acl_at input.old.now ≡ Ok (entry.now, input.new.now) }

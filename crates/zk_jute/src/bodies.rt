@@ -1,4 +1,4 @@
-//! The bodies that stand alone and as parts of a multi.
+//! The bodies that occur alone and as parts of a multi.
 
 ghost use Rattle.std.specs.Prelude.{◌≡◌};
 ghost use Rattle.zk_jute.specs.Reading.{Takes, front_at, create_at, created_at, set_data_at, create_op, old_create_op, set_data_op, create_part, set_data_part};
@@ -11,7 +11,7 @@ use zk_acl::Acls;
 use zk_path::Path;
 use zk_txn::{Content, Op, Sub};
 
-/// `CreateTxnV0`, and the front of `CreateTxn`.
+/// `CreateTxnV0`, the prefix of `CreateTxn`.
 #[derive(Debug, Drop)]
 pub struct CreateTxnV0 {
     pub path: Path,
@@ -21,7 +21,7 @@ pub struct CreateTxnV0 {
 }
 
 impl CreateTxnV0 {
-    /// The create of 3.3 that stands alone.
+    /// The 3.3 create, which occurs alone.
     pub fn into_op(self) -> Op
         ensures { result ≡ old_create_op self }
     {
@@ -44,12 +44,12 @@ impl CreateTxnV0 {
 #[derive(Debug, Drop)]
 pub struct CreateTxn {
     pub front: CreateTxnV0,
-    /// How many children the parent has been given after this one, or -1 where the table is to count.
+    /// How many children the parent has been given, including this one; -1 if the table counts.
     pub count: i32,
 }
 
 impl CreateTxn {
-    /// The create that stands alone.
+    /// The create that occurs alone.
     pub fn into_op(self) -> Op
         ensures { result ≡ create_op self }
     {
@@ -99,7 +99,7 @@ pub struct SetDataTxn {
 }
 
 impl SetDataTxn {
-    /// The operation that stands alone.
+    /// The operation that occurs alone.
     pub fn into_op(self) -> Op
         ensures { result ≡ set_data_op self }
     {
@@ -152,7 +152,7 @@ fn create_front(
     })
 }
 
-/// A create as a part of a multi, where its count is never left out.
+/// A create as a part of a multi, which always has a count.
 #[tactic(auto, unfolding(crate::specs::Reading::create_at))]
 pub fn create(
     alloc: Global,
@@ -166,7 +166,7 @@ pub fn create(
     Ok(CreateTxn { front, count })
 }
 
-/// A create that stands alone: one of 3.3 ends behind its boolean.
+/// A create that occurs alone; that of 3.3 ends after its boolean.
 #[tactic(auto, unfolding(crate::specs::Reading::created_at, crate::specs::Reading::ended_or_counted))]
 pub fn created(
     alloc: Global,
@@ -183,7 +183,7 @@ pub fn created(
     Ok(CreateTxn { front, count }.into_op())
 }
 
-/// `SetDataTxn`, read.
+/// `SetDataTxn`.
 #[tactic(auto, unfolding(crate::specs::Reading::set_data_at))]
 pub fn set_data(alloc: Global, input: &mut &[u8]) -> Result<SetDataTxn, JuteFault>
     ensures { Takes result input.new.now (set_data_at input.old.now) }

@@ -5,31 +5,31 @@ use std::alloc::{AllocError, AllocFailed};
 use thiserror::Error;
 use zk_path::{NoMemory, PathFault};
 
-/// Why bytes are no record: the first fault from the left.
+/// Why bytes are not a record: the first fault from the left.
 #[derive(Clone, Copy, Debug, PartialEq, Eq, Error)]
 pub enum JuteFault {
-    /// Too few bytes for a field, or for its stated length.
+    /// Too few bytes for a field, or for the length it states.
     #[error("J1")]
     Short,
-    /// A negative length or count; for a content, one below -1, which stands for null.
+    /// A negative length or count; for a content, one below -1, since -1 is null.
     #[error("J2")]
     Length,
-    /// A text that isn't UTF-8.
+    /// A text that is not UTF-8.
     #[error("J3")]
     Text,
     /// A boolean other than 0 and 1.
     #[error("J4")]
     Boolean,
-    /// A type that no operation has, or no part of a multi.
+    /// A type that is no operation's, or no part's.
     #[error("J5")]
     Kind,
     /// Bytes after the body, also in the buffer of a part of a multi.
     #[error("J6")]
     Trailing,
-    /// A text that is no path.
+    /// A text that is not a path.
     #[error("J7")]
     Path,
-    /// Memory was refused.
+    /// An allocation failed.
     #[error("J8")]
     NoMemory,
 }
@@ -58,7 +58,7 @@ impl<T: Drop> From<AllocFailed<T>> for JuteFault {
     }
 }
 
-/// A text that is no path, or want of memory.
+/// A text that is not a path, or an allocation failure.
 impl From<PathFault> for JuteFault {
     ghost use Rattle.zk_jute.specs.Faults.{fault_of_path};
 

@@ -1,4 +1,4 @@
-//! Fields of a record, each read from the front of the bytes that are left.
+//! Fields of a record, each read from the start of the remaining bytes.
 
 ghost use Rattle.std.specs.Int.{w32, w64};
 ghost use Rattle.zk_jute.specs.Reading.{Takes, TakesBy, number_at, bytes_at, count_at, counted_at, text_at, path_at, content_at, boolean_at};
@@ -33,7 +33,7 @@ pub fn count(input: &mut &[u8]) -> Result<u32, JuteFault>
     u32::try_from(count).map_err(|_| JuteFault::Length)
 }
 
-/// So many bytes.
+/// Reads `len` bytes.
 fn taken<'a>(input: &mut &'a [u8], len: usize) -> Result<&'a [u8], JuteFault>
     ensures { TakesBy (λ x. x.now) result input.new.now (bytes_at len input.old.now) }
 {
@@ -45,7 +45,7 @@ fn taken<'a>(input: &mut &'a [u8], len: usize) -> Result<&'a [u8], JuteFault>
     Ok(front)
 }
 
-/// A length, and that many bytes.
+/// A length, and that number of bytes.
 #[tactic(auto, unfolding(crate::specs::Reading::counted_at))]
 pub fn counted<'a>(input: &mut &'a [u8]) -> Result<&'a [u8], JuteFault>
     ensures { TakesBy (λ x. x.now) result input.new.now (counted_at input.old.now) }
@@ -54,7 +54,7 @@ pub fn counted<'a>(input: &mut &'a [u8]) -> Result<&'a [u8], JuteFault>
     taken(input, len as usize)
 }
 
-/// A `ustring`, lent.
+/// A `ustring`, borrowed.
 #[tactic(auto, using(crate::proofs::Texts::is_text, crate::proofs::Texts::is_no_text), unfolding(crate::specs::Reading::text_at))]
 pub fn utf8<'a>(input: &mut &'a [u8]) -> Result<&'a str, JuteFault>
     ensures { TakesBy (λ x. x.now) result input.new.now (text_at input.old.now) }
@@ -80,7 +80,7 @@ pub fn path(alloc: Global, input: &mut &[u8]) -> Result<Path, JuteFault>
     Ok(Path::read(alloc, text)?)
 }
 
-/// A `buffer`, whose length -1 stands for null.
+/// A `buffer`, whose length is -1 for null.
 #[tactic(auto, unfolding(crate::specs::Reading::content_at))]
 pub fn content(alloc: Global, input: &mut &[u8]) -> Result<Option<Content>, JuteFault>
     ensures { Takes result input.new.now (content_at input.old.now) }

@@ -1,11 +1,13 @@
-//! Laws of records: the contract of a function that does nothing.
+//! Laws of records: a function without code, whose contract is a theorem.
 
 ghost use Rattle.zk_jute.specs.Laws.{OnlyOldCreatesBeginOthers, RecordsAreOfOne};
 
-/// Bytes are the record of one transaction at most, and only a create of 3.3 begins another record.
+/// No bytes are the records of two transactions, and only the record of a 3.3 create is a prefix of
+/// another record.
 pub fn only_old_creates_begin_others()
-    // Where one record is a proper prefix of another, the shorter is a create of 3.3, and the longer is it with four bytes more.
+    // If one record is a proper prefix of another, the shorter is a 3.3 create, and the longer is
+    // the same with four more bytes.
     ensures begins { OnlyOldCreatesBeginOthers }
-    // Bytes are the record of one transaction at most.
+    // No bytes are the records of two transactions.
     ensures one { RecordsAreOfOne }
 {}

@@ -1,7 +1,7 @@
-//! The records of a log as transactions: how they are read. What a record is and how it is written stands in `zk_records`.
+//! Reading the records of a log as transactions. `zk_records` defines and writes records.
 //!
-//! `zookeeper.jute`, modules `org.apache.zookeeper.data` and `org.apache.zookeeper.txn`; the encoding is Jute's binary
-//! one.
+//! `zookeeper.jute`, modules `org.apache.zookeeper.data` and `org.apache.zookeeper.txn`; the
+//! encoding is Jute's binary one.
 #![tactic(auto)]
 
 pub mod acls;

@@ -10,7 +10,7 @@ use zk_acl::Acls;
 use zk_records::kinds;
 use zk_txn::{Sub, Subs};
 
-/// What a part does.
+/// The operation of a part.
 #[derive(Clone, Copy, Debug)]
 pub(crate) enum PartKind {
     Create,
@@ -79,7 +79,7 @@ fn part(alloc: Global, earlier: &mut Option<Acls>, input: &mut &[u8]) -> Result<
     Ok(part)
 }
 
-/// So many parts.
+/// Reads `count` parts.
 fn some_parts(
     alloc: Global,
     earlier: &mut Option<Acls>,

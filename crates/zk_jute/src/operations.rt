@@ -23,7 +23,7 @@ fn set_acl(alloc: Global, earlier: &mut Option<Acls>, input: &mut &[u8]) -> Resu
     Ok(Op::SetAcl { path, acl, version })
 }
 
-/// The body of a type of operation.
+/// The body for a type.
 #[tactic(auto, unfolding(crate::specs::Reading::op_at))]
 pub fn op(
     alloc: Global,

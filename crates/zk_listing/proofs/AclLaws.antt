@@ -1,4 +1,4 @@
--- Elements one behind the other, and access control lists.
+-- Elements in order, and access control lists.
 use Rattle.std.proofs.Common.{◌≡◌, ℕ, zero, suc, ℤ, pos, negsuc, ◌^◌, ◌<◌, List, [], ◌∷◌, ◌++◌, length, Option, Some, None, refl, sym, ap, subst, ◌∙◌, append_assoc, arith}
 use Rattle.std.specs.Prelude.{FitsSigned}
 use Rattle.std.specs.Fmt.{decimal, signed_decimal}
@@ -7,8 +7,8 @@ use Rattle.std.specs.List.{AllByRecursion, flat_map}
 use Rattle.std.specs.Option.{option_and_then}
 use Rattle.std.specs.Str.{IsUtf8}
 use Rattle.zk_acl.specs.declared.acl.Acl.{Acl}
-use Rattle.zk_spelling.specs.Spelling.{quoted, acl_entry_text, acl_text}
-use Rattle.zk_spelling.specs.Listings.{IsListedAcl, AreListedAcls}
+use Rattle.zk_format.specs.Spelling.{quoted, acl_entry_text, acl_text}
+use Rattle.zk_format.specs.Listings.{IsListedAcl, AreListedAcls}
 use Rattle.zk_listing.specs.Reading.{IsEnd, behind, both, spaced, int_at, quoted_at, count_of, count_at, many_at, entry_of, entry_at, acl_at, int_from}
 use Rattle.zk_listing.proofs.Exact.{IsExact, bind_some, first_is, second_is, some_is, exact_field, exact_spaced, exact_both, exact_mapped}
 use Rattle.zk_listing.proofs.DecimalLaws.{int_field, IsNarrow, narrow32}
@@ -21,9 +21,9 @@ int_exact w narrow =
     let f = exact_field signed_decimal (FitsSigned w) (int_from w) (int_field w narrow) in
     record { takes = λ bytes x rest h. f.takes bytes x rest h; again = λ x rest fits e. f.again x rest fits e }
 
--- ---- elements one behind the other
+-- ---- elements in order
 
--- an element begins with what may end a field
+-- an element starts with a byte that may end a field
 abbrev pub BeginsWithEnd : {X : Type 0} → (X → List ℕ) → Type 0
 BeginsWithEnd {X} spell = (x : X) (rest : List ℕ) → IsEnd (spell x ++ rest)
 

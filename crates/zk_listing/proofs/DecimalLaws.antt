@@ -1,4 +1,4 @@
--- Decimals: what spells a number, and what parsing makes of it.
+-- Decimals: their texts, and the result of parsing.
 use Rattle.std.proofs.Common.{◌≡◌, ℕ, zero, suc, ℤ, pos, negsuc, neg_ℤ, ◌^◌, ◌<◌, ◌≤◌, Bool, true, false, cond, eqb, ◌&&◌, List, [], ◌∷◌, length, get_or, Some, None, Result, Ok, Err, refl, sym, ap, subst, ◌∙◌, arith, inl, inr, lit<, lit≤}
 use Rattle.std.specs.Prelude.{FitsSigned}
 use Rattle.std.specs.Fmt.{decimal, signed_decimal}
@@ -45,7 +45,7 @@ is_decimal n small =
     let numeral = decimal_is_IsNumeral n small in
     decimal_from n (decimal n) refl numeral.0 numeral.1 (λ h. first_decimal n h small)
 
--- ---- spellings begin plainly
+-- ---- texts without plus sign or leading zero
 
 nonzero_digit : (b : ℕ) → 48 < b → b ≤ 57 → is_nonzero_digit b ≡ true
 nonzero_digit b low high = grind (arith, nat_tests)
@@ -63,7 +63,7 @@ is_plain-signed_decimal (negsuc n) small =
     let d = is_decimal (suc n) (omega arith) in
     rw d.2.spelled (nonzero_digit d.0 (d.2.nonzero (omega arith)) d.2.high)
 
--- ---- the number that a spelling has
+-- ---- the number of a text
 
 plus_digits : (first : ℕ) (rest : List ℕ) → 48 ≤ first → signed_digits_value 10 (first ∷ rest) ≡ pos (digits_value 10 (first ∷ rest))
 plus_digits first rest low =
@@ -87,7 +87,7 @@ numeral-signed_decimal (pos n) small =
     rw (d.2.spelled, not_minus, not_plus) (omega arith, d.2.digits)
 numeral-signed_decimal (negsuc n) small = (decimal_is_IsNumeral (suc n) (omega arith)).0
 
--- ---- what begins plainly and parses is spelled so
+-- ---- a text without plus sign or leading zero is that of its number
 
 digits_spelled : (b : ℕ) (rest : List ℕ) → AllDigits 10 (b ∷ rest) → (b ≡ 48 → rest ≡ []) → digits_value 10 (b ∷ rest) < 2 ^ 64 → decimal (digits_value 10 (b ∷ rest)) ≡ b ∷ rest
 digits_spelled b rest digits alone small = decimal-digits_value own (b ∷ rest) digits (omega arith) (λ e. ap (λ xs. length (b ∷ xs)) (alone e)) small
@@ -137,7 +137,7 @@ plain_spelled (b ∷ c ∷ rest) plain numeral small =
     mag_of_minus zero h = omega arith
     mag_of_minus (suc n) h = omega arith
 
--- ---- the reading of a field
+-- ---- reading a field
 
 -- a test that fails
 pub none_unless : {A : Type 0} (b : Bool) (x : A) → (b ≡ true → ⊥) → cond b (Some x) None ≡ None
@@ -182,7 +182,7 @@ int_from-parsed w narrow field (Err e) plain parsed =
     let numeral : IsNumeral 10 (without_leading_sign field) = subst (λ (f : List ℕ). IsNumeral 10 (without_leading_sign f)) same (numeral-signed_decimal z (omega (arith, narrow.narrow))) in
     parsed (numeral, record { sfits = fits })))
 
--- digits end no field
+-- digits do not end a field
 no_end_digits : (ds : List ℕ) → AllDigits 10 ds → AllByRecursion (λ b. is_end b ≡ false) ds
 no_end_digits [] h = tt
 no_end_digits (d ∷ ds) h =

@@ -1,4 +1,5 @@
--- A reading is exact: what it reads is spelled so, and what is spelled so it reads, where a field may end behind it.
+-- A reading is exact: a value that is read is written as the text it consumed, and a written value
+-- is read, if a field may end after it.
 use Rattle.std.proofs.Common.{◌≡◌, ℕ, true, false, cond, eqb, List, [], ◌∷◌, ◌++◌, Option, Some, None, refl, ap, sym, ◌∙◌, subst, append_assoc, arith}
 use Rattle.std.proofs.lemmas.Bool.Decides.{nat_tests}
 use Rattle.std.proofs.lemmas.Option.{cond_some}
@@ -10,7 +11,7 @@ pub record IsExact {X : Type 0} (spell : X → List ℕ) (Fits : X → Type 0) (
   pub takes : (bytes : List ℕ) (x : X) (rest : List ℕ) → at bytes ≡ Some (x, rest) → Fits x × (bytes ≡ spell x ++ rest)
   pub again : (x : X) (rest : List ℕ) → Fits x → IsEnd rest → at (spell x ++ rest) ≡ Some (x, rest)
 
--- the same of a value that one field spells
+-- the same for a value in one field
 pub record IsExactField {X : Type 0} (spell : X → List ℕ) (Fits : X → Type 0) (from : List ℕ → Option X) : Type 0 where
   pub takes : (field : List ℕ) (x : X) → from field ≡ Some x → Fits x × (field ≡ spell x)
   pub again : (x : X) → Fits x → from (spell x) ≡ Some x
@@ -85,7 +86,7 @@ exact_field {X} spell Fits from f = record {
       rw (front_again (spell x) rest plain e, back_again (spell x) rest plain e, f.again x fits) refl;
 }
 
--- ---- values one behind the other
+-- ---- values in order
 
 pub exact_spaced : {X : Type 0} (spell : X → List ℕ) (Fits : X → Type 0) (at : List ℕ → Option (X × List ℕ)) → IsExact spell Fits at → IsExact (λ x. 32 ∷ spell x) Fits (spaced at)
 exact_spaced {X} spell Fits at f = record {

@@ -41,7 +41,7 @@ position-unwrap_or bytes =
       | inr ge ↦ rw (le-ltb n (length bytes) ge) (omega arith)
     ]
 
--- an end is a byte of ASCII
+-- an end is an ASCII byte
 end_small-cons : (b : ℕ) (bs : List ℕ) (v : Bool) → is_end b ≡ v → (position_or_len is_end bs < length bs → get_or bs (position_or_len is_end bs) 0 < 128) → position_or_len is_end (b ∷ bs) < length (b ∷ bs) → get_or (b ∷ bs) (position_or_len is_end (b ∷ bs)) 0 < 128
 end_small-cons b bs true e rest h = rw e (grind (arith, nat_tests))
 end_small-cons b bs false e rest h =

@@ -1,4 +1,4 @@
--- Lower-case hexadecimal digits: what decodes and has no capital is spelled so.
+-- Lower-case hexadecimal digits: a text that decodes and has no capital is that of its bytes.
 use Rattle.std.proofs.Common.{◌≡◌, ℕ, zero, suc, ℤ, ◌+◌, ◌*◌, ◌/◌, ◌%◌, ◌^◌, ◌<◌, Bool, true, false, cond, ltb, ◌||◌, List, [], ◌∷◌, Option, Some, None, Result, Ok, Err, refl, sym, ap, subst, ◌∙◌, arith}
 use Rattle.std.specs.Prelude.{FitsSigned, slice_index}
 use Rattle.std.specs.Char.{is_ascii_uppercase}
@@ -13,13 +13,13 @@ use Rattle.hex.specs.Hex.{IsBytes, decode_of, decode_sized, decode_pairs, pair_v
 use Rattle.hex.specs.declared.error.FromHexError.{FromHexError}
 use Rattle.hex.specs.declared.error.FromHexError.TheVariants.{InvalidHexCharacter, OddLength}
 use Rattle.hex.proofs.HexLemmas.{decode_of-even, decode_of-ok, decode_of-encode_lower, decode_sized-ok, decode_sized-twice, decode_sized-encode_lower}
-use Rattle.zk_spelling.specs.Spelling.{id_digits, sixteen_digits, content_text}
-use Rattle.zk_spelling.specs.Listings.{IsListedContent}
+use Rattle.zk_format.specs.Spelling.{id_digits, sixteen_digits, content_text}
+use Rattle.zk_format.specs.Listings.{IsListedContent}
 use Rattle.zk_listing.specs.Reading.{id_from, id_of_bytes, content_from, content_of_bytes, content_of_digits, is_end, past}
 use Rattle.std.specs.Option.{option_and_then}
 use Rattle.std.specs.Str.{bytes_eq}
 use Rattle.std.proofs.lemmas.Slice.Eq.{bytes_eq-Decides}
-use Rattle.zk_spelling.proofs.HexBytes.{IsBytes-tail, IsBytes-all, all-IsBytes}
+use Rattle.zk_format.proofs.HexBytes.{IsBytes-tail, IsBytes-all, all-IsBytes}
 use Rattle.zk_listing.proofs.Exact.{IsExactField, some_is, bind_some, past_is}
 
 -- ---- digits

@@ -1,4 +1,4 @@
--- What stands between quotes, character by character.
+-- The text between quotes, character by character.
 use Rattle.std.proofs.Common.{◌≡◌, ◌≢◌, ℕ, zero, suc, ◌+◌, ◌≤◌, ◌<◌, Bool, true, false, cond, eqb, ltb, ◌||◌, ◌&&◌, List, [], ◌∷◌, ◌++◌, length, Option, Some, None, refl, sym, ap, subst, ◌∙◌, append_assoc, length-append, arith, inl, inr}
 use Rattle.std.specs.Char.{is_ascii_control}
 use Rattle.std.specs.List.{position_or_len, before_first, after_first}
@@ -13,9 +13,9 @@ use Rattle.zk_listing.specs.Reading.{inside_at, inside, escape_at, braced_at, co
 use Rattle.zk_listing.specs.declared.fault.ListCause.{ListCause}
 use Rattle.zk_listing.specs.declared.fault.ListCause.TheVariants as causes
 use Rattle.zk_listing.proofs.Exact.{bind_some, past_is, first_is, second_is, some_is}
-use Rattle.zk_spelling.proofs.QuotedBytes.{AllHigh, encode_high}
+use Rattle.zk_format.proofs.QuotedBytes.{AllHigh, encode_high}
 
--- ---- putting in front
+-- ---- prepending
 
 pub behind-nil : {X : Type 0} (read : Option (List X × List ℕ)) → behind [] read ≡ read
 behind-nil None = refl
@@ -30,14 +30,14 @@ behind-behind xs ys (Some x) = ap (λ zs. Some (zs, x.1)) (sym (append_assoc xs 
 one_byte : (bytes rest : List ℕ) (c : ℕ) → bytes ≡ encode c ++ rest → c < 128 → bytes ≡ c ∷ rest
 one_byte bytes rest c e small = e ∙ ap (λ xs. xs ++ rest) (encode_ascii c small)
 
--- a text that begins with a character that is none of ASCII
+-- a text that starts with a character outside ASCII
 first_byte : (xs rest : List ℕ) → AllHigh xs → 0 < length xs → (b : ℕ) × (bs : List ℕ) × (128 ≤ b) × (xs ++ rest ≡ b ∷ bs)
 first_byte [] rest h long = absurd (omega arith)
 first_byte (b ∷ bs) rest h long = (b, bs ++ rest, h.0, refl)
 
 -- ---- escapes
 
--- a byte that is none of the three
+-- a byte other than the three
 escape_other_byte : (b : ℕ) (bs : List ℕ) → b ≢ 34 → b ≢ 92 → b ≢ 117 → escape_at (b ∷ bs) ≡ None
 unfolding escape_at
 escape_other_byte b bs no_quote no_slash no_u =
@@ -74,7 +74,7 @@ escape_other bytes rest c e no_quote no_slash no_u =
     omega_ne : {b : ℕ} (k : ℕ) → 128 ≤ b → k < 128 → b ≢ k
     omega_ne k high small same = omega arith
 
--- what is left behind an escape is shorter, and the character is one of ASCII
+-- the rest after an escape is shorter, and the character is ASCII
 digit_small : (d v : ℕ) → lower_digit d ≡ Some v → v < 16
 digit_small d v h = grind (arith)
 
@@ -138,13 +138,13 @@ escape_short (b ∷ bs) x h = escape_by (eqb b 34 || eqb b 92) refl h
         u_by true h = let short = braced_short bs x h in record { shorter = omega (arith, short.shorter); ascii = short.ascii }
         u_by false h = absurd (let bad : None ≡ Some x = h in cc)
 
--- ---- what stands inside
+-- ---- the text inside
 
 same_escape : (n m : ℕ) (bytes : List ℕ) (x : Option (ℕ × List ℕ)) → escape_at bytes ≡ x → ((rest : List ℕ) → length rest < length bytes → inside_at n rest ≡ inside_at m rest) → option_and_then (λ c. behind (c.0 ∷ []) (inside_at n c.1)) x ≡ option_and_then (λ c. behind (c.0 ∷ []) (inside_at m c.1)) x
 same_escape n m bytes None e same = refl
 same_escape n m bytes (Some c) e same = ap (behind (c.0 ∷ [])) (same c.1 (escape_short bytes c e).shorter)
 
--- more turns than bytes change nothing
+-- more iterations than bytes change nothing
 pub inside_more : (n m : ℕ) (bytes : List ℕ) → length bytes ≤ n → length bytes ≤ m → inside_at n bytes ≡ inside_at m bytes
 unfolding inside_at
 inside_more zero zero bytes h k = refl
@@ -170,7 +170,7 @@ pub inside_bad_escape : (bytes middle : List ℕ) → bytes ≡ encode 92 ++ mid
 unfolding inside_at
 inside_bad_escape bytes middle e h = rw (one_byte bytes middle 92 e (omega arith), h) refl
 
--- what a character that was read leaves
+-- the rest after a character
 pub record IsStep (bytes rest : List ℕ) (c : ℕ) : Type 0 where
   pub shorter : length rest < length bytes
   pub same : inside bytes ≡ behind (encode c) (inside rest)

@@ -13,8 +13,8 @@ use Rattle.zk_listing.specs.declared.fault.ListCause.TheVariants as causes
 use Rattle.zk_listing.specs.Promises.{BeginsWithNoLine, ReadsLine, AddsLine, BeginsWithListing, IsFirstFault}
 use Rattle.zk_txn.specs.declared.txn.Txn.{Txn}
 use Rattle.zk_txn.specs.declared.txn.Op.{Op}
-use Rattle.zk_spelling.specs.Spelling.{id_digits}
-use Rattle.zk_spelling.specs.Listings.{op_text, header_text, line_of, listing_of, IsListed}
+use Rattle.zk_format.specs.Spelling.{id_digits}
+use Rattle.zk_format.specs.Listings.{op_text, header_text, line_of, listing_of, IsListed}
 use Rattle.zk_listing.specs.Reading.{both, spaced, past, int_at, id_at, id_from, op_at, Takes, Header, header_at, txn_of, txn_at}
 use Rattle.zk_listing.proofs.Exact.{IsExact, bind_some, past_is, first_is, second_is, exact_field, exact_spaced, exact_both}
 use Rattle.zk_listing.proofs.DecimalLaws.{narrow32, narrow64}
@@ -50,7 +50,7 @@ header_exact =
 regroup4 : (a b c d e : List ℕ) → (a ++ (b ++ (c ++ d))) ++ e ≡ (((a ++ b) ++ c) ++ d) ++ e
 regroup4 a b c d e = simp append_assoc
 
--- the parts of a line, one behind the other
+-- the parts of a line in order
 line_parts : (t : Txn) (rest : List ℕ) → line_of t ++ rest ≡ header_fields (t.zxid, (t.session, (t.cxid, t.time))) ++ 32 ∷ (op_text t.op ++ 10 ∷ rest)
 line_parts t rest =
     let h = header_text t in
@@ -88,7 +88,7 @@ txn_again t rest listed =
     let first = header_exact.again header after (listed.zxid, (listed.session, (listed.cxid, listed.time))) refl in
     rw (line_parts t rest, first, op_at_again t.op rest listed.op) refl
 
--- ---- lines in front
+-- ---- lines at the start
 
 pub line_answers : (r : Result Txn ListCause) (old new : List ℕ) → Takes r new (txn_at old) → ReadsLine r old new
 line_answers (Ok t) old new h = let line = txn_takes old t new h in (line.listed, line.spelled)
@@ -149,7 +149,7 @@ same_listing (u ∷ us) (t ∷ ts) us_listed ts_listed e =
     let others = same_listing us ts us_listed.1 ts_listed.1 same.1 in
     cc
 
--- what a refused line says of the whole text
+-- what a faulty line implies for the whole text
 pub only_memory : (cause : ListCause) (text : List ℕ) (txns more : List Txn) (old new : List ℕ) → BeginsWithListing text txns old → old ≢ [] → AddsLine (Err cause) txns more old new → (ts : List Txn) → AllByRecursion IsListed ts → text ≡ listing_of ts → cause ≡ causes.NoMemory
 only_memory causes.NoMemory text txns more old new begins filled none ts listed e = refl
 only_memory cause text txns more old new begins filled none ts listed e = absurd (no_listing txns old ts begins.listed listed filled none (sym begins.spelled ∙ e))
@@ -164,7 +164,7 @@ whole_listing text txns begins = begins.spelled ∙ append-nil (listing_of txns)
 pub only_listing : (text : List ℕ) (txns : List Txn) → BeginsWithListing text txns [] → (ts : List Txn) → AllByRecursion IsListed ts → text ≡ listing_of ts → txns ≡ ts
 only_listing text txns begins ts listed e = same_listing txns ts begins.listed listed (sym (whole_listing text txns begins) ∙ e)
 
--- each transaction has a byte at least, so their number is one of 64 bits
+-- each transaction has at least one byte, so their number fits 64 bits
 pub fewer_than_bytes : (text : List ℕ) (txns : List Txn) (rest : List ℕ) → BeginsWithListing text txns rest → length txns + length rest ≤ length text
 fewer_than_bytes text txns rest begins = omega (arith, ap length begins.spelled, length-append (listing_of txns) rest, listing_long txns)
   where

@@ -15,8 +15,8 @@ use Rattle.zk_listing.specs.declared.ops.Written.{Written}
 use Rattle.zk_listing.specs.declared.ops.Word.{Word}
 use Rattle.zk_listing.specs.declared.ops.Word.TheVariants as words
 use Rattle.zk_listing.specs.declared.fault.ListCause.{ListCause}
-use Rattle.zk_spelling.specs.Spelling.{quoted, content_text, acl_text}
-use Rattle.zk_spelling.specs.Listings.{ephemeral_text, sub_text, part_text, op_text, IsListedPath, IsListedContent, AreListedAcls, IsListedSub, IsListedOp}
+use Rattle.zk_format.specs.Spelling.{quoted, content_text, acl_text}
+use Rattle.zk_format.specs.Listings.{ephemeral_text, sub_text, part_text, op_text, IsListedPath, IsListedContent, AreListedAcls, IsListedSub, IsListedOp}
 use Rattle.zk_listing.specs.Reading.{IsEnd, behind, both, spaced, mapped, of_field, int_at, path_at, content_at, content_from, acl_at, ephemeral_at, ephemeral_from, word_at, word_from, semicolon_from, created_of, create_at, create_old_op_at, written_of, set_data_at, set_acl_op_at, check_at, sub_created, sub_written, sub_by, sub_at, part_at, begins_with_space, parts_at, parts_in, op_created, op_written, op_by, op_at, Fails}
 use Rattle.zk_listing.proofs.Exact.{IsExact, bind_some, first_is, second_is, exact_field, exact_spaced, exact_both, exact_mapped}
 use Rattle.zk_listing.proofs.DecimalLaws.{narrow32}
@@ -26,7 +26,7 @@ use Rattle.zk_listing.proofs.InsideQuotes.{Fails-then}
 use Rattle.zk_listing.proofs.WordLaws.{word_text, word_field, ephemeral_field, semicolon_text, semicolon_field, Always}
 use Rattle.zk_listing.proofs.AclLaws.{int_exact, acl_exact, AreTaken, taken_first, none_taken, end_of_many, BeginsWithEnd}
 
--- ---- fields behind a space
+-- ---- fields after a space
 
 abbrev Spaced : {X : Type 0} → (X → List ℕ) → X → List ℕ
 Spaced text x = 32 ∷ text x
@@ -124,9 +124,9 @@ old_texts a b c d rest = simp append_assoc
 check_fields : IsExact {X = List ℕ × ℤ} (λ x. (32 ∷ quoted x.0) ++ (32 ∷ signed_decimal x.1)) (λ x. IsListedPath x.0 × FitsSigned w32 x.1) (both (spaced path_at) (spaced (int_at w32)))
 check_fields = exact_both (λ (x : List ℕ). 32 ∷ quoted x) IsListedPath (spaced path_at) (λ (x : ℤ). 32 ∷ signed_decimal x) (FitsSigned w32) (spaced (int_at w32)) spaced_path_exact spaced_int_exact (λ y rest. refl)
 
--- ---- behind a word
+-- ---- after a word
 
--- what is read behind a word, with the word, spells what it makes
+-- a value read after a word, and the text of the word and the value
 pub record IsMade {Y : Type 0} (text : Y → List ℕ) (Fits : Y → Type 0) (word : Word) (bytes : List ℕ) (y : Y) (rest : List ℕ) : Type 0 where
   pub fits : Fits y
   pub spelled : word_text word ++ bytes ≡ text y ++ rest
@@ -167,7 +167,7 @@ sub_by_again_fields s F at to f x rest fits e = rw (f.again x rest fits e) refl
 op_by_again_fields : {X : Type 0} (s : X → List ℕ) (F : X → Type 0) (at : List ℕ → Option (X × List ℕ)) (to : X → Op) → IsExact s F at → (x : X) (rest : List ℕ) → F x → IsEnd rest → mapped to at (s x ++ rest) ≡ Some (to x, rest)
 op_by_again_fields s F at to f x rest fits e = rw (f.again x rest fits e) refl
 
--- a space, a word and what it says of the bytes behind it
+-- a space, a word, and the bytes after it
 sub_after_word : (word : Word) (behind_it bytes : List ℕ) (y : Sub) (rest : List ℕ) → IsEnd behind_it → sub_by word behind_it ≡ Some (y, rest) → bytes ≡ 32 ∷ (word_text word ++ behind_it) → sub_at bytes ≡ Some (y, rest)
 unfolding sub_at
 sub_after_word word behind_it bytes y rest e h spelled = rw (spelled, word_exact.again word behind_it tt e) h
@@ -199,7 +199,7 @@ sub_at_takes bytes y rest h =
 
 -- ---- parts
 
--- the first byte tells whether a space begins a text; an empty text gives 0 for it
+-- the first byte, 0 for an empty text, shows whether a text starts with a space
 pub begins_first : (text : List ℕ) → begins_with_space text ≡ eqb (get_or text 0 0) 32
 begins_first [] = refl
 begins_first (b ∷ bs) = refl
@@ -228,7 +228,7 @@ same_part : (n m : ℕ) (bytes : List ℕ) (x : Option (Sub × List ℕ)) → pa
 same_part n m bytes None e same = refl
 same_part n m bytes (Some y) e same = ap (behind (y.0 ∷ [])) (same y.1 (part_shorter bytes y.0 y.1 e))
 
--- more turns than bytes change nothing
+-- more iterations than bytes change nothing
 pub parts_more : (n m : ℕ) (bytes : List ℕ) → length bytes ≤ n → length bytes ≤ m → parts_at n bytes ≡ parts_at m bytes
 unfolding parts_at
 parts_more zero zero bytes h k = refl
@@ -341,7 +341,7 @@ op_after_word : (word : Word) (behind_it bytes : List ℕ) (y : Op) (rest : List
 unfolding op_at
 op_after_word word behind_it bytes y rest e h spelled = rw (spelled, word_exact.again word behind_it tt e) h
 
--- an operation is read again where its line ends
+-- an operation is read back if its line ends there
 pub op_at_again : (y : Op) (more : List ℕ) → IsListedOp y → op_at (op_text y ++ 10 ∷ more) ≡ Some (y, 10 ∷ more)
 unfolding op_by set_acl_op_at create_old_op_at
 op_at_again (op.Create path content acl ephemeral count) more fits =

@@ -1,4 +1,4 @@
--- Quoted texts and paths: what is read between quotes is spelled so.
+-- Quoted texts and paths: what is read between quotes is written so.
 use Rattle.std.proofs.Common.{◌≡◌, ℕ, zero, suc, ◌+◌, ◌/◌, ◌%◌, ◌≤◌, ◌<◌, Bool, true, false, cond, eqb, ltb, ◌||◌, ◌&&◌, List, [], ◌∷◌, ◌++◌, length, get_or, drop, Option, Some, None, Result, Ok, Err, refl, sym, ap, subst, ◌∙◌, append_assoc, length-append, arith, inl, inr, lit<, lit≤, String}
 use Rattle.std.specs.Prelude.{codes}
 use Rattle.std.specs.Char.{is_ascii_control}
@@ -7,7 +7,7 @@ use Rattle.std.specs.List.{position_or_len, before_first, after_first, flat_map,
 use Rattle.std.specs.Option.{option_and_then, is_none}
 use Rattle.zk_path.specs.Paths.{IsPath, fault_of}
 use Rattle.zk_path.proofs.FaultLaw.{IsPath-from_fault, fault_of-IsPath}
-use Rattle.zk_spelling.specs.Listings.{IsListedPath}
+use Rattle.zk_format.specs.Listings.{IsListedPath}
 use Rattle.std.specs.Str.{IsUtf8, is_utf8}
 use Rattle.std.specs.String.{string_bytes}
 use Rattle.std.proofs.lemmas.Bool.{cases_eq, cases_lt, ltb-true, lt-ltb, eqb-true, false≢true}
@@ -17,12 +17,12 @@ use Rattle.std.proofs.lemmas.List.{take_at, drop_at}
 use Rattle.std.proofs.lemmas.List.Sums.{split_at_first, passes_at_first}
 use Rattle.std.proofs.lemmas.Option.{cond_some}
 use Rattle.std.proofs.lemmas.Str.{IsUtf8-string_bytes, is_utf8-from_IsUtf8, IsUtf8-from_is_utf8}
-use Rattle.zk_spelling.specs.Spelling.{quoted}
+use Rattle.zk_format.specs.Spelling.{quoted}
 use Rattle.zk_listing.specs.Reading.{inside_at, inside, escape_at, braced_at, control_at, control_from, lower_digit, is_brace, past, behind, quoted_at, path_at, path_from, TakesBy}
 use Rattle.zk_listing.specs.declared.fault.ListCause.{ListCause}
 use Rattle.zk_listing.proofs.Exact.{IsExact, bind_some, past_is, first_is, second_is, some_is}
 use Rattle.zk_listing.proofs.InsideQuotes.{Fails-then}
-use Rattle.zk_spelling.proofs.QuotedBytes.{escaped_byte, quoted_bytes}
+use Rattle.zk_format.proofs.QuotedBytes.{escaped_byte, quoted_bytes}
 
 -- ---- the reader of quoted texts
 
@@ -61,7 +61,7 @@ digit_again (suc (suc (suc (suc (suc (suc (suc (suc (suc (suc (suc (suc (suc (su
 digit_takes : (x d : ℕ) → lower_digit x ≡ Some d → (d < 16) × (x ≡ digit_glyph false d)
 digit_takes x d h = (grind (arith), grind (arith, nat_tests))
 
--- a character that is spelled by its number, and the digits of that number
+-- a character that is written as its number, and the digits of that number
 pub record IsControlSpelled (digits_of_it : List ℕ) (c : ℕ) : Type 0 where
   pub control : is_ascii_control c ≡ true
   pub spelled : digits_of_it ≡ digits 16 false c
@@ -176,7 +176,7 @@ control_at_takes bytes x h = control_by (ltb (position_or_len is_brace bytes) (l
         (subst (λ (c : ℕ). is_ascii_control c ≡ true) value spelled.control, whole ∙ ap (λ (c : ℕ). digits 16 false c ++ 125 ∷ after_first is_brace bytes) value ∙ ap (λ (r : List ℕ). digits 16 false x.0 ++ 125 ∷ r) left)
     control_by false e h = absurd (let bad : None ≡ Some x = h in cc)
 
--- what stands behind a backslash, with the backslash, is the spelling of a byte
+-- the text after a backslash, with the backslash, is the escape of a byte
 braced_spelled : (c : ℕ) (rest : List ℕ) → is_ascii_control c ≡ true → 92 ∷ 117 ∷ 123 ∷ (digits 16 false c ++ 125 ∷ rest) ≡ escaped_byte c ++ rest
 braced_spelled c rest control =
     let one : eqb c 34 ≡ false = grind (arith, nat_tests) in
@@ -205,7 +205,7 @@ escape_takes (b ∷ bs) x h = escape_by (eqb b 34 || eqb b 92) refl h
         spelled ∙ ap (λ (c : ℕ). escaped_byte c ++ bs) value ∙ ap (λ (r : List ℕ). escaped_byte x.0 ++ r) left
     escape_by false e h = u_by (eqb b 117) refl h
 
--- ---- what stands between quotes
+-- ---- the text between quotes
 
 pub behind_is : {X : Type 0} (front : List X) (read : Option (List X × List ℕ)) (x : List X × List ℕ) → behind front read ≡ Some x → (y : List X × List ℕ) × (read ≡ Some y) × (front ++ y.0 ≡ x.0) × (y.1 ≡ x.1)
 behind_is {X} front read x h =

@@ -1,4 +1,4 @@
--- What an exact reading promises of its reader.
+-- The contract of a reader with an exact reading.
 use Rattle.std.proofs.Common.{◌≡◌, ℕ, List, ◌++◌, Option, Some, None, Result, Ok, Err, OnOk, sym, ap, ◌∙◌, subst}
 use Rattle.zk_listing.specs.declared.fault.ListCause.{ListCause}
 use Rattle.zk_listing.specs.declared.fault.ListCause.TheVariants as causes
@@ -31,7 +31,7 @@ reads_only {X} {Y} view spell Fits at f (Ok x) old new h = λ y rest fits e spel
 reads_only view spell Fits at f (Err causes.NoMemory) old new h = tt
 reads_only view spell Fits at f (Err cause) old new h = none_in spell Fits at f old h
 
--- ---- the same where the input moves on only after a value
+-- ---- the same if the input advances only after a value
 
 pub moved_found : {X Y : Type 0} (view : X → Y) (spell : Y → List ℕ) (Fits : Y → Type 0) (at : List ℕ → Option (Y × List ℕ)) → IsExact spell Fits at → (r r' : Result X ListCause) (old new new' : List ℕ)
     → r' ≡ r → OnOk r' (new' ≡ new) → TakesBy view r new (at old) → ReadsFound view spell Fits r' old new'

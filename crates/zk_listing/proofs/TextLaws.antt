@@ -1,4 +1,4 @@
--- A listing is a text in UTF-8.
+-- A listing is UTF-8.
 use Rattle.std.proofs.Common.{◌≡◌, ℕ, zero, suc, ◌<◌, ℤ, List, [], ◌∷◌, ◌++◌, Bool, true, false, eqb, ◌&&◌, inl, inr, length, Option, Some, None, refl, ap, ◌∙◌, arith}
 use Rattle.std.proofs.lemmas.Bool.{cases_lt}
 use Rattle.std.proofs.lemmas.Bool.Decides.{nat_tests}
@@ -13,16 +13,16 @@ use Rattle.std.specs.Int.{w32, w64, to_be_bytes, cast_unsigned}
 use Rattle.std.specs.List.{flat_map, AllByRecursion}
 use Rattle.std.specs.Str.{IsUtf8, chars}
 use Rattle.zk_acl.specs.declared.acl.Acl.{Acl}
-use Rattle.zk_spelling.proofs.HexBytes.{both_true, low, ascii, digits_utf8}
-use Rattle.zk_spelling.specs.Listings.{create_text, create_old_text, delete_text, set_data_text, set_acl_text, check_text, error_text, ephemeral_text, sub_text, part_text, op_text, header_text, line_of, listing_of, IsListed, IsListedAcl, AreListedAcls, IsListedPath, IsListedSub, IsListedOp}
-use Rattle.zk_spelling.specs.Spelling.{escaped, quoted, content_text, acl_entry_text, acl_text, sixteen_digits, id_digits}
+use Rattle.zk_format.proofs.HexBytes.{both_true, low, ascii, digits_utf8}
+use Rattle.zk_format.specs.Listings.{create_text, create_old_text, delete_text, set_data_text, set_acl_text, check_text, error_text, ephemeral_text, sub_text, part_text, op_text, header_text, line_of, listing_of, IsListed, IsListedAcl, AreListedAcls, IsListedPath, IsListedSub, IsListedOp}
+use Rattle.zk_format.specs.Spelling.{escaped, quoted, content_text, acl_entry_text, acl_text, sixteen_digits, id_digits}
 use Rattle.zk_txn.specs.declared.sub.Sub.{Sub}
 use Rattle.zk_txn.specs.declared.sub.Sub.TheVariants as subs
 use Rattle.zk_txn.specs.declared.txn.Op.{Op}
 use Rattle.zk_txn.specs.declared.txn.Op.TheVariants as ops
 use Rattle.zk_txn.specs.declared.txn.Txn.{Txn}
 
--- ---- pieces
+-- ---- parts
 
 join : {xs ys : List ℕ} → IsUtf8 xs → IsUtf8 ys → IsUtf8 (xs ++ ys)
 join {xs} {ys} p q = IsUtf8-append xs ys p q

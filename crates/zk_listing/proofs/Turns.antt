@@ -1,4 +1,4 @@
--- Reading elements one after the other, as a loop does.
+-- Reading elements in order, as a loop does.
 use Rattle.std.proofs.Common.{◌≡◌, ℕ, suc, ◌-◌, ◌+◌, ◌≤◌, ◌<◌, List, [], ◌∷◌, ◌++◌, Option, Some, None, refl, sym, ap, ◌∙◌, arith}
 use Rattle.std.proofs.lemmas.List.{append-nil}
 use Rattle.zk_listing.specs.declared.fault.ListCause.{ListCause}

@@ -6,7 +6,7 @@ use Rattle.std.specs.Str.{bytes_eq}
 use Rattle.std.proofs.lemmas.Slice.Eq.{bytes_eq-Decides}
 use Rattle.zk_listing.specs.declared.ops.Word.{Word}
 use Rattle.zk_listing.specs.declared.ops.Word.TheVariants as words
-use Rattle.zk_spelling.specs.Listings.{ephemeral_text}
+use Rattle.zk_format.specs.Listings.{ephemeral_text}
 use Rattle.zk_listing.specs.Reading.{word_from, ephemeral_from, semicolon_from, is_end}
 use Rattle.zk_listing.proofs.Exact.{IsExactField, some_is}
 

@@ -1,5 +1,5 @@
-pub use Rattle.zk_spelling.specs.Spelling
-pub use Rattle.zk_spelling.specs.Listings
-pub use Rattle.zk_spelling.specs.Reports
+pub use Rattle.zk_format.specs.Spelling
+pub use Rattle.zk_format.specs.Listings
+pub use Rattle.zk_format.specs.Reports
 pub mod Promises
 pub mod Reading

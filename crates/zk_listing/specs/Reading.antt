@@ -1,5 +1,5 @@
--- How a line is read, field by field from the left. A reading answers a value and what stands behind its spelling, and
--- none where no spelling of such a value stands in front.
+-- Reading a line, field by field from the left. A reading returns a value and the rest of the text,
+-- or None if the text does not start with such a value.
 use Rattle.std.specs.Prelude.{◌≡◌, ◌+◌, ◌-◌, ◌^◌, ◌==◌, ◌&&◌, ◌||◌, nat_lt, nat_le, ℕ, zero, suc, ℤ, pos, negsuc, List, [], ◌∷◌, ◌++◌, Bool, true, false, if◌then◌else◌, length, codes, Option, Some, None, Result, Ok, Err, option_and_then, encode_utf8, ◌<◌}
 use Rattle.std.specs.Char.{is_ascii_control, is_ascii_uppercase}
 use Rattle.std.specs.Fmt.{signed_decimal}
@@ -32,7 +32,7 @@ infixl 10 ◌>>=◌
 abbrev pub ◌>>=◌ : {A B : Type 0} → Option A → (A → Option B) → Option B
 o >>= f = option_and_then f o
 
--- ---- what a reader answers: what its reading does, want of memory aside
+-- ---- results of a reader: those of its reading, except for an allocation failure
 
 abbrev pub Fails : {Y : Type 0} → ListCause → Option Y → Type 0
 Fails causes.NoMemory read = Unit {0}
@@ -46,7 +46,7 @@ abbrev pub Takes : {X : Type 0} → Result X ListCause → List ℕ → Option (
 Takes (Ok x) rest read = read ≡ Some (x, rest)
 Takes (Err cause) rest read = Fails cause read
 
--- the same of a value that is made of one field
+-- the result of a value that is computed from one field
 abbrev pub Makes : {X : Type 0} → Result X ListCause → Option X → Type 0
 Makes (Ok x) read = read ≡ Some x
 Makes (Err cause) read = Fails cause read
@@ -69,16 +69,16 @@ unfoldable pub back_of : List ℕ → List ℕ
 back_of [] = []
 back_of (b ∷ bs) = if is_end b then b ∷ bs else back_of bs
 
--- a field in front of the text, and none where it is empty
+-- the field at the start of the text; None if it is empty
 abbrev pub TakesField : Option (Bor (List ℕ)) → List ℕ → List ℕ → Type 0
 TakesField None rest bytes = front_of bytes ≡ []
 TakesField (Some field) rest bytes = (field.now ≡ front_of bytes) × (rest ≡ back_of bytes)
 
--- a value that one field spells
+-- a value in one field
 abbrev pub of_field : {X : Type 0} → (List ℕ → Option X) → List ℕ → Option (X × List ℕ)
 of_field from bytes = from (front_of bytes) >>= λ x. Some (x, back_of bytes)
 
--- what stands behind a byte that must stand in front
+-- the rest after a byte that must come first
 abbrev pub past : ℕ → List ℕ → Option (List ℕ)
 past c [] = None
 past c (b ∷ bs) = if b == c then Some bs else None
@@ -97,7 +97,7 @@ both one other bytes = one bytes >>= λ x. other x.1 >>= λ y. Some ((x.0, y.0),
 abbrev pub mapped : {X Y : Type 0} → (X → Y) → (List ℕ → Option (X × List ℕ)) → List ℕ → Option (Y × List ℕ)
 mapped f at bytes = at bytes >>= λ x. Some (f x.0, x.1)
 
--- what is read, behind what was read before
+-- appends a value to those read before
 abbrev pub behind : {X : Type 0} → List X → Option (List X × List ℕ) → Option (List X × List ℕ)
 behind front read = read >>= λ x. Some (front ++ x.0, x.1)
 
@@ -124,7 +124,7 @@ int_from w field = let z = signed_digits_value 10 field in if fits_signed w z &&
 unfoldable pub int_at : Width → List ℕ → Option (ℤ × List ℕ)
 int_at w bytes = of_field (int_from w) bytes
 
--- whether a decimal begins as its spelling does: no plus sign, no leading zero, and no "-0"
+-- a decimal without plus sign, leading zero or "-0"
 abbrev pub is_nonzero_digit : ℕ → Bool
 is_nonzero_digit b = nat_le 49 b && nat_le b 57
 
@@ -139,7 +139,7 @@ is_plain (b ∷ c ∷ rest) = if b == 45 then is_nonzero_digit c else is_nonzero
 abbrev pub lower_digit : ℕ → Option ℕ
 lower_digit d = if nat_le 48 d && nat_le d 57 then Some (d - 48) else (if nat_le 97 d && nat_le d 102 then Some (d - 87) else None)
 
--- the control character that digits without leading zeros spell
+-- the control character with these digits, without leading zeros
 unfoldable pub control_from : List ℕ → Option ℕ
 control_from [] = None
 control_from (low ∷ []) = lower_digit low
@@ -149,7 +149,7 @@ control_from (high ∷ low ∷ more ∷ rest) = None
 abbrev pub is_brace : ℕ → Bool
 is_brace b = b == 125
 
--- behind the opening brace
+-- after the opening brace
 unfoldable pub control_at : List ℕ → Option (ℕ × List ℕ)
 control_at bytes =
     if nat_lt (position_or_len is_brace bytes) (length bytes) then (control_from (before_first is_brace bytes) >>= λ c. Some (c, after_first is_brace bytes)) else None
@@ -157,13 +157,13 @@ control_at bytes =
 abbrev pub braced_at : List ℕ → Option (ℕ × List ℕ)
 braced_at bytes = past 123 bytes >>= control_at
 
--- behind a backslash
+-- after a backslash
 unfoldable pub escape_at : List ℕ → Option (ℕ × List ℕ)
 escape_at [] = None
 escape_at (b ∷ bs) = if b == 34 || b == 92 then Some (b, bs) else (if b == 117 then braced_at bs else None)
 
--- Behind the opening quote, up to the closing one: no control character stands for itself. The number is at least that
--- of the bytes, and lets the recursion end.
+-- After the opening quote, up to the closing one: control characters must be escaped. The number is
+-- at least that of the bytes; the recursion ends by it.
 unfoldable pub inside_at : ℕ → List ℕ → Option (List ℕ × List ℕ)
 inside_at zero bytes = None
 inside_at (suc n) [] = None
@@ -181,7 +181,7 @@ abbrev pub TakesChar : Option ℕ → List ℕ → Option (ℕ × List ℕ) → 
 TakesChar None rest read = read ≡ None
 TakesChar (Some c) rest read = read ≡ Some (c, rest)
 
--- what one character, or the closing quote, tells of what stands between the quotes
+-- one character, or the closing quote, and the text that continues after it
 abbrev pub Continues : Result (Option ℕ) ListCause → List ℕ → List ℕ → Type 0
 Continues (Ok None) rest bytes = inside bytes ≡ Some ([], rest)
 Continues (Ok (Some c)) rest bytes = (length rest < length bytes) × (inside bytes ≡ behind (encode_utf8 c) (inside rest))
@@ -219,7 +219,7 @@ count_of (negsuc n) = None
 unfoldable pub count_at : List ℕ → Option (ℕ × List ℕ)
 count_at bytes = int_at w32 bytes >>= λ z. count_of z.0 >>= λ n. Some (n, z.1)
 
--- elements one behind the other
+-- n elements in order
 unfoldable pub many_at : {X : Type 0} → (List ℕ → Option (X × List ℕ)) → ℕ → List ℕ → Option (List X × List ℕ)
 many_at at zero bytes = Some ([], bytes)
 many_at at (suc n) bytes = at bytes >>= λ x. behind (x.0 ∷ []) (many_at at n x.1)
@@ -242,7 +242,7 @@ ephemeral_from field = if bytes_eq field (codes "e") then Some true else (if byt
 unfoldable pub ephemeral_at : List ℕ → Option (Bool × List ℕ)
 ephemeral_at bytes = of_field ephemeral_from bytes
 
--- the words that operations begin with
+-- the first words of operations
 unfoldable pub word_from : List ℕ → Option Word
 word_from field =
     if bytes_eq field (codes "create0") then Some words.CreateOld
@@ -260,7 +260,7 @@ word_from field =
 unfoldable pub word_at : List ℕ → Option (Word × List ℕ)
 word_at bytes = of_field word_from bytes
 
--- the fields of operations, each behind a space
+-- the fields of operations, each after a space
 abbrev pub created_of : List ℕ × (Option (List ℕ) × (List Acl × (Bool × ℤ))) → Created
 created_of x = record { path = x.0; content = x.1.0; acl = x.1.1.0; ephemeral = x.1.1.1.0; count = x.1.1.1.1 }
 
@@ -288,7 +288,7 @@ sub_created x = sub.Create x.path x.content x.acl x.ephemeral x.count
 abbrev pub sub_written : Written → Sub
 sub_written x = sub.SetData x.path x.content x.version
 
--- a part, behind its word
+-- a part, after its word
 unfoldable pub sub_by : Word → List ℕ → Option (Sub × List ℕ)
 sub_by words.Create bytes = mapped sub_created create_at bytes
 sub_by words.Delete bytes = mapped sub.Delete (spaced path_at) bytes
@@ -313,7 +313,8 @@ abbrev pub begins_with_space : List ℕ → Bool
 begins_with_space [] = false
 begins_with_space (b ∷ bs) = b == 32
 
--- Parts, as long as a space follows. The number is at least that of the bytes, and lets the recursion end.
+-- Parts, as long as a space follows. The number is at least that of the bytes; the recursion ends
+-- by it.
 unfoldable pub parts_at : ℕ → List ℕ → Option (List Sub × List ℕ)
 parts_at zero bytes = Some ([], bytes)
 parts_at (suc n) bytes = if begins_with_space bytes then (part_at bytes >>= λ x. behind (x.0 ∷ []) (parts_at n x.1)) else Some ([], bytes)
@@ -321,7 +322,7 @@ parts_at (suc n) bytes = if begins_with_space bytes then (part_at bytes >>= λ x
 abbrev pub parts_in : List ℕ → Option (List Sub × List ℕ)
 parts_in bytes = parts_at (length bytes) bytes
 
--- what one part, or the end of the parts, tells of all that follow
+-- one part, or the end of the parts, and what continues after it
 abbrev pub ContinuesParts : Result (Option Sub) ListCause → List ℕ → List ℕ → Type 0
 ContinuesParts (Ok None) rest bytes = parts_in bytes ≡ Some ([], rest)
 ContinuesParts (Ok (Some x)) rest bytes = (length rest < length bytes) × (parts_in bytes ≡ behind (x ∷ []) (parts_in rest))
@@ -333,7 +334,7 @@ op_created x = op.Create x.path x.content x.acl x.ephemeral x.count
 abbrev pub op_written : Written → Op
 op_written x = op.SetData x.path x.content x.version
 
--- an operation, behind its word
+-- an operation, after its word
 unfoldable pub op_by : Word → List ℕ → Option (Op × List ℕ)
 op_by words.CreateOld bytes = create_old_op_at bytes
 op_by words.Create bytes = mapped op_created create_at bytes

@@ -1,8 +1,8 @@
-//! Transactions from a listing.
+//! Parsing transactions from a listing.
 ghost use Rattle.std.specs.Prelude.{◌≡◌, ◌≢◌, List, IfOk, IfErr, MatchResult, []};
 ghost use Rattle.std.specs.List.{AllByRecursion};
 ghost use Rattle.zk_txn.specs.declared.txn.Txn.{Txn};
-ghost use Rattle.zk_spelling.specs.Listings.{IsListed, listing_of};
+ghost use Rattle.zk_format.specs.Listings.{IsListed, listing_of};
 ghost use Rattle.zk_listing.specs.Promises.{ReadsLine, AddsLine, BeginsWithListing, IsFirstFault};
 ghost use Rattle.zk_listing.specs.Reading.{Takes, TakesUnit, past, txn_at};
 
@@ -13,10 +13,10 @@ use crate::parts::{space, spaced_id, spaced_int, spaced_long};
 use std::alloc::Global;
 use zk_txn::Txn;
 
-/// The transactions whose listing this text is, one a line.
+/// Returns the transactions of a listing, one per line.
 ///
-/// Refuses a text that is no listing at the first line that spells no transaction. The causes are looked for from left
-/// to right in that line; that the last line has no newline is found before any other fault in it.
+/// Fails at the first line that is not a transaction's, with the first fault from the left in that
+/// line. A missing newline at the end of the last line takes precedence over other faults in it.
 pub fn assemble(alloc: Global, text: &str) -> Result<Vec<Txn>, ListFault>
     ensures found { IfOk result (λ txns. text.now ≡ listing_of txns.items) }
     ensures listed { IfOk result (λ txns. AllByRecursion IsListed txns.items) }
@@ -28,7 +28,7 @@ pub fn assemble(alloc: Global, text: &str) -> Result<Vec<Txn>, ListFault>
     all_lines(alloc, &mut rest)
 }
 
-/// The transactions of all lines, up to the end of the input.
+/// The transactions of all lines.
 fn all_lines(alloc: Global, input: &mut &str) -> Result<Vec<Txn>, ListFault>
     ensures found { IfOk result (λ txns. BeginsWithListing input.old.now txns.items []) }
     ensures only { (txns : List Txn) → AllByRecursion IsListed txns → input.old.now ≡ listing_of txns
@@ -47,7 +47,7 @@ fn all_lines(alloc: Global, input: &mut &str) -> Result<Vec<Txn>, ListFault>
     Ok(txns)
 }
 
-/// Takes the first line with its newline, and appends its transaction.
+/// Reads the first line with its newline, and appends its transaction.
 fn add_line(alloc: Global, txns: &mut Vec<Txn>, input: &mut &str) -> Result<(), ListCause>
     ensures { AddsLine result txns.old.items txns.new.items input.old.now input.new.now }
 {
@@ -56,7 +56,7 @@ fn add_line(alloc: Global, txns: &mut Vec<Txn>, input: &mut &str) -> Result<(), 
     Ok(())
 }
 
-/// The transaction of the first line, and takes the line with its newline.
+/// Reads the first line with its newline.
 fn read_line(alloc: Global, input: &mut &str) -> Result<Txn, ListCause>
     ensures { ReadsLine result input.old.now input.new.now }
 {
@@ -86,7 +86,7 @@ fn txn_line(alloc: Global, input: &mut &str) -> Result<Txn, ListCause>
     })
 }
 
-/// The newline that ends a line.
+/// Reads the newline at the end of a line.
 fn newline(input: &mut &str) -> Result<(), ListCause>
     ensures { TakesUnit result input.new.now (past 10 input.old.now) }
 {

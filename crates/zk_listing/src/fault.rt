@@ -5,31 +5,31 @@ use std::alloc::{AllocError, AllocFailed};
 use thiserror::Error;
 use zk_path::NoMemory;
 
-/// What is wrong with a line of a listing.
+/// The fault of a line of a listing.
 #[derive(Clone, Copy, Debug, PartialEq, Eq, Error)]
 pub enum ListCause {
-    /// A field is empty, missing or one too many, or what separates two fields is not one space.
+    /// A field is empty, missing or superfluous, or the separator of two fields is not one space.
     #[error("L1")]
     Fields,
-    /// A field is no number as listings spell it, or is out of its range.
+    /// A field is not a number in the listing format, or is out of range.
     #[error("L2")]
     Number,
-    /// A field is no quoted text as listings spell it.
+    /// A field is not a quoted text in the listing format.
     #[error("L3")]
     Quote,
-    /// A field is no content: `-`, or `x` and lower-case hexadecimal digits, two for each byte.
+    /// A field is not a content: `-`, or `x` and lower-case hexadecimal digits, two for each byte.
     #[error("L4")]
     Hex,
-    /// A field is no word that may stand there.
+    /// A field is not one of the expected words.
     #[error("L5")]
     Word,
-    /// A quoted text is no path.
+    /// A quoted text is not a path.
     #[error("L6")]
     Path,
-    /// The last line doesn't end in a newline.
+    /// The last line does not end with a newline.
     #[error("L7")]
     NoNewline,
-    /// Memory was refused.
+    /// An allocation failed.
     #[error("L8")]
     NoMemory,
 }
@@ -58,12 +58,11 @@ impl<T: Drop> From<AllocFailed<T>> for ListCause {
     }
 }
 
-/// Why a text is no listing.
+/// The first fault of a text that is not a listing.
 #[derive(Clone, Copy, Debug, PartialEq, Eq, Error)]
 #[error("{cause} {line}")]
 pub struct ListFault {
-    /// The first line that spells no transaction, counted from 1.
+    /// The first faulty line, counted from 1.
     pub line: u64,
-    /// What is wrong with it.
     pub cause: ListCause,
 }

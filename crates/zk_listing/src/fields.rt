@@ -1,5 +1,5 @@
-//! The readers of single fields. Each takes a field from the front of its input; after a refusal the input stands
-//! somewhere in that field.
+//! Readers of single fields. Each consumes a field at the start of its input; after an error the
+//! input may have advanced within that field.
 ghost use Rattle.std.specs.Prelude.{◌≡◌, ◌≢◌, IfErr};
 ghost use Rattle.std.specs.Int.{w32, w64};
 ghost use Rattle.zk_listing.specs.Reading.{TakesField, Takes, Makes, id_from, id_at, int_from, int_at, content_from, content_at, content_of_digits, count_at, is_plain, is_end};
@@ -11,7 +11,8 @@ use hex::FromHexError;
 use std::alloc::Global;
 use zk_txn::Content;
 
-/// The field in front, up to the next space, the end of the line or the end of the input, and none where it is empty.
+/// The field at the start, up to the next space, the end of the line or the end of the input;
+/// `None` if it is empty.
 pub(crate) fn take_field<'a>(input: &mut &'a str) -> Option<&'a str>
     ensures { TakesField result input.new.now input.old.now }
 {
@@ -24,14 +25,14 @@ pub(crate) fn take_field<'a>(input: &mut &'a str) -> Option<&'a str>
     Some(field)
 }
 
-/// How many bytes stand before the first space or newline.
+/// The number of bytes before the first space or newline.
 fn field_len(bytes: &[u8]) -> usize
     ensures { result ≡ position_or_len is_end bytes.now }
 {
     first_end(bytes).unwrap_or(bytes.len())
 }
 
-/// Where the first space or newline stands.
+/// The position of the first space or newline.
 fn first_end(bytes: &[u8]) -> Option<usize>
     ensures { result ≡ position is_end bytes.now }
 {
@@ -110,7 +111,7 @@ fn long_of(field: &str) -> Option<i64>
     field.parse().ok()
 }
 
-/// Whether a decimal has no plus sign, no leading zero and isn't `-0`.
+/// Whether a decimal has no plus sign, no leading zero and is not `-0`.
 fn is_plain(field: &[u8]) -> bool
     ensures { result ≡ is_plain field.now }
 {

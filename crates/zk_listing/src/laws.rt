@@ -1,7 +1,7 @@
-//! What holds of every listing. The call does nothing: it is there for its contract.
+//! Laws of all listings: a function without code, whose contract is a theorem.
 ghost use Rattle.zk_listing.specs.Promises.{ListingsAreTexts, ListingsHaveOneMeaning};
 
-/// A listing is UTF-8, and the listing of one list of transactions only.
+/// A listing is UTF-8, and no two lists of transactions have the same listing.
 pub fn listings_read_back()
     ensures texts { ListingsAreTexts }
     ensures one_meaning { ListingsHaveOneMeaning }

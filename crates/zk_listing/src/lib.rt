@@ -1,7 +1,7 @@
-//! Transaction logs as text, one line for each transaction, both ways.
+//! Listings: transaction logs as text, one line for each transaction, read and written.
 //!
-//! Fields stand side by side with one space between. Each value has one spelling, and nothing else is read as that
-//! value. `zk_spelling` writes the spellings, those of reports too; what it offers is passed on here.
+//! One space separates two fields. Each value has exactly one text, and no other text is read as
+//! it. `zk_format` writes listings and reports; its public items are re-exported here.
 #![tactic(auto)]
 
 mod assembling;
@@ -17,7 +17,7 @@ pub use assembling::assemble;
 pub use fault::{ListCause, ListFault};
 pub use laws::listings_read_back;
 pub use readers::{read_acl, read_content, read_id, read_int, read_long, read_path, read_quoted};
-pub use zk_spelling::{
+pub use zk_format::{
     list, push_acl, push_content, push_digits, push_id, push_line, push_node_line, push_quoted,
     push_result_line, push_stat,
 };

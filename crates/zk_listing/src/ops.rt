@@ -1,4 +1,4 @@
-//! The readers of operations: a word, and a space before each field.
+//! Readers of operations: a word, and a space before each field.
 ghost use Rattle.std.specs.Prelude.{◌≡◌};
 ghost use Rattle.zk_listing.specs.Reading.{Takes, TakesUnit, ContinuesParts, of_field, spaced, ephemeral_at, word_from, word_at, create_at, set_data_at, set_acl_op_at, create_old_op_at, check_at, sub_by, sub_at, semicolon_from, part_at, parts_in, op_by, op_at, mapped, sub_created, sub_written, op_created, op_written};
 
@@ -10,7 +10,7 @@ use zk_acl::Acls;
 use zk_path::Path;
 use zk_txn::{Content, Op, Sub, Subs};
 
-/// The word that an operation or a multi's part begins with.
+/// The first word of an operation or of a multi's part.
 #[derive(Clone, Copy, Debug)]
 pub(crate) enum Word {
     CreateOld,
@@ -54,7 +54,7 @@ fn word_of(field: &str) -> Option<Word>
     }
 }
 
-/// Whether a node goes with its session: `e`, or `p` where it stays.
+/// Whether a node is deleted with its session: `e` if so, else `p`.
 #[tactic(auto, unfolding(crate::specs::Reading::ephemeral_at, crate::specs::Reading::ephemeral_from))]
 fn ephemeral(input: &mut &str) -> Result<bool, ListCause>
     ensures { Takes result input.new.now (ephemeral_at input.old.now) }
@@ -124,7 +124,6 @@ fn set_data(alloc: Global, input: &mut &str) -> Result<Written, ListCause>
     })
 }
 
-/// A create of 3.3.
 #[tactic(auto, unfolding(crate::specs::Reading::create_old_op_at))]
 fn create_old(alloc: Global, input: &mut &str) -> Result<Op, ListCause>
     ensures { Takes result input.new.now (create_old_op_at input.old.now) }
@@ -160,7 +159,6 @@ fn check(alloc: Global, input: &mut &str) -> Result<Sub, ListCause>
     Ok(Sub::Check { path, version })
 }
 
-/// A part of a multi.
 #[tactic(auto, unfolding(crate::specs::Reading::sub_at))]
 fn sub_operation(alloc: Global, input: &mut &str) -> Result<Sub, ListCause>
     ensures { Takes result input.new.now (sub_at input.old.now) }
@@ -235,7 +233,7 @@ fn part(alloc: Global, input: &mut &str) -> Result<Sub, ListCause>
     sub_operation(alloc, input)
 }
 
-/// The next part of a multi, or none where no space follows.
+/// The next part of a multi; `None` if no space follows.
 fn next_part(alloc: Global, input: &mut &str) -> Result<Option<Sub>, ListCause>
     ensures { ContinuesParts result input.new.now input.old.now }
 {
@@ -246,7 +244,6 @@ fn next_part(alloc: Global, input: &mut &str) -> Result<Option<Sub>, ListCause>
     Ok(Some(part))
 }
 
-/// The parts of a multi.
 fn parts(alloc: Global, input: &mut &str) -> Result<Subs, ListCause>
     ensures { Takes result input.new.now (parts_in input.old.now) }
 {
@@ -257,7 +254,6 @@ fn parts(alloc: Global, input: &mut &str) -> Result<Subs, ListCause>
     Ok(Subs::new(parts))
 }
 
-/// An operation.
 #[tactic(auto, unfolding(crate::specs::Reading::op_at))]
 pub(crate) fn operation(alloc: Global, input: &mut &str) -> Result<Op, ListCause>
     ensures { Takes result input.new.now (op_at input.old.now) }

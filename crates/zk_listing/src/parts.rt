@@ -1,4 +1,4 @@
-//! The readers of paths and access control lists, and of fields behind a space.
+//! Readers of paths and access control lists, and of fields after a space.
 ghost use Rattle.std.specs.Prelude.{◌≡◌};
 ghost use Rattle.std.specs.Int.{w32, w64};
 ghost use Rattle.std.specs.String.{string_bytes};
@@ -32,7 +32,6 @@ fn path_of(alloc: Global, text: &str) -> Result<Path, ListCause>
     }
 }
 
-/// One space.
 pub(crate) fn space(input: &mut &str) -> Result<(), ListCause>
     ensures { TakesUnit result input.new.now (past 32 input.old.now) }
 {
@@ -96,7 +95,7 @@ pub(crate) fn acl(alloc: Global, input: &mut &str) -> Result<Acls, ListCause>
     entries(alloc, count, input)
 }
 
-/// So many entries of an access control list.
+/// Reads `count` entries of an access control list.
 fn entries(alloc: Global, count: u32, input: &mut &str) -> Result<Acls, ListCause>
     ensures { Takes result input.new.now (many_at entry_at count input.old.now) }
 {

@@ -7,7 +7,7 @@ use crate::fault::ListCause;
 use crate::fields::take_field;
 use std::alloc::Global;
 
-/// A text between quotes. Quotes, backslashes and control characters are escaped in it, and nothing else is.
+/// A text between quotes, with quotes, backslashes and control characters escaped, and no others.
 #[tactic(auto, unfolding(crate::specs::Reading::quoted_at))]
 pub(crate) fn quoted(alloc: Global, input: &mut &str) -> Result<String, ListCause>
     ensures { TakesBy (λ text. string_bytes text) result input.new.now (quoted_at input.old.now) }
@@ -24,7 +24,7 @@ pub(crate) fn quoted(alloc: Global, input: &mut &str) -> Result<String, ListCaus
     }
 }
 
-/// What stands behind an opening quote, up to the closing one, which is taken too.
+/// The text after an opening quote, up to and including the closing one.
 fn inside(alloc: Global, input: &mut &str) -> Result<String, ListCause>
     ensures { TakesBy (λ text. string_bytes text) result input.new.now (inside input.old.now) }
 {
@@ -35,7 +35,7 @@ fn inside(alloc: Global, input: &mut &str) -> Result<String, ListCause>
     Ok(text)
 }
 
-/// A character as it stands between quotes, or none for the closing quote.
+/// A character between quotes; `None` for the closing quote.
 fn spelled_char(input: &mut &str) -> Result<Option<char>, ListCause>
     ensures { Continues result input.new.now input.old.now }
 {
@@ -55,7 +55,7 @@ fn spelled_char(input: &mut &str) -> Result<Option<char>, ListCause>
     }
 }
 
-/// The first character.
+/// Reads the first character.
 fn next_char(input: &mut &str) -> Option<char>
     ensures { TakesFirst result input.new.now input.old.now }
 {
@@ -65,7 +65,7 @@ fn next_char(input: &mut &str) -> Option<char>
     first
 }
 
-/// What stands behind a backslash: a quote, a backslash, or a control character by its number.
+/// The character after a backslash: a quote, a backslash, or a control character by its number.
 fn escape(input: &mut &str) -> Option<char>
     ensures { TakesChar result input.new.now (escape_at input.old.now) }
 {
@@ -101,7 +101,7 @@ fn control(input: &mut &str) -> Option<char>
     Some(char::from(code))
 }
 
-/// The control character of ASCII that lower-case digits without leading zeros spell.
+/// The ASCII control character with these lower-case digits, without leading zeros.
 #[tactic(auto, unfolding(crate::specs::Reading::control_from))]
 fn control_of(digits: &[u8]) -> Option<u8>
     ensures { result ≡ control_from digits.now }

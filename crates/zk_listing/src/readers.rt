@@ -1,14 +1,14 @@
-//! The readers of fields. Each takes a field from the front of its input: a field that isn't quoted ends at a space, at
-//! a newline or at the end of the input. After a refusal the input stands where it was. A reader that is handed no
-//! allocator takes no memory, and never tells want of it.
+//! Readers of fields. Each consumes a field at the start of its input. A field without quotes ends
+//! at a space, at a newline or at the end of the input. After an error the input is unchanged. A
+//! reader without allocator does not allocate, and never fails with `NoMemory`.
 ghost use Rattle.std.specs.Prelude.{◌≡◌, ◌≢◌, FitsSigned, IfErr, OnErr, OnOk};
 ghost use Rattle.std.specs.Fmt.{signed_decimal};
 ghost use Rattle.std.specs.Int.{w32, w64};
 ghost use Rattle.std.specs.Str.{IsUtf8};
 ghost use Rattle.std.specs.String.{string_bytes};
-ghost use Rattle.zk_spelling.specs.Listings.{IsListedPath, IsListedContent, AreListedAcls};
+ghost use Rattle.zk_format.specs.Listings.{IsListedPath, IsListedContent, AreListedAcls};
 ghost use Rattle.zk_listing.specs.Promises.{ReadsFound, ReadsOnly};
-ghost use Rattle.zk_spelling.specs.Spelling.{id_digits, quoted, content_text, acl_text};
+ghost use Rattle.zk_format.specs.Spelling.{id_digits, quoted, content_text, acl_text};
 
 use crate::fault::ListCause;
 use crate::fields::{content, id, int, long};
@@ -19,7 +19,7 @@ use zk_acl::Acls;
 use zk_path::Path;
 use zk_txn::Content;
 
-/// Moves the input on, unless the field was refused.
+/// Advances the input unless the field was rejected.
 fn move_on<'a, T>(
     read: Result<T, ListCause>,
     rest: &'a str,
@@ -35,7 +35,7 @@ fn move_on<'a, T>(
     read
 }
 
-/// The number of a transaction or a session: sixteen lower-case hexadecimal digits.
+/// Reads a zxid or a session id: sixteen lower-case hexadecimal digits.
 pub fn read_id(input: &mut &str) -> Result<i64, ListCause>
     ensures found { ReadsFound (λ x. x) id_digits (FitsSigned w64) result input.old.now input.new.now }
     ensures only { ReadsOnly (λ x. x) id_digits (FitsSigned w64) result input.old.now input.new.now }
@@ -71,7 +71,6 @@ pub fn read_long(input: &mut &str) -> Result<i64, ListCause>
     move_on(read, rest, input)
 }
 
-/// A text between quotes.
 pub fn read_quoted(alloc: Global, input: &mut &str) -> Result<String, ListCause>
     ensures found { ReadsFound (λ x. string_bytes x) quoted IsUtf8 result input.old.now input.new.now }
     ensures only { ReadsOnly (λ x. string_bytes x) quoted IsUtf8 result input.old.now input.new.now }
@@ -104,7 +103,8 @@ pub fn read_content(alloc: Global, input: &mut &str) -> Result<Option<Content>, 
     move_on(read, rest, input)
 }
 
-/// An access control list: the number of its entries, and for each its permissions, scheme and identity.
+/// An access control list: the number of its entries, and for each its permissions, scheme and
+/// identity.
 pub fn read_acl(alloc: Global, input: &mut &str) -> Result<Acls, ListCause>
     ensures found { ReadsFound (λ x. x) acl_text AreListedAcls result input.old.now input.new.now }
     ensures only { ReadsOnly (λ x. x) acl_text AreListedAcls result input.old.now input.new.now }

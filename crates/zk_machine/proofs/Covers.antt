@@ -1,4 +1,4 @@
--- Changes along the paths that were touched.
+-- Changes along the touched paths.
 use Rattle.std.proofs.Common.{◌≡◌, ℕ, ℤ, Bool, true, false, cond, ◌||◌, ◌&&◌, List, [], ◌∷◌, ◌++◌, map, filter, Option, Some, None, is_some, refl, sym, ap, ◌∙◌, is_lt}
 use Rattle.std.proofs.lemmas.Bool.{false≢true, and_parts, and_from}
 use Rattle.std.proofs.lemmas.Cmp.{nat_list_cmp_total, int_eq_equiv}
@@ -14,9 +14,9 @@ use Rattle.zk_machine.proofs.Texts.{same_is}
 use Rattle.zk_machine.specs.Changes.{change_at, compared, changes_between, paths_of, changed_unless}
 use Rattle.zk_machine.specs.declared.change.ChangeKind.TheVariants.{DataChanged, ChildrenChanged}
 
--- ---- lists of paths in order
+-- ---- sorted lists of paths
 
--- paths as entries that hold nothing
+-- paths as entries without value
 abbrev tagged : List (List ℕ) → List (List ℕ × Unit {0})
 tagged ks = map (λ k. (k, tt)) ks
 
@@ -57,7 +57,7 @@ rising_entries (e ∷ es) = λ i. below_keys e.0 es i && rising_entries es i
 pub rising_keys : {X : Type 0} (m : finite.FinMap path_cmp X) → is_rising (finite.keys m) ≡ true
 rising_keys m = rising_entries (finite.entries m) ∙ to_true _ (finite.entries_sorted m)
 
--- paths that are left by a test
+-- the paths that pass a test
 
 below_filter : (f : List ℕ → Bool) (x : List ℕ) (ks : List (List ℕ)) → below_all x (tagged ks) ≡ true → below_all x (tagged (filter f ks)) ≡ true
 below_filter f x [] h = refl
@@ -86,7 +86,7 @@ any-filter f q (k ∷ ks) =
       ] ∙ any-filter f q ks
     ] refl
 
--- ---- what a function gives along paths
+-- ---- the values of a function along paths
 
 abbrev pub is_filled : {A : Type 0} → List A → Bool
 is_filled [] = false
@@ -104,7 +104,7 @@ same_and : (a b c : Bool) → (a ≡ true → b ≡ c) → (a && b) ≡ (a && c)
 same_and true b c h = h refl
 same_and false b c h = refl
 
--- along two lists in order that both have each path at which it gives something, it gives the same
+-- the values along two sorted lists are the same if both lists have each path with a value
 pub same_along : {A : Type 0} (f : List ℕ → List A) (ks ls : List (List ℕ)) → is_rising ks ≡ true → is_rising ls ≡ true → ((q : List ℕ) → is_filled (f q) ≡ true → list_any (eq_by_cmp path_cmp q) ks ≡ list_any (eq_by_cmp path_cmp q) ls) → flat_map f ks ≡ flat_map f ls
 same_along f ks ls g h alike =
     let p : List ℕ → Bool = λ k. is_filled (f k) in
@@ -138,7 +138,7 @@ has_path m n q =
     ∙ found_either q (finite.entries m) (finite.entries n)
     ∙ (λ i. is_some (sym (finite.get-entries m q) i) || is_some (sym (finite.get-entries n q) i))
 
--- Any paths in order do for comparing two states, if the states agree at all others.
+-- Any sorted list of paths is enough to compare two states that agree at all other paths.
 pub changes_covered : (m n : NodeMap) (ks : List (List ℕ)) → is_rising ks ≡ true → ((q : List ℕ) → list_any (eq_by_cmp path_cmp q) ks ≡ false → finite.get m q ≡ finite.get n q) → flat_map (change_at m n) ks ≡ changes_between m n
 changes_covered m n ks rising others = same_along (change_at m n) ks (paths_of m n) rising (rising_keys _) (λ q filled. covered q filled _ refl ∙ sym (has_path m n q ∙ filled_there q (finite.get m q) (finite.get n q) filled))
   where

@@ -11,7 +11,7 @@ use Rattle.zk_path.specs.Paths.{parent_of, is_root, before_last_slash}
 use Rattle.zk_table.specs.States.{NodeMap, path_cmp, is_parent, is_child_of, children_of}
 use Rattle.zk_machine.proofs.Texts.{same_is}
 
--- a look-up's test, as maps of values spell it
+-- a look-up's test, as maps of values write it
 tests_alike : (k q : List ℕ) → bytes_eq k q ≡ eq_by_cmp path_cmp q k
 tests_alike k q = sym (is_eq-slice_cmp k q) ∙ (eq_by_cmp_equiv nat_list_cmp_total).symm k q
 
@@ -37,11 +37,11 @@ none_left f (k ∷ ks) none =
     or_true true e = refl
     or_true false e = e
 
--- where no node has this parent, it has no children
+-- a node is childless if it is no node's parent
 pub childless : (nodes : NodeMap) (path : List ℕ) → ((child : List ℕ) → finite.contains_key nodes child ≡ true → parent_of child ≡ Some path → ⊥) → length (children_of nodes path) ≡ 0
 childless nodes path none = ap length (none_left (is_child_of path) (finite.keys nodes) (λ k has is. none k (finite.contains_key-keys nodes k ∙ has) (child_is path k is)))
 
--- what has no parent is the root
+-- a path without parent is the root
 pub root_is : (path : List ℕ) → parent_of path ≡ None → path ≡ codes "/"
 root_is path e =
     elim (is_root path) as (λ b. is_root path ≡ b → cond b None (Some (cond (length (before_last_slash path) == 0) (47 ∷ []) (before_last_slash path))) ≡ None → path ≡ codes "/") [

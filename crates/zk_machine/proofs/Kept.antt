@@ -1,15 +1,15 @@
--- Maps that are kept as lists in the order of their keys, looked up and changed at a place.
+-- Maps stored as sorted lists, looked up and changed at a position.
 use Rattle.std.proofs.Common.{◌≡◌, ℕ, List, get_or, set, insert, remove, Some, None, is_some, is_ok, Result, Ok, Err, IsTrue, refl, sym, ap, subst, ◌∙◌}
 use Rattle.std.specs.declared.cmp.Ordering.{Ordering}
 use Rattle.std.specs.Cmp.{IsTotalOrder}
 use Rattle.std.specs.FinMap.{FinMap, IsAntisymmetric, entries, get, from_sorted, is_sorted}
 use Rattle.std.specs.FinMap as finite
-use Rattle.zk_table.specs.Places.{place_of}
+use Rattle.zk_table.specs.Places.{position_of}
 use Rattle.zk_table.proofs.Sorted.{entries_of_kept, found_at_place, missing_at_place, entries_set, entries_inserted, sorted_removed, kept_removed, removed_missing}
 
-module _ {K X : Type 0} {R : K → K → Ordering} (o : IsTotalOrder R) (es : List (K × X)) (m : FinMap R X) (k : K) (sorted : IsTrue (is_sorted R es)) (view : from_sorted {R = R} es ≡ m) (lent : List (K × X)) (is : lent ≡ es) (r place : Result ℕ ℕ) (looked_up : r ≡ place_of R k lent) (there : r ≡ place) where
-  abbrev at_place : place_of R k es ≡ place
-  at_place = ap (place_of R k) (sym is) ∙ sym looked_up ∙ there
+module _ {K X : Type 0} {R : K → K → Ordering} (o : IsTotalOrder R) (es : List (K × X)) (m : FinMap R X) (k : K) (sorted : IsTrue (is_sorted R es)) (view : from_sorted {R = R} es ≡ m) (lent : List (K × X)) (is : lent ≡ es) (r place : Result ℕ ℕ) (looked_up : r ≡ position_of R k lent) (there : r ≡ place) where
+  abbrev at_place : position_of R k es ≡ place
+  at_place = ap (position_of R k) (sym is) ∙ sym looked_up ∙ there
 
   abbrev kept : es ≡ entries m
   kept = entries_of_kept R es m sorted view
@@ -41,6 +41,6 @@ module _ {K X : Type 0} {R : K → K → Ordering} (o : IsTotalOrder R) (es : Li
       pub removed_none : place ≡ Err i → m ≡ finite.remove m k
       removed_none at = removed_missing o same m k (get_missing at)
 
--- the rest of a list in order
+-- the rest of a sorted list
 pub still_sorted : {K X : Type 0} (R : K → K → Ordering) (es new : List (K × X)) (i : ℕ) → IsTrue (is_sorted R es) → new ≡ remove es i → IsTrue (is_sorted R new)
 still_sorted R es new i sorted after = subst (λ l. IsTrue (is_sorted R l)) (sym after) (sorted_removed R es i sorted)

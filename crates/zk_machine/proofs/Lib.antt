@@ -1,6 +1,6 @@
 pub mod Texts
 pub mod Covers
-pub mod Notes
+pub mod PreimageLaws
 pub mod Merged
 pub mod Parts
 pub mod Orders

@@ -42,7 +42,7 @@ or_true false e = e
 
 -- ---- one node before and after
 
--- a node that stays keeps its mzxid or its pzxid
+-- a node that remains keeps its mzxid or its pzxid
 abbrev IsOneWay : Option Node → Option Node → Type 0
 IsOneWay None after = Unit {0}
 IsOneWay (Some before) None = Unit {0}
@@ -70,7 +70,7 @@ one_compared path (Some before) (Some after) h = by_tests (int_eq before.mzxid a
     by_tests false true h = refl
     by_tests false false h = absurd (false≢true h)
 
--- ---- along rising paths
+-- ---- along sorted paths
 
 less : (r : Ordering) → is_lt r ≡ true → r ≡ Less
 less Less e = refl
@@ -118,7 +118,7 @@ one_way_rises m n h = along_rise (change_at m n) (λ q. one_compared q (finite.g
 none_changed : (m : NodeMap) → AreOneWay m m
 none_changed m q = unchanged (finite.get m q)
 
--- ---- nodes that go, or that keep their mzxid
+-- ---- nodes that are deleted, or keep their mzxid
 
 abbrev mzxid_at : Option Node → Option ℤ
 mzxid_at x = option_map (λ node. node.mzxid) x
@@ -146,7 +146,7 @@ kept_one_way (Some before) (Some after) h =
 abbrev AreKept : NodeMap → NodeMap → Type 0
 AreKept m n = (q : List ℕ) → IsKept (finite.get m q) (finite.get n q)
 
--- what holds at a path where a node was changed, and of the other nodes as they are, holds of all
+-- a property of the changed node, and of every unchanged one, holds for all
 at_change : (P : Option Node → Option Node → Type 0) (m : NodeMap) (path : List ℕ) (change : Node → Node) → ((x : Option Node) → P x x) → ((node : Node) → P (Some node) (Some (change node))) → (q : List ℕ) → P (finite.get m q) (finite.get (changed m path change) q)
 at_change P m path change same there q = by_node (finite.get m path) refl
   where

@@ -1,4 +1,4 @@
--- Parents come before their children; and in which order a state can be put back.
+-- Parents precede their children; and the order in which a state can be restored.
 use Rattle.std.proofs.Common.{◌≡◌, ℕ, pos, true, false, cond, List, [], ◌∷◌, length, ◌==◌, arith, Some, is_some, unwrap_or, refl, sym, ap, ◌∙◌, Less}
 use Rattle.std.proofs.lemmas.Bool.{false≢true, ne_eqb}
 use Rattle.std.proofs.lemmas.Cmp.{nat_cmp_total, tied_itself}
@@ -22,7 +22,7 @@ from_some a b e = ap (λ x. unwrap_or x a) e
 filled : (xs : List ℕ) → (length (47 ∷ xs) == 0) ≡ false
 filled xs = ne_eqb (length (47 ∷ xs)) 0 (λ e. absurd (omega arith))
 
--- each path begins with a slash
+-- each path starts with a slash
 pub parent_less : (rest above : List ℕ) → parent_of (47 ∷ rest) ≡ Some above → path_cmp above (47 ∷ rest) ≡ Less
 parent_less [] above e = absurd (false≢true (ap is_some e))
 parent_less (b ∷ bs) above e =
@@ -31,13 +31,13 @@ parent_less (b ∷ bs) above e =
       | false ↦ λ s is. ap (λ a. path_cmp a (47 ∷ b ∷ bs)) (sym (from_some _ _ is))
     ] refl e
 
--- ---- putting a state back
+-- ---- restoring a state
 
--- each node's parent is there and has no owner
+-- each node's parent exists and has no owner
 abbrev pub HasParents : NodeMap → Type 0
 HasParents nodes = (child above : List ℕ) → finite.contains_key nodes child ≡ true → parent_of child ≡ Some above → owner_at nodes above ≡ Some (pos 0)
 
--- where a node has to go, or to come with another owner, each child that it has goes too
+-- if a node must be deleted, or get another owner, each of its children is deleted too
 pub children_go : (now before : NodeMap) → HasParents now → HasParents before → (above child : List ℕ) → parent_of child ≡ Some above → finite.contains_key now child ≡ true → (owner_at now above ≡ owner_at before above → ⊥) → finite.contains_key before child ≡ false
 children_go now before good was above child below there differ =
     elim (finite.contains_key before child) as (λ b. finite.contains_key before child ≡ b → b ≡ false) [

@@ -1,4 +1,4 @@
--- The nodes of a session, which go one by one.
+-- The nodes of a session, which are deleted one by one.
 use Rattle.std.proofs.Common.{◌≡◌, ℕ, ℤ, pos, Bool, true, false, cond, ◌||◌, ◌&&◌, ◌+◌, ◌<◌, List, [], ◌∷◌, map, filter, drop, length, get_or, Option, Some, None, is_some, IsSome, unwrap_or, refl, sym, ap, subst, ◌∙◌, is_lt, is_eq, Less, Equal, Greater}
 use Rattle.std.proofs.lemmas.Bool.{false≢true, and_parts}
 use Rattle.std.proofs.lemmas.Cmp.{nat_list_cmp_total, eq_by_cmp_equiv}
@@ -20,7 +20,7 @@ use Rattle.zk_tree.specs.Trees.{IsTree, owner_at}
 use Rattle.zk_machine.proofs.Texts.{same_is}
 use Rattle.zk_machine.proofs.Families.{childless, has_parent, same_itself}
 
--- ---- paths that each have an owner, each below those behind it
+-- ---- paths with owners, each less than those after it
 
 -- nodes of this session, from the least path on
 abbrev pub AreOwned : NodeMap → ℤ → List (List ℕ) → Type 0
@@ -56,7 +56,7 @@ module _ (f : Node → Bool) where
         | false ↦ λ has. below_left x es (and_parts _ _ h).1 q has
       ] has
 
--- what is found at the keys of a list
+-- the values at the keys of a list
 abbrev AllGot : (List ℕ → Option Node) → List (List ℕ × Node) → Type 0
 AllGot find_in [] = Unit {0}
 AllGot find_in (e ∷ es) = (find_in e.0 ≡ Some e.1) × AllGot find_in es
@@ -94,14 +94,14 @@ owned_left nodes session some (e ∷ es) h got =
     int_same : (a b : ℤ) → int_eq a b ≡ true → a ≡ b
     int_same a b e = (Decides-int_eq a b).0 e
 
--- those that a state has
+-- those of a state
 pub all_owned : (nodes : NodeMap) (session : ℤ) → AreOwned nodes session (owned_by nodes session)
 all_owned nodes session = elim (int_eq session (pos 0)) as (λ b. int_eq session (pos 0) ≡ b → AreOwned nodes session (cond b [] (left (λ node. int_eq node.owner session) (finite.entries nodes)))) [
   | true ↦ λ e. tt
   | false ↦ λ e. owned_left nodes session e (finite.entries nodes) (to_true _ (finite.entries_sorted nodes)) (all_got (finite.get nodes) (finite.entries nodes) (to_true _ (finite.entries_sorted nodes)) (λ q has. finite.get-entries nodes q))
 ] refl
 
--- ---- one of them goes
+-- ---- deleting one of them
 
 keeps_owner : (zxid : ℤ) (m : NodeMap) (above : Option (List ℕ)) (q : List ℕ) → owner_at (changed_above m above (without_child zxid)) q ≡ owner_at m q
 keeps_owner zxid m None q = refl

@@ -9,8 +9,8 @@ use Rattle.zk_table.specs.Multis.{apply_part, nodes_after, answers_of}
 use Rattle.zk_table.specs.Operations.{Done}
 use Rattle.zk_table.specs.States.{NodeMap}
 use Rattle.zk_machine.specs.Changes.{changes_between, part_changes}
-use Rattle.zk_machine.specs.Notes.{all_noted}
-use Rattle.zk_machine.specs.Undoing.{NoteMap, nodes_before}
+use Rattle.zk_machine.specs.Preimages.{all_noted}
+use Rattle.zk_machine.specs.Undoing.{PreimageMap, nodes_before}
 use Rattle.zk_machine.specs.declared.change.Change.{Change}
 use Rattle.zk_machine.proofs.Merged.{back_merged}
 
@@ -35,5 +35,5 @@ module _ (txn : Txn) (parts : List Sub) (i : ℕ) (part : Sub) (within : i < len
       ∙ ap (λ (d : Done). told ++ (changes_between m d.nodes ++ part_changes txn d.nodes (drop (i + 1) parts))) (sym done)
       ∙ ap (λ l. told ++ l) (cons (part_changes txn m))
 
-pub notes_next : (t more all : NoteMap) (m n : NodeMap) → all ≡ all_noted t (entries more) → nodes_before more n ≡ m → nodes_before all n ≡ nodes_before t m
+pub notes_next : (t more all : PreimageMap) (m n : NodeMap) → all ≡ all_noted t (entries more) → nodes_before more n ≡ m → nodes_before all n ≡ nodes_before t m
 notes_next t more all m n both undone = ap (λ l. nodes_before l n) both ∙ back_merged t (entries more) n ∙ ap (nodes_before t) undone

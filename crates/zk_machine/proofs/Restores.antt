@@ -1,5 +1,5 @@
--- How what was noted is put back into a tree, where a node may only be taken when it has no children, put where its
--- parent stands, and changed to one of the same owner.
+-- Restoring preimages into a tree: a node may be removed only without children, put only below an
+-- existing parent, and replaced only by one of the same owner.
 use Rattle.std.proofs.Common.{◌≡◌, ℕ, ℤ, pos, Bool, true, false, cond, not, ◌&&◌, List, [], ◌∷◌, ◌++◌, length, get_or, take, drop, zero, suc, add-one, ◌+◌, ◌-◌, ◌<◌, ◌≤◌, arith, Option, Some, None, is_some, IsSome, unwrap_or, refl, sym, ap, subst, ◌∙◌, codes, is_lt, is_eq, Less, Equal, Greater}
 use Rattle.std.proofs.lemmas.Bool.{false≢true, and_parts, and_from}
 use Rattle.std.proofs.lemmas.Bool.Decides.{Decides-int_eq, Decides-eqb}
@@ -12,18 +12,18 @@ use Rattle.std.specs.Ordering.{eq_by_cmp, int_eq}
 use Rattle.zk_path.specs.Paths.{parent_of}
 use Rattle.zk_txn.specs.declared.node.Node.{Node}
 use Rattle.zk_table.specs.States.{NodeMap, path_cmp, children_of}
-use Rattle.zk_machine.specs.Notes.{Note}
+use Rattle.zk_machine.specs.Preimages.{Preimage}
 use Rattle.zk_machine.specs.Restoring.{must_go, cleared_at, cleared, filled_at, filled, begins_with_slash, all_begin}
 use Rattle.zk_tree.specs.Trees.{IsTree, owner_at}
 use Rattle.zk_machine.specs.Undoing.{all_put_back, IsState}
 use Rattle.zk_machine.proofs.Families.{childless, has_parent, same_itself}
-use Rattle.zk_machine.proofs.Notes.{was, get-all_put_back}
+use Rattle.zk_machine.proofs.PreimageLaws.{was, get-all_put_back}
 use Rattle.zk_machine.proofs.Orders.{parent_less, children_go}
 use Rattle.zk_machine.proofs.Texts.{same_is, path_cmp-IsAntisymmetric}
 
--- ---- what is found among notes in order
+-- ---- look-ups among sorted preimages
 
-abbrev below_all : List ℕ → List Note → Bool
+abbrev below_all : List ℕ → List Preimage → Bool
 below_all x [] = true
 below_all x (e ∷ es) = is_lt (path_cmp x e.0) && below_all x es
 
@@ -35,69 +35,69 @@ ordered Greater e = absurd (false≢true e)
 apart : (x q : List ℕ) → path_cmp x q ≡ Less → eq_by_cmp path_cmp q x ≡ false
 apart x q h = (eq_by_cmp_equiv nat_list_cmp_total).symm q x ∙ ap is_eq h
 
-find_least : (x : List ℕ) (es : List Note) → below_all x es ≡ true → find path_cmp x es ≡ None
+find_least : (x : List ℕ) (es : List Preimage) → below_all x es ≡ true → find path_cmp x es ≡ None
 find_least x [] h = refl
 find_least x (e ∷ es) h = ap (λ r. cond (is_eq r) (Some e.1) (find path_cmp x es)) (ordered _ (and_parts _ _ h).0) ∙ find_least x es (and_parts _ _ h).1
 
-find_less : (q x : List ℕ) (es : List Note) → path_cmp q x ≡ Less → below_all x es ≡ true → find path_cmp q es ≡ None
+find_less : (q x : List ℕ) (es : List Preimage) → path_cmp q x ≡ Less → below_all x es ≡ true → find path_cmp q es ≡ None
 find_less q x [] less h = refl
 find_less q x (e ∷ es) less h =
     ap (λ r. cond (is_eq r) (Some e.1) (find path_cmp q es)) (nat_list_cmp_total.trans q x e.0 less (ordered _ (and_parts _ _ h).0))
     ∙ find_less q x es less (and_parts _ _ h).1
 
-module _ (e : Note) (rest : List Note) where
-  mid_above : (x : List ℕ) (front : List Note) → below_all x (front ++ e ∷ rest) ≡ true → path_cmp x e.0 ≡ Less
+module _ (e : Preimage) (rest : List Preimage) where
+  mid_above : (x : List ℕ) (front : List Preimage) → below_all x (front ++ e ∷ rest) ≡ true → path_cmp x e.0 ≡ Less
   mid_above x [] h = ordered _ (and_parts _ _ h).0
   mid_above x (y ∷ front) h = mid_above x front (and_parts _ _ h).1
 
-  rest_above : (front : List Note) → is_sorted path_cmp (front ++ e ∷ rest) ≡ true → below_all e.0 rest ≡ true
+  rest_above : (front : List Preimage) → is_sorted path_cmp (front ++ e ∷ rest) ≡ true → below_all e.0 rest ≡ true
   rest_above [] h = (and_parts _ _ h).0
   rest_above (x ∷ front) h = rest_above front (and_parts _ _ h).1
 
-  find_at : (front : List Note) → is_sorted path_cmp (front ++ e ∷ rest) ≡ true → find path_cmp e.0 (front ++ e ∷ rest) ≡ Some e.1
+  find_at : (front : List Preimage) → is_sorted path_cmp (front ++ e ∷ rest) ≡ true → find path_cmp e.0 (front ++ e ∷ rest) ≡ Some e.1
   find_at [] h = ap (λ b. cond b (Some e.1) (find path_cmp e.0 rest)) (same_itself e.0)
   find_at (x ∷ front) h =
       ap (λ b. cond b (Some x.1) (find path_cmp e.0 (front ++ e ∷ rest))) (apart x.0 e.0 (mid_above x.0 front (and_parts _ _ h).0))
       ∙ find_at front (and_parts _ _ h).1
 
-  find_not_before : (front : List Note) → is_sorted path_cmp (front ++ e ∷ rest) ≡ true → find path_cmp e.0 front ≡ None
+  find_not_before : (front : List Preimage) → is_sorted path_cmp (front ++ e ∷ rest) ≡ true → find path_cmp e.0 front ≡ None
   find_not_before [] h = refl
   find_not_before (x ∷ front) h =
       ap (λ b. cond b (Some x.1) (find path_cmp e.0 front)) (apart x.0 e.0 (mid_above x.0 front (and_parts _ _ h).0))
       ∙ find_not_before front (and_parts _ _ h).1
 
-  find_behind : (q : List ℕ) → path_cmp e.0 q ≡ Less → (front : List Note) → is_sorted path_cmp (front ++ e ∷ rest) ≡ true → find path_cmp q (front ++ e ∷ rest) ≡ find path_cmp q rest
+  find_behind : (q : List ℕ) → path_cmp e.0 q ≡ Less → (front : List Preimage) → is_sorted path_cmp (front ++ e ∷ rest) ≡ true → find path_cmp q (front ++ e ∷ rest) ≡ find path_cmp q rest
   find_behind q less [] h = ap (λ b. cond b (Some e.1) (find path_cmp q rest)) (apart e.0 q less)
   find_behind q less (x ∷ front) h =
       ap (λ b. cond b (Some x.1) (find path_cmp q (front ++ e ∷ rest))) (apart x.0 q (nat_list_cmp_total.trans x.0 e.0 q (mid_above x.0 front (and_parts _ _ h).0) less))
       ∙ find_behind q less front (and_parts _ _ h).1
 
-  find_before : (q : List ℕ) → path_cmp q e.0 ≡ Less → (front : List Note) → is_sorted path_cmp (front ++ e ∷ rest) ≡ true → find path_cmp q (front ++ e ∷ rest) ≡ find path_cmp q front
+  find_before : (q : List ℕ) → path_cmp q e.0 ≡ Less → (front : List Preimage) → is_sorted path_cmp (front ++ e ∷ rest) ≡ true → find path_cmp q (front ++ e ∷ rest) ≡ find path_cmp q front
   find_before q less [] h = ap (λ r. cond (is_eq r) (Some e.1) (find path_cmp q rest)) less ∙ find_less q e.0 rest less (and_parts _ _ h).0
   find_before q less (x ∷ front) h = ap (cond (eq_by_cmp path_cmp q x.0) (Some x.1)) (find_before q less front (and_parts _ _ h).1)
 
-  front_in_order : (front : List Note) → is_sorted path_cmp (front ++ e ∷ rest) ≡ true → is_sorted path_cmp front ≡ true
+  front_in_order : (front : List Preimage) → is_sorted path_cmp (front ++ e ∷ rest) ≡ true → is_sorted path_cmp front ≡ true
   front_in_order [] h = refl
   front_in_order (x ∷ front) h = and_from _ _ (below_front x.0 front (and_parts _ _ h).0) (front_in_order front (and_parts _ _ h).1)
     where
-      below_front : (x : List ℕ) (front : List Note) → below_all x (front ++ e ∷ rest) ≡ true → below_all x front ≡ true
+      below_front : (x : List ℕ) (front : List Preimage) → below_all x (front ++ e ∷ rest) ≡ true → below_all x front ≡ true
       below_front x [] h = refl
       below_front x (y ∷ front) h = and_from _ _ (and_parts _ _ h).0 (below_front x front (and_parts _ _ h).1)
 
-  rest_in_order : (front : List Note) → is_sorted path_cmp (front ++ e ∷ rest) ≡ true → is_sorted path_cmp rest ≡ true
+  rest_in_order : (front : List Preimage) → is_sorted path_cmp (front ++ e ∷ rest) ≡ true → is_sorted path_cmp rest ≡ true
   rest_in_order [] h = (and_parts _ _ h).1
   rest_in_order (x ∷ front) h = rest_in_order front (and_parts _ _ h).1
 
-  mid_begins : (front : List Note) → all_begin (front ++ e ∷ rest) ≡ true → begins_with_slash e.0 ≡ true
+  mid_begins : (front : List Preimage) → all_begin (front ++ e ∷ rest) ≡ true → begins_with_slash e.0 ≡ true
   mid_begins [] h = (and_parts _ _ h).0
   mid_begins (x ∷ front) h = mid_begins front (and_parts _ _ h).1
 
-split_at : (es : List Note) (i : ℕ) (e : Note) → i < length es → get_or es i e ≡ e → es ≡ take i es ++ e ∷ drop (suc i) es
+split_at : (es : List Preimage) (i : ℕ) (e : Preimage) → i < length es → get_or es i e ≡ e → es ≡ take i es ++ e ∷ drop (suc i) es
 split_at [] i e lt is = absurd (omega arith)
 split_at (x ∷ es) zero e lt is = ap (λ e. e ∷ es) is
 split_at (x ∷ es) (suc i) e lt is = ap (λ l. x ∷ l) (split_at es i e (omega arith) is)
 
-find_begins : (es : List Note) (q : List ℕ) (x : Option Node) → all_begin es ≡ true → find path_cmp q es ≡ Some x → begins_with_slash q ≡ true
+find_begins : (es : List Preimage) (q : List ℕ) (x : Option Node) → all_begin es ≡ true → find path_cmp q es ≡ Some x → begins_with_slash q ≡ true
 find_begins [] q x h found = absurd (false≢true (ap is_some found))
 find_begins (e ∷ es) q x h found =
     elim (eq_by_cmp path_cmp q e.0) as (λ b. eq_by_cmp path_cmp q e.0 ≡ b → cond b (Some e.1) (find path_cmp q es) ≡ Some x → begins_with_slash q ≡ true) [
@@ -111,7 +111,7 @@ parent_below (b ∷ bs) above h is =
     let slash : b ≡ 47 = (Decides-eqb b 47).0 h in
     subst (λ (b : ℕ). path_cmp above (b ∷ bs) ≡ Less) (sym slash) (parent_less bs above (ap (λ b. parent_of (b ∷ bs)) (sym slash) ∙ is))
 
--- ---- the two turns, path by path
+-- ---- both passes, path by path
 
 abbrev gone_by : Option (Option Node) → Option Node → Option Node
 gone_by None now = now
@@ -138,7 +138,7 @@ get-cleared_at path before m q = by_going (must_go before (finite.get m path)) r
       | false ↦ λ s. refl
     ] refl
 
-get-cleared : (es : List Note) (m : NodeMap) (q : List ℕ) → is_sorted path_cmp es ≡ true → finite.get (cleared es m) q ≡ gone_by (find path_cmp q es) (finite.get m q)
+get-cleared : (es : List Preimage) (m : NodeMap) (q : List ℕ) → is_sorted path_cmp es ≡ true → finite.get (cleared es m) q ≡ gone_by (find path_cmp q es) (finite.get m q)
 get-cleared [] m q h = refl
 get-cleared (e ∷ es) m q h =
     let rest = get-cleared es m q (and_parts _ _ h).1 in
@@ -153,7 +153,7 @@ get-filled_at : (path : List ℕ) (before : Option Node) (m : NodeMap) (q : List
 get-filled_at path None m q = elim (eq_by_cmp path_cmp q path) as (λ b. finite.get m q ≡ cond b (finite.get m q) (finite.get m q)) [ true ↦ refl | false ↦ refl ]
 get-filled_at path (Some node) m q = finite.get-insert nat_list_cmp_total m path node q
 
-get-filled : (es : List Note) (m : NodeMap) (q : List ℕ) → is_sorted path_cmp es ≡ true → finite.get (filled es m) q ≡ filled_by (find path_cmp q es) (finite.get m q)
+get-filled : (es : List Preimage) (m : NodeMap) (q : List ℕ) → is_sorted path_cmp es ≡ true → finite.get (filled es m) q ≡ filled_by (find path_cmp q es) (finite.get m q)
 get-filled [] m q h = refl
 get-filled (e ∷ es) m q h =
     get-filled es (filled_at e.0 e.1 m) q (and_parts _ _ h).1
@@ -163,24 +163,24 @@ get-filled (e ∷ es) m q h =
       | false ↦ λ s. refl
     ] refl
 
-pub filled-push : (es : List Note) (e : Note) (m : NodeMap) → filled (es ++ e ∷ []) m ≡ filled_at e.0 e.1 (filled es m)
+pub filled-push : (es : List Preimage) (e : Preimage) (m : NodeMap) → filled (es ++ e ∷ []) m ≡ filled_at e.0 e.1 (filled es m)
 filled-push [] e m = refl
 filled-push (x ∷ es) e m = filled-push es e (filled_at x.0 x.1 m)
 
--- both turns together give what was there
+-- both passes together restore what was there
 both_turns : (x : Option (Option Node)) (now : Option Node) → filled_by x (gone_by x now) ≡ was x now
 both_turns None now = refl
 both_turns (Some (Some node)) now = refl
 both_turns (Some None) None = refl
 both_turns (Some None) (Some now) = refl
 
-pub put_back_in_turns : (es : List Note) (m : NodeMap) → is_sorted path_cmp es ≡ true → filled es (cleared es m) ≡ all_put_back es m
+pub put_back_in_turns : (es : List Preimage) (m : NodeMap) → is_sorted path_cmp es ≡ true → filled es (cleared es m) ≡ all_put_back es m
 put_back_in_turns es m h = finite.same_map nat_list_cmp_total path_cmp-IsAntisymmetric _ _ (λ q. get-filled es (cleared es m) q h
     ∙ ap (filled_by (find path_cmp q es)) (get-cleared es m q h)
     ∙ both_turns (find path_cmp q es) (finite.get m q)
     ∙ sym (get-all_put_back es m q))
 
--- ---- what a note that must go says
+-- ---- preimages whose node must be removed
 
 abbrev owner_of : Option Node → Option ℤ
 owner_of x = option_map (λ node. node.owner) x
@@ -208,14 +208,14 @@ gone_there x (Some now) e = refl
 gone_there None None e = e
 gone_there (Some before) None e = e
 
-module _ (es front rest : List Note) (e : Note) (split : es ≡ front ++ e ∷ rest) (h : is_sorted path_cmp es ≡ true) (now : NodeMap) (state : IsState (all_put_back es now)) (cur : NodeMap) where
+module _ (es front rest : List Preimage) (e : Preimage) (split : es ≡ front ++ e ∷ rest) (h : is_sorted path_cmp es ≡ true) (now : NodeMap) (state : IsState (all_put_back es now)) (cur : NodeMap) where
   abbrev split_sorted : is_sorted path_cmp (front ++ e ∷ rest) ≡ true
   split_sorted = ap (is_sorted path_cmp) (sym split) ∙ h
 
   found : find path_cmp e.0 es ≡ Some e.1
   found = ap (find path_cmp e.0) split ∙ find_at e rest front split_sorted
 
-  -- ---- the first turn, behind which the rest is done
+  -- ---- the first pass, after which the rest is done
 
   module _ (tree : IsTree now) (root : (before : Option Node) → find path_cmp (codes "/") es ≡ Some before → owner_of before ≡ Some (pos 0)) (begin : all_begin es ≡ true) (rest_sorted : is_sorted path_cmp rest ≡ true) (is : cur ≡ cleared rest now) (cur_tree : IsTree cur) (go : must_go e.1 (finite.get cur e.0) ≡ true) where
     at_cur : (q : List ℕ) → finite.get cur q ≡ gone_by (find path_cmp q rest) (finite.get now q)
@@ -248,7 +248,7 @@ module _ (es front rest : List Note) (e : Note) (split : es ≡ front ++ e ∷ r
         no_child : (child : List ℕ) → finite.contains_key cur child ≡ true → parent_of child ≡ Some e.0 → ⊥
         no_child child has below = by_note child has below (find path_cmp child es) refl (ap is_some (sym (get-all_put_back es now child)) ∙ gone_before child has below)
 
-  -- ---- the second turn, before which the front is done
+  -- ---- the second pass, before which the prefix is done
 
   module _ (begin : begins_with_slash e.0 ≡ true) (front_sorted : is_sorted path_cmp front ≡ true) (is : cur ≡ filled front (cleared es now)) (node : Node) (comes : e.1 ≡ Some node) where
     at_filled : (q : List ℕ) → finite.get cur q ≡ filled_by (find path_cmp q front) (gone_by (find path_cmp q es) (finite.get now q))
@@ -277,19 +277,19 @@ module _ (es front rest : List Note) (e : Note) (split : es ≡ front ++ e ∷ r
         by_now None is = absurd (false≢true (ap is_some is))
         by_now (Some x) is = by_going x (must_go (Some node) (Some x)) refl is
 
--- ---- the turns, place by place
+-- ---- the passes, position by position
 
-drop_at : (es : List Note) (i : ℕ) (e : Note) → i < length es → get_or es i e ≡ e → drop i es ≡ e ∷ drop (suc i) es
+drop_at : (es : List Preimage) (i : ℕ) (e : Preimage) → i < length es → get_or es i e ≡ e → drop i es ≡ e ∷ drop (suc i) es
 drop_at [] i e lt is = absurd (omega arith)
 drop_at (x ∷ es) zero e lt is = ap (λ e. e ∷ es) is
 drop_at (x ∷ es) (suc i) e lt is = drop_at es i e (omega arith) is
 
-take_next : (es : List Note) (i : ℕ) (e : Note) → i < length es → get_or es i e ≡ e → take (suc i) es ≡ take i es ++ e ∷ []
+take_next : (es : List Preimage) (i : ℕ) (e : Preimage) → i < length es → get_or es i e ≡ e → take (suc i) es ≡ take i es ++ e ∷ []
 take_next [] i e lt is = absurd (omega arith)
 take_next (x ∷ es) zero e lt is = ap (λ e. e ∷ []) is
 take_next (x ∷ es) (suc i) e lt is = ap (λ l. x ∷ l) (take_next es i e (omega arith) is)
 
-module _ (es : List Note) (at : ℕ) (e : Note) (some : 0 < at) (within : at ≤ length es) (is : get_or es (at - 1) e ≡ e) (h : is_sorted path_cmp es ≡ true) (slashes : all_begin es ≡ true) (now : NodeMap) (cur : NodeMap) (so_far : cur ≡ cleared (drop at es) now) where
+module _ (es : List Preimage) (at : ℕ) (e : Preimage) (some : 0 < at) (within : at ≤ length es) (is : get_or es (at - 1) e ≡ e) (h : is_sorted path_cmp es ≡ true) (slashes : all_begin es ≡ true) (now : NodeMap) (cur : NodeMap) (so_far : cur ≡ cleared (drop at es) now) where
   here : suc (at - 1) ≡ at
   here = omega arith
 
@@ -312,7 +312,7 @@ module _ (es : List Note) (at : ℕ) (e : Note) (some : 0 < at) (within : at ≤
     pub clear_below : IsSome (parent_of e.0)
     clear_below = take_below es (take (at - 1) es) (drop at es) e split h now state cur tree root slashes in_order so_far cur_tree go
 
-module _ (es : List Note) (i : ℕ) (e : Note) (within : i < length es) (is : get_or es i e ≡ e) (h : is_sorted path_cmp es ≡ true) (slashes : all_begin es ≡ true) (mid : NodeMap) (cur : NodeMap) (so_far : cur ≡ filled (take i es) mid) where
+module _ (es : List Preimage) (i : ℕ) (e : Preimage) (within : i < length es) (is : get_or es i e ≡ e) (h : is_sorted path_cmp es ≡ true) (slashes : all_begin es ≡ true) (mid : NodeMap) (cur : NodeMap) (so_far : cur ≡ filled (take i es) mid) where
   abbrev parts : es ≡ take i es ++ e ∷ drop (suc i) es
   parts = split_at es i e within is
 

@@ -1,4 +1,4 @@
--- Texts that tie are the same.
+-- Texts that compare as equal are equal.
 use Rattle.std.proofs.Common.{◌≡◌, ℕ, true, List, refl, Equal, Less, Greater, is_eq}
 use Rattle.std.proofs.lemmas.Bool.{false≢true}
 use Rattle.std.specs.declared.cmp.Ordering.{Ordering}

@@ -1,4 +1,4 @@
--- A session's timeout put back.
+-- Restoring a session's timeout.
 use Rattle.std.proofs.Common.{◌≡◌, ℕ, ℤ, true, false, cond, Option, Some, None, refl, ap, ◌∙◌}
 use Rattle.std.proofs.lemmas.Cmp.{nat_cmp_total}
 use Rattle.std.specs.FinMap as finite
@@ -12,7 +12,7 @@ get-put_back : (k : ℕ) (x : Option ℤ) (n : SessionMap) (q : ℕ) → finite.
 get-put_back k None n q = finite.get-remove nat_cmp_total n k q
 get-put_back k (Some t) n q = finite.get-insert nat_cmp_total n k t q
 
--- a change of one session and its note undo each other
+-- a change of one session and its preimage cancel
 put_back_noted : (s n : SessionMap) (k : ℕ) → ((q : ℕ) → eq_by_cmp nat_cmp q k ≡ false → finite.get n q ≡ finite.get s q) → timeout_put_back k (finite.get s k) n ≡ s
 put_back_noted s n k others = finite.same_map nat_cmp_total nat_cmp-IsAntisymmetric _ _ (λ q. get-put_back k (finite.get s k) n q ∙ by_key q)
   where

@@ -1,5 +1,5 @@
--- What a transaction changed, found by comparing the states before and after: ZooKeeper Programmer's Guide, "ZooKeeper
--- Watches". One instruction is a transaction or one part of a multi.
+-- The changes of a transaction, found by comparing the states before and after: ZooKeeper
+-- Programmer's Guide, "ZooKeeper Watches". One instruction is a transaction or one part of a multi.
 use Rattle.std.specs.Prelude.{ℕ, Bool, List, [], ◌∷◌, ◌++◌, Option, Some, None, if◌then◌else◌}
 use Rattle.std.specs.List.{list_any, flat_map}
 use Rattle.std.specs.Ordering.{int_eq}
@@ -22,7 +22,8 @@ use Rattle.zk_machine.specs.declared.change.ChangeKind.TheVariants.{Created, Del
 abbrev pub changed_unless : Bool → List ℕ → ChangeKind → List Change
 changed_unless same path kind = if same then [] else record { path = path; kind = kind } ∷ []
 
--- what happened at a path, by the node before and the node after; of two changes the one of the content comes first
+-- the changes at a path, from the node before and the node after; the change of the content
+-- precedes that of the children
 abbrev pub compared : List ℕ → Option Node → Option Node → List Change
 compared path None None = []
 compared path None (Some after) = record { path = path; kind = Created } ∷ []
@@ -33,7 +34,7 @@ compared path (Some before) (Some after) =
 abbrev pub change_at : NodeMap → NodeMap → List ℕ → List Change
 change_at before after path = compared path (get before path) (get after path)
 
--- the paths of either, in order
+-- the paths of both, in order
 abbrev pub paths_of : NodeMap → NodeMap → List (List ℕ)
 paths_of before after = keys (from_entries {R = path_cmp} (entries before ++ entries after))
 
@@ -42,13 +43,13 @@ changes_between before after = flat_map (change_at before after) (paths_of befor
 
 -- ---- instruction by instruction
 
--- parts that are applied in turn
+-- parts that are applied in order
 abbrev pub part_changes : Txn → NodeMap → List Sub → List Change
 part_changes txn nodes [] = []
 part_changes txn nodes (part ∷ parts) =
     let next = (apply_part txn nodes part).nodes in changes_between nodes next ++ part_changes txn next parts
 
--- with an error among them no part is applied
+-- if one part is an error, no part is applied
 abbrev pub multi_changes : State → Txn → List Sub → List Change
 multi_changes state txn parts = if list_any is_error parts then [] else part_changes txn state.nodes parts
 

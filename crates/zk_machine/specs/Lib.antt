@@ -1,7 +1,7 @@
 pub mod Changes
 pub mod ChangeLaws
 pub mod Undoing
-pub mod Notes
+pub mod Preimages
 pub mod Machines
 pub mod Tables
 pub mod Restoring

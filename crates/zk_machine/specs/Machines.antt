@@ -1,4 +1,4 @@
--- A machine: a state, and how many transactions it was brought there by.
+-- A machine: a state, and the number of transactions that led to it.
 use Rattle.std.specs.Prelude.{ℕ, Bool, refl}
 use Rattle.std.specs.Coded.{Coded, code_by, coded×, coded_ℕ, coded_bool}
 use Rattle.zk_txn.specs.declared.node.Node.{Node}
@@ -6,9 +6,9 @@ use Rattle.zk_table.specs.States.{State, state_code}
 
 pub record MachineView : Type 0 where
   pub state : State
-  -- transactions that were applied and not undone
+  -- the number of transactions that were applied and not undone
   pub steps : ℕ
-  -- of a machine that has failed nothing else is said
+  -- nothing else is specified of a machine that has failed
   pub failed : Bool
 
 abbrev pub machine_code : Coded Node → Coded MachineView

@@ -1,4 +1,4 @@
--- Why a machine doesn't take a transaction back, and what it is then.
+-- Why a machine does not undo a transaction, and its state afterwards.
 use Rattle.std.specs.Prelude.{◌≡◌, ◌≢◌, true, false, Option, Some, None}
 use Rattle.zk_machine.specs.declared.fault.MachineFault.{MachineFault}
 use Rattle.zk_machine.specs.declared.fault.MachineFault.TheVariants.{NoMemory, Failed, NotLast}
@@ -6,8 +6,8 @@ use Rattle.zk_machine.specs.declared.fault.UndoFault.{UndoFault}
 use Rattle.zk_machine.specs.Machines.{MachineView}
 use Rattle.zk_machine.specs.Undoing.{Undoing}
 
--- memory was refused to a running machine with the record of its last step; it had failed; or it runs, and the record
--- is another's
+-- an allocation failed in a running machine with the record of its last step; or the machine had
+-- failed; or it runs, and the record's step is not its last one
 abbrev pub IsUndoRefusedFor : MachineFault → MachineView → MachineView → Undoing → Option Undoing → Type 0
 IsUndoRefusedFor NoMemory before after undo back =
     (before.failed ≡ false) × (undo.step ≡ before.steps) × (after.failed ≡ true) × (after.steps ≡ before.steps) × (back ≡ None)

@@ -1,14 +1,14 @@
--- How notes are put back into a tree: from the last to the first what must go is taken, then from the first to the last
--- what was there is put.
+-- How preimages are restored into a tree: nodes are removed from the last path to the first, then
+-- old nodes are put back from the first path to the last.
 use Rattle.std.specs.Prelude.{ℕ, Bool, true, false, not, ◌&&◌, List, [], ◌∷◌, Option, Some, None, if◌then◌else◌}
 use Rattle.std.specs.FinMap.{get, insert, remove}
 use Rattle.std.specs.Ordering.{int_eq}
 use Rattle.zk_path.specs.Paths.{is_slash}
 use Rattle.zk_txn.specs.declared.node.Node.{Node}
 use Rattle.zk_table.specs.States.{NodeMap}
-use Rattle.zk_machine.specs.Notes.{Note}
+use Rattle.zk_machine.specs.Preimages.{Preimage}
 
--- whether a node, if it is there, has to go before the one that was there comes back: an owner never changes in place
+-- whether a node must be removed before the old one is restored: an owner never changes in place
 abbrev pub must_go : Option Node → Option Node → Bool
 must_go before None = false
 must_go None (Some now) = true
@@ -17,7 +17,7 @@ must_go (Some before) (Some now) = not (int_eq before.owner now.owner)
 abbrev pub cleared_at : List ℕ → Option Node → NodeMap → NodeMap
 cleared_at path before nodes = if must_go before (get nodes path) then remove nodes path else nodes
 
-abbrev pub cleared : List Note → NodeMap → NodeMap
+abbrev pub cleared : List Preimage → NodeMap → NodeMap
 cleared [] nodes = nodes
 cleared (note ∷ notes) nodes = cleared_at note.0 note.1 (cleared notes nodes)
 
@@ -25,7 +25,7 @@ abbrev pub filled_at : List ℕ → Option Node → NodeMap → NodeMap
 filled_at path None nodes = nodes
 filled_at path (Some node) nodes = insert nodes path node
 
-abbrev pub filled : List Note → NodeMap → NodeMap
+abbrev pub filled : List Preimage → NodeMap → NodeMap
 filled [] nodes = nodes
 filled (note ∷ notes) nodes = filled notes (filled_at note.0 note.1 nodes)
 
@@ -33,6 +33,6 @@ abbrev pub begins_with_slash : List ℕ → Bool
 begins_with_slash [] = false
 begins_with_slash (b ∷ bs) = is_slash b
 
-abbrev pub all_begin : List Note → Bool
+abbrev pub all_begin : List Preimage → Bool
 all_begin [] = true
 all_begin (note ∷ notes) = begins_with_slash note.0 && all_begin notes

@@ -2,12 +2,12 @@ use crate::change::Change;
 use crate::undo::Undo;
 use zk_table::TxnResult;
 
-/// What the table answered to a transaction, what it changed, and how it is taken back.
+/// The result of a transaction, its changes, and its undo record.
 #[derive(Debug, Drop)]
 pub struct Applied {
     pub result: TxnResult,
-    /// Instruction by instruction, where each part of a multi is one; within an instruction by path, and at one path
-    /// the content before the children.
+    /// In the order of the instructions, where each part of a multi is one. Within an instruction
+    /// sorted by path; at one path the content precedes the children.
     pub changes: Vec<Change>,
     pub undo: Undo,
 }

@@ -6,29 +6,29 @@ use zk_path::{NoMemory, Path};
 use zk_table::Node;
 use zk_tree::Tree;
 
-/// What happened at a path. The numbers are those of the events of the 3.4 server.
+/// The kind of a change at a path. The numbers are those of the 3.4 server's events.
 ///
 /// ZooKeeper Programmer's Guide, "ZooKeeper Watches".
 #[derive(Clone, Copy, Debug, PartialEq, Eq)]
 pub enum ChangeKind {
-    /// A node came: `NodeCreated`.
+    /// The node was created: `NodeCreated`.
     Created = 1,
-    /// The node went: `NodeDeleted`.
+    /// The node was deleted: `NodeDeleted`.
     Deleted = 2,
-    /// The node has another mzxid: `NodeDataChanged`.
+    /// The node's mzxid changed: `NodeDataChanged`.
     DataChanged = 3,
-    /// The node has another pzxid: `NodeChildrenChanged`.
+    /// The node's pzxid changed: `NodeChildrenChanged`.
     ChildrenChanged = 4,
 }
 
-/// A path, and what happened there.
+/// A change at a path.
 #[derive(Debug, Drop)]
 pub struct Change {
     pub path: Path,
     pub kind: ChangeKind,
 }
 
-/// Tells what happened at a path, by the node before and the tree after.
+/// Appends the changes at a path, from the node before and the tree after.
 pub(crate) fn compare(
     changes: &mut Vec<Change>,
     path: &Path,
@@ -50,7 +50,7 @@ pub(crate) fn compare(
     }
 }
 
-/// Tells what happened at a path, unless it is the same.
+/// Appends a change unless `same`.
 fn tell_unless(
     changes: &mut Vec<Change>,
     same: bool,

@@ -5,16 +5,17 @@ use crate::undo::Undo;
 use thiserror::Error;
 use zk_path::NoMemory;
 
-/// Why a machine refused a call.
+/// Why a machine rejects a call.
 #[derive(Clone, Copy, Debug, PartialEq, Eq, Error)]
 pub enum MachineFault {
-    /// Memory was refused. In the middle of a change the machine has failed then, after a read it is as it was.
+    /// An allocation failed. In the middle of a change the machine has then failed; after a read it
+    /// is unchanged.
     #[error("M1")]
     NoMemory,
-    /// The machine has failed in an earlier call.
+    /// The machine failed in an earlier call.
     #[error("M2")]
     Failed,
-    /// The record is not that of the last step.
+    /// The record's step number is not that of the last step.
     #[error("M3")]
     NotLast,
 }
@@ -27,7 +28,8 @@ impl From<NoMemory> for MachineFault {
     }
 }
 
-/// Why a machine didn't take a transaction back, and the record of it, which comes back but where memory was refused.
+/// Why a machine did not undo a transaction. The undo record is returned, unless an allocation
+/// failed.
 #[derive(Debug, Drop)]
 pub struct UndoFault {
     pub fault: MachineFault,

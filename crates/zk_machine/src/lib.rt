@@ -1,22 +1,22 @@
-//! The table over an indexed tree: it tells what each transaction changed, and takes the last one back; or it advances, for
-//! those who ask for neither.
+//! The machine: the table over an indexed tree. It returns what each transaction changed and undoes
+//! the last one, or advances without either.
 //!
 //! ZooKeeper Programmer's Guide, "The ZooKeeper Data Model" and "ZooKeeper Watches".
 #![tactic(auto)]
 
 mod applied;
 mod change;
-mod deed;
+mod effect;
 mod fault;
 mod laws;
 mod machine;
 mod noted_tree;
 mod operations;
+mod preimages;
 mod reading;
 mod restore;
 mod sessions;
 mod table;
-mod touched;
 mod undo;
 
 pub use applied::Applied;

@@ -11,10 +11,10 @@ ghost use Rattle.zk_machine.specs.Undoing.{IsState, restored};
 use crate::applied::Applied;
 use crate::fault::{MachineFault, UndoFault};
 use crate::noted_tree::NotedTree;
+use crate::preimages::Preimages;
 use crate::reading::reply_from;
 use crate::sessions::Sessions;
 use crate::table::Table;
-use crate::touched::Touched;
 use crate::undo::Undo;
 use std::alloc::Global;
 use std::marker::Model;
@@ -23,8 +23,9 @@ use zk_path::NoMemory;
 use zk_table::{ReadCall, ReadReply, Txn, TxnResult};
 use zk_tree::Tree;
 
-/// The table over an indexed tree. A machine that is refused memory in the middle of a change has failed for good:
-/// every later call but [`Machine::has_failed`] answers [`MachineFault::Failed`].
+/// The table over an indexed tree. After an allocation failure in the middle of a change the
+/// machine has failed: every later call but [`Machine::has_failed`] returns
+/// [`MachineFault::Failed`].
 #[derive(Drop)]
 pub struct Machine {
     table: Table,
@@ -55,7 +56,7 @@ impl Machine {
                 nodes: NotedTree {
                     alloc,
                     tree,
-                    touched: Touched::new(alloc),
+                    touched: Preimages::new(alloc),
                 },
                 sessions: Sessions::new(alloc),
                 last: 0,
@@ -65,7 +66,8 @@ impl Machine {
         })
     }
 
-    /// A machine in the same state, which has applied nothing yet: records of the first one's steps are not its own.
+    /// A machine in the same state, whose steps start again at 0. [`undo`](Machine::undo) compares
+    /// only step numbers, so undo records of the original are not for the copy.
     pub fn copy(&self) -> Result<Machine, NoMemory>
         requires { self.now.failed ≡ false }
         ensures { IfOk result (λ copy. copy ≡ record { state = self.now.state; steps = 0; failed = false }) }
@@ -77,14 +79,14 @@ impl Machine {
         })
     }
 
-    /// Applies a transaction.
+    /// Applies a transaction and returns its result, changes and undo record.
     pub fn apply(&mut self, txn: &Txn) -> Result<Applied, MachineFault>
         requires { self.old.steps < 2 ^ 64 - 1 }
         ensures stepped { IfOk result (λ applied. (self.new.state, applied.result) ≡ step self.old.state txn.now) }
         ensures changes { IfOk result (λ applied. applied.changes.items ≡ changes_of self.old.state txn.now) }
         ensures undone { IfOk result (λ applied. restored applied.undo self.new.state ≡ self.old.state) }
         ensures last_step { IfOk result (λ applied. applied.undo.step ≡ self.new.steps) }
-        // What the undo record restores is a state.
+        // The undo record restores a valid state.
         ensures stands { OnOk result (IsState self.old.state.nodes) }
         ensures counted { OnOk result (self.new.steps ≡ self.old.steps + 1) }
         ensures ran { OnOk result ((self.old.failed ≡ false) × (self.new.failed ≡ false)) }
@@ -103,8 +105,7 @@ impl Machine {
         Ok(applied)
     }
 
-    /// Applies a transaction, and tells only the answer: neither what it changed nor how it is taken back. For those who
-    /// never go back.
+    /// Applies a transaction and returns only its result, without changes or undo record.
     pub fn advance(&mut self, txn: &Txn) -> Result<TxnResult, MachineFault>
         requires { self.old.steps < 2 ^ 64 - 1 }
         ensures stepped { IfOk result (λ answered. (self.new.state, answered) ≡ step self.old.state txn.now) }
@@ -125,9 +126,10 @@ impl Machine {
         Ok(answered)
     }
 
-    /// Takes the last transaction back that was applied and not undone.
+    /// Undoes the last transaction that was applied and not undone. The record must be the one of
+    /// that step on this machine; only its step number is checked.
     pub fn undo(&mut self, undo: Undo) -> Result<(), UndoFault>
-        // What the record restores is a state.
+        // The record restores a valid state.
         requires { self.old.failed ≡ false → undo.step ≡ self.old.steps → IsState (restored undo self.old.state).nodes }
         ensures restored { OnOk result (self.new.state ≡ restored undo self.old.state) }
         ensures last_step { OnOk result (undo.step ≡ self.old.steps) }
@@ -159,7 +161,6 @@ impl Machine {
         Ok(())
     }
 
-    /// The nodes.
     pub fn tree(&self) -> Result<&Tree, MachineFault>
         ensures tree { IfOk result (λ tree. (self.now.failed ≡ false) × (tree.now ≡ self.now.state.nodes)) }
         ensures failed { IfErr result (λ fault. (self.now.failed ≡ true) × (fault ≡ faults.Failed)) }
@@ -168,7 +169,8 @@ impl Machine {
         Ok(&self.table.nodes.tree)
     }
 
-    /// What a caller is told who has proved these identities. Want of memory fails only the call.
+    /// The reply to a read by a caller who has proved `auths`. An allocation failure fails only the
+    /// call.
     pub fn read(&self, call: &ReadCall, auths: &[Id]) -> Result<ReadReply, MachineFault>
         ensures reply { IfOk result (λ reply. (self.now.failed ≡ false) × (reply ≡ reply_to self.now.state call.now auths.now)) }
         ensures fault { IfErr result (λ fault. fault ≡ (if self.now.failed then faults.Failed else faults.NoMemory)) }
@@ -177,8 +179,8 @@ impl Machine {
         Ok(reply_from(&self.table.nodes.tree, call, auths)?)
     }
 
-    /// The open sessions, by the unsigned number that their sixteen digits spell, and their timeouts in milliseconds,
-    /// in order.
+    /// The open sessions and their timeouts in milliseconds. They are sorted by the unsigned number
+    /// that a session's sixteen hexadecimal digits show.
     pub fn sessions(&self) -> Result<&[(u64, i32)], MachineFault>
         ensures sessions { IfOk result (λ sessions. (self.now.failed ≡ false) × (sessions.now ≡ finite.entries self.now.state.sessions)) }
         ensures failed { IfErr result (λ fault. (self.now.failed ≡ true) × (fault ≡ faults.Failed)) }
@@ -187,7 +189,7 @@ impl Machine {
         Ok(self.table.sessions.as_slice())
     }
 
-    /// The timeout of a session in milliseconds, if it is open.
+    /// The timeout of a session in milliseconds; `None` if it is not open.
     pub fn session(&self, session: u64) -> Result<Option<i32>, MachineFault>
         ensures timeout { IfOk result (λ timeout. (self.now.failed ≡ false) × (timeout ≡ finite.get self.now.state.sessions session)) }
         ensures failed { IfErr result (λ fault. (self.now.failed ≡ true) × (fault ≡ faults.Failed)) }
@@ -196,7 +198,7 @@ impl Machine {
         Ok(self.table.sessions.get(session))
     }
 
-    /// The last transaction, and 0 before the first.
+    /// The zxid of the last transaction; 0 before the first.
     pub fn last(&self) -> Result<i64, MachineFault>
         ensures last { IfOk result (λ last. (self.now.failed ≡ false) × (last ≡ self.now.state.last)) }
         ensures failed { IfErr result (λ fault. (self.now.failed ≡ true) × (fault ≡ faults.Failed)) }
@@ -205,7 +207,7 @@ impl Machine {
         Ok(self.table.last)
     }
 
-    /// How many transactions were applied and not undone.
+    /// The number of transactions that were applied and not undone.
     pub fn steps(&self) -> Result<u64, MachineFault>
         ensures steps { IfOk result (λ steps. (self.now.failed ≡ false) × (steps ≡ self.now.steps)) }
         ensures failed { IfErr result (λ fault. (self.now.failed ≡ true) × (fault ≡ faults.Failed)) }
@@ -214,8 +216,9 @@ impl Machine {
         Ok(self.steps)
     }
 
-    /// Makes room for a step: steps are counted in 64 bits, and behind the last number the machine begins to count again, as a
-    /// copy does, so that records of its steps are not its own any more. Where memory is refused it is as it was.
+    /// Makes room to count a step. After `u64::MAX` steps the machine is replaced by a copy, whose
+    /// steps start again at 0: earlier undo records are not for it. If an allocation fails it is
+    /// unchanged.
     pub fn make_countable(&mut self) -> Result<(), NoMemory>
         requires { self.old.failed ≡ false }
         ensures state { self.new.state ≡ self.old.state }
@@ -230,14 +233,14 @@ impl Machine {
         Ok(())
     }
 
-    /// Whether memory was refused in the middle of a change.
+    /// Whether an allocation failed in the middle of a change.
     pub fn has_failed(&self) -> bool
         ensures { result ≡ self.now.failed }
     {
         self.failed
     }
 
-    /// Refuses where the machine has failed.
+    /// Fails if the machine has failed.
     fn running(&self) -> Result<(), MachineFault>
         ensures running { OnOk result (self.now.failed ≡ false) }
         ensures failed { IfErr result (λ fault. (self.now.failed ≡ true) × (fault ≡ faults.Failed)) }

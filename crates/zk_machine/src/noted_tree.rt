@@ -9,34 +9,34 @@ ghost use Rattle.zk_machine.specs.Changes.{changes_between};
 ghost use Rattle.zk_machine.specs.Undoing.{nodes_before};
 
 use crate::change::{Change, compare};
-use crate::touched::Touched;
+use crate::preimages::Preimages;
 use std::alloc::Global;
 use zk_path::{NoMemory, Path};
 use zk_table::Node;
 use zk_tree::Tree;
 
-/// A tree, and what was touched in it since a transaction began. After want of memory the tree may be changed where
-/// nothing is noted, so that nothing can be put back.
+/// A tree with the preimages of a transaction. After an allocation failure the tree may have
+/// changes without preimages, which cannot be undone.
 #[derive(Drop)]
 pub(crate) struct NotedTree {
     pub(crate) alloc: Global,
     pub(crate) tree: Tree,
-    pub(crate) touched: Touched,
+    pub(crate) touched: Preimages,
 }
 
 impl NotedTree {
-    /// The same tree once more, of which nothing is noted.
+    /// A copy without preimages.
     pub(crate) fn copy(&self) -> Result<NotedTree, NoMemory>
         ensures { IfOk result (λ copy. copy.tree ≡ self.now.tree) }
     {
         Ok(NotedTree {
             alloc: self.alloc,
             tree: self.tree.copy()?,
-            touched: Touched::new(self.alloc),
+            touched: Preimages::new(self.alloc),
         })
     }
 
-    /// Forgets what was touched.
+    /// Clears the preimages.
     pub(crate) fn begin(&mut self)
         ensures tree { self.new.tree ≡ self.old.tree }
         ensures idle { self.new.touched ≡ finite.empty }
@@ -44,7 +44,7 @@ impl NotedTree {
         self.touched.clear();
     }
 
-    /// Puts a node at a path that is free, below a parent that is there and has no owner.
+    /// Puts a node at a free path, below a parent that exists and has no owner.
     pub(crate) fn put(&mut self, path: &Path, node: Node) -> Result<(), NoMemory>
         requires free { finite.get self.old.tree path.now ≡ None }
         requires below { ForSome (parent_of path.now) (λ parent. owner_at self.old.tree parent ≡ Some (pos 0)) }
@@ -60,7 +60,7 @@ impl NotedTree {
         Ok(())
     }
 
-    /// Takes the node at a path out. It is there, has no children and is not the root.
+    /// Removes the node at a path. It must exist, have no children and not be the root.
     pub(crate) fn take(&mut self, path: &Path) -> Result<(), NoMemory>
         requires there { finite.contains_key self.old.tree path.now ≡ true }
         requires childless { length (children_of self.old.tree path.now) ≡ 0 }
@@ -74,7 +74,7 @@ impl NotedTree {
         Ok(())
     }
 
-    /// Puts another node of the same owner in the place of the one at a path.
+    /// Replaces the node at a path by one of the same owner.
     pub(crate) fn change(&mut self, path: Path, node: Node) -> Result<(), NoMemory>
         requires { owner_at self.old.tree path ≡ Some node.owner }
         ensures tree { OnOk result (self.new.tree ≡ finite.insert self.old.tree path node) }
@@ -85,7 +85,7 @@ impl NotedTree {
         Ok(())
     }
 
-    /// Counts a new child of the parent of a path.
+    /// Counts a created child of the parent of a path.
     pub(crate) fn parent_gains(
         &mut self,
         path: &Path,
@@ -108,7 +108,7 @@ impl NotedTree {
         Ok(())
     }
 
-    /// Notes that the parent of a path lost a child.
+    /// Records that a child of the parent of a path was deleted.
     pub(crate) fn parent_loses(&mut self, path: &Path, zxid: i64) -> Result<(), NoMemory>
         ensures tree { OnOk result (self.new.tree ≡ parent_changed self.old.tree path.now (without_child zxid)) }
         ensures before { OnOk result (nodes_before self.new.touched self.new.tree ≡ nodes_before self.old.touched self.old.tree) }
@@ -126,7 +126,7 @@ impl NotedTree {
         Ok(())
     }
 
-    /// What changed since the notes began.
+    /// The changes since the preimages were cleared.
     pub(crate) fn changes(&self) -> Result<Vec<Change>, NoMemory>
         ensures { IfOk result (λ changes. changes.items ≡ changes_between (nodes_before self.now.touched self.now.tree) self.now.tree) }
     {

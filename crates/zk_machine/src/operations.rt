@@ -1,4 +1,4 @@
-//! What each operation does to the tree, alone or as a part of a multi, with notes of what was there before.
+//! The effect of each operation on the tree, alone or as a part of a multi, with preimages.
 
 ghost use Rattle.std.specs.Prelude.{◌≡◌, IfOk, OnOk};
 ghost use Rattle.zk_table.specs.Multis.{apply_part};
@@ -13,7 +13,6 @@ use zk_table::codes::{BAD_ARGUMENTS, NO_CHILDREN_FOR_EPHEMERALS, NO_NODE, NODE_E
 use zk_table::{Content, Node, PartResult, Sub, Txn};
 
 impl NotedTree {
-    /// Makes a node.
     pub(crate) fn create(
         &mut self,
         txn: &Txn,
@@ -36,7 +35,7 @@ impl NotedTree {
         Ok(PartResult::done(told, None))
     }
 
-    /// Removes a node that has no children.
+    /// Deletes a node without children.
     pub(crate) fn delete(&mut self, txn: &Txn, path: &Path) -> Result<PartResult, NoMemory>
         ensures done { IfOk result (λ answer. delete self.old.tree txn.now path.now ≡ record { nodes = self.new.tree; answer = answer }) }
         ensures before { OnOk result (nodes_before self.new.touched self.new.tree ≡ nodes_before self.old.touched self.old.tree) }
@@ -115,7 +114,7 @@ impl NotedTree {
         }
     }
 
-    /// Removes the nodes that a session owns, of which their parents learn.
+    /// Deletes the nodes that a session owns and updates their parents.
     pub(crate) fn take_owned(&mut self, txn: &Txn) -> Result<(), NoMemory>
         ensures tree { OnOk result (self.new.tree ≡ without_all txn.now self.old.tree (owned_by self.old.tree txn.now.session)) }
         ensures before { OnOk result (nodes_before self.new.touched self.new.tree ≡ nodes_before self.old.touched self.old.tree) }
@@ -129,7 +128,7 @@ impl NotedTree {
         Ok(())
     }
 
-    /// Why a node can't be made at a path.
+    /// The error code of a create at a path; `None` if it can be applied.
     fn create_fault(&self, path: &Path) -> Option<i32>
         ensures { result ≡ create_fault self.now.tree path.now }
     {
@@ -149,7 +148,7 @@ impl NotedTree {
         }
     }
 
-    /// Why the node at a path can't be removed.
+    /// The error code of a delete of the node at a path; `None` if it can be applied.
     fn delete_fault(&self, path: &Path) -> Option<i32>
         ensures { result ≡ delete_fault self.now.tree path.now }
     {

@@ -1,4 +1,4 @@
-//! What reads are told, by the tree's indexes.
+//! Replies to reads, by the tree's indexes.
 
 ghost use Rattle.std.specs.Prelude.{◌≡◌, IfOk};
 ghost use Rattle.zk_txn.specs.declared.read.ReadReply.TheVariants as replies;
@@ -11,7 +11,7 @@ use zk_table::codes::{NO_AUTH, NO_NODE};
 use zk_table::{Node, ReadCall, ReadReply};
 use zk_tree::Tree;
 
-/// What a caller is told of a tree who has proved these identities.
+/// The reply to a read of `tree` by a caller who has proved `auths`.
 pub(crate) fn reply_from(tree: &Tree, call: &ReadCall, auths: &[Id]) -> Result<ReadReply, NoMemory>
     ensures { IfOk result (λ reply. reply ≡ reply_from tree.now call.now auths.now) }
 {
@@ -28,7 +28,7 @@ pub(crate) fn reply_from(tree: &Tree, call: &ReadCall, auths: &[Id]) -> Result<R
     }
 }
 
-/// What a read of the names of a node's children is told.
+/// The reply to a read of the names of a node's children.
 fn children_reply(
     tree: &Tree,
     path: &Path,

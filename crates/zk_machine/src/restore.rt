@@ -1,4 +1,4 @@
-//! How notes are put back into a tree.
+//! Restoring preimages into a tree.
 
 ghost use Rattle.std.specs.Prelude.{◌≡◌, pos, ℕ, List, Option, true, Some, OnOk, IsTrue, IsSome, length, codes, option_map};
 ghost use Rattle.std.specs.FinMap as finite;
@@ -9,13 +9,13 @@ ghost use Rattle.zk_machine.specs.Restoring.{must_go, cleared_at, cleared, fille
 ghost use Rattle.zk_tree.specs.Trees.{owner_at};
 ghost use Rattle.zk_machine.specs.Undoing.{IsState, KeepsRoot, nodes_before, all_put_back};
 
-use crate::touched::Touched;
+use crate::preimages::Preimages;
 use zk_path::{NoMemory, Path};
 use zk_table::Node;
 use zk_tree::Tree;
 
-/// Puts back what was noted. Children go before their parents, and come after them.
-pub(crate) fn restore(tree: &mut Tree, touched: &Touched) -> Result<(), NoMemory>
+/// Restores all preimages. Children are removed before their parents and put back after them.
+pub(crate) fn restore(tree: &mut Tree, touched: &Preimages) -> Result<(), NoMemory>
     requires root { KeepsRoot touched.now }
     requires state { IsState (nodes_before touched.now tree.old) }
     ensures { OnOk result (tree.new ≡ nodes_before touched.now tree.old) }
@@ -26,7 +26,7 @@ pub(crate) fn restore(tree: &mut Tree, touched: &Touched) -> Result<(), NoMemory
     Ok(())
 }
 
-/// Takes, from the last path to the first, the nodes that weren't there, or had another owner.
+/// Removes, from the last path to the first, the nodes that did not exist or had another owner.
 fn clear(tree: &mut Tree, notes: &[(Path, Option<Node>)])
     requires sorted { IsTrue (finite.is_sorted path_cmp notes.now) }
     requires slashes { IsTrue (all_begin notes.now) }
@@ -44,7 +44,7 @@ fn clear(tree: &mut Tree, notes: &[(Path, Option<Node>)])
     }
 }
 
-/// Takes the node at a path if it wasn't there, or had another owner.
+/// Removes the node at a path if it did not exist or had another owner.
 fn clear_at(tree: &mut Tree, path: &Path, before: &Option<Node>)
     requires childless { must_go before.now (finite.get tree.old path.now) ≡ true → length (children_of tree.old path.now) ≡ 0 }
     requires below { must_go before.now (finite.get tree.old path.now) ≡ true → IsSome (parent_of path.now) }
@@ -55,7 +55,7 @@ fn clear_at(tree: &mut Tree, path: &Path, before: &Option<Node>)
     }
 }
 
-/// Whether a node has to go before the one that was there comes back.
+/// Whether a node must be removed before the old one is put back.
 fn must_go(tree: &Tree, path: &Path, before: &Option<Node>) -> bool
     ensures { result ≡ must_go before.now (finite.get tree.now path.now) }
 {
@@ -66,7 +66,7 @@ fn must_go(tree: &Tree, path: &Path, before: &Option<Node>) -> bool
     }
 }
 
-/// Puts, from the first path to the last, the nodes that were there.
+/// Puts the old nodes back, from the first path to the last.
 fn fill(tree: &mut Tree, notes: &[(Path, Option<Node>)]) -> Result<(), NoMemory>
     requires sorted { IsTrue (finite.is_sorted path_cmp notes.now) }
     requires slashes { IsTrue (all_begin notes.now) }
@@ -79,7 +79,7 @@ fn fill(tree: &mut Tree, notes: &[(Path, Option<Node>)]) -> Result<(), NoMemory>
     Ok(())
 }
 
-/// Puts the node that was at a path, if there was one.
+/// Puts the old node of a path back, if there was one.
 fn fill_at(tree: &mut Tree, path: &Path, before: &Option<Node>) -> Result<(), NoMemory>
     requires below { (node : Node) → before.now ≡ Some node → (parent : List ℕ) → parent_of path.now ≡ Some parent → owner_at tree.old parent ≡ Some (pos 0) }
     requires owner { (node old : Node) → before.now ≡ Some node → finite.get tree.old path.now ≡ Some old → owner_at tree.old path.now ≡ Some node.owner }

@@ -1,7 +1,7 @@
 ghost use Rattle.std.specs.Prelude.{◌≡◌, ◌<◌, ◌≤◌, length, MatchResult, IfOk, OnOk, IsTrue};
 ghost use Rattle.std.specs.FinMap as finite;
 ghost use Rattle.std.specs.Ordering.{nat_cmp};
-ghost use Rattle.zk_table.specs.Places.{place_of};
+ghost use Rattle.zk_table.specs.Places.{position_of};
 ghost use Rattle.zk_machine.specs.Undoing.{sessions_before};
 
 use std::alloc::Global;
@@ -9,7 +9,7 @@ use std::cmp::Ordering;
 use std::marker::Model;
 use zk_path::NoMemory;
 
-/// The open sessions with their timeouts: a list in the order of the sessions' unsigned numbers.
+/// The open sessions with their timeouts: a list sorted by the sessions' unsigned numbers.
 #[derive(Debug, Drop)]
 pub(crate) struct Sessions {
     entries: Vec<(u64, i32)>,
@@ -31,10 +31,10 @@ impl Model for Sessions {
     ghost invariant = { λ sessions. IsTrue (finite.is_sorted nat_cmp sessions.entries.items) };
 }
 
-/// Where a session stands, or else where it would go.
-fn place_of(entries: &[(u64, i32)], session: u64) -> Result<usize, usize>
+/// The position of a session, or else the position at which to insert it.
+fn position_of(entries: &[(u64, i32)], session: u64) -> Result<usize, usize>
     requires { IsTrue (finite.is_sorted nat_cmp entries.now) }
-    ensures place { result ≡ place_of nat_cmp session entries.now }
+    ensures place { result ≡ position_of nat_cmp session entries.now }
     ensures within { MatchResult result (λ at. at < length entries.now) (λ at. at ≤ length entries.now) }
 {
     entries.binary_search_by(
@@ -45,7 +45,6 @@ fn place_of(entries: &[(u64, i32)], session: u64) -> Result<usize, usize>
 }
 
 impl Sessions {
-    /// No session.
     pub(crate) fn new(alloc: Global) -> Sessions
         ensures { result ≡ finite.empty }
     {
@@ -54,7 +53,6 @@ impl Sessions {
         }
     }
 
-    /// The same sessions once more.
     pub(crate) fn copy(&self) -> Result<Sessions, NoMemory>
         ensures { IfOk result (λ copy. copy ≡ self.now) }
     {
@@ -74,18 +72,18 @@ impl Sessions {
     pub(crate) fn get(&self, session: u64) -> Option<i32>
         ensures { result ≡ finite.get self.now session }
     {
-        match place_of(&self.entries, session) {
+        match position_of(&self.entries, session) {
             Ok(at) => Some(self.entries[at].1),
             Err(_) => None,
         }
     }
 
-    /// Opens a session, or gives one that is open a new timeout, and tells the one before.
+    /// Opens a session, or sets the timeout of an open one. Returns the timeout before.
     pub(crate) fn open(&mut self, session: u64, timeout: i32) -> Result<Option<i32>, NoMemory>
         ensures before { IfOk result (λ before. before ≡ finite.get self.old session) }
         ensures opened { OnOk result (self.new ≡ finite.insert self.old session timeout) }
     {
-        match place_of(&self.entries, session) {
+        match position_of(&self.entries, session) {
             Ok(at) => {
                 let before = self.entries[at].1;
                 self.entries[at].1 = timeout;
@@ -98,12 +96,12 @@ impl Sessions {
         }
     }
 
-    /// Closes a session, and tells the timeout that it had, if it was open.
+    /// Closes a session. Returns its timeout, if it was open.
     pub(crate) fn close(&mut self, session: u64) -> Option<i32>
         ensures before { result ≡ finite.get self.old session }
         ensures closed { self.new ≡ finite.remove self.old session }
     {
-        match place_of(&self.entries, session) {
+        match position_of(&self.entries, session) {
             Ok(at) => {
                 let (_, before) = self.entries.remove(at);
                 Some(before)
@@ -112,7 +110,7 @@ impl Sessions {
         }
     }
 
-    /// Gives a session back the timeout that was noted, or closes it.
+    /// Restores a session's timeout, or closes the session.
     pub(crate) fn put_back(&mut self, note: Option<(u64, Option<i32>)>) -> Result<(), NoMemory>
         ensures { OnOk result (self.new ≡ sessions_before note self.old) }
     {

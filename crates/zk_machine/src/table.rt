@@ -9,25 +9,25 @@ ghost use Rattle.zk_tree.specs.Trees.{IsTree};
 ghost use Rattle.zk_machine.specs.Undoing.{IsState, nodes_before, sessions_before, restored};
 
 use crate::applied::Applied;
-use crate::deed::Deed;
+use crate::effect::Effect;
 use crate::noted_tree::NotedTree;
+use crate::preimages::Preimages;
 use crate::restore::restore;
 use crate::sessions::Sessions;
-use crate::touched::Touched;
 use crate::undo::Undo;
 use zk_path::NoMemory;
 use zk_table::{
     Op, PartResult, PartResults, Sub, Txn, TxnResult, answers_unapplied, first_refusal, hold_error,
 };
 
-/// The table: nodes, sessions and the last transaction. After want of memory in a change nothing is said of it.
+/// Nodes, sessions and the last transaction. Nothing is specified of the table after an allocation
+/// failure in a change.
 pub(crate) struct Table {
     pub(crate) nodes: NotedTree,
     pub(crate) sessions: Sessions,
     pub(crate) last: i64,
 }
 
-// (by hand, and so proved once: a derived one is proved wherever a value may be dropped)
 impl Drop for Table {
     fn drop(self) {
         let Table {
@@ -39,7 +39,6 @@ impl Drop for Table {
 }
 
 impl Table {
-    /// The same table once more.
     pub(crate) fn copy(&self) -> Result<Table, NoMemory>
         ensures { IfOk result (λ copy. state_of copy ≡ state_of self.now) }
     {
@@ -50,7 +49,7 @@ impl Table {
         })
     }
 
-    /// Applies a transaction, which is the so many-th.
+    /// Applies a transaction as step `number`.
     pub(crate) fn apply(&mut self, txn: &Txn, number: u64) -> Result<Applied, NoMemory>
         requires { 0 < number }
         ensures stepped { IfOk result (λ applied. (state_of self.new, applied.result) ≡ step (state_of self.old) txn.now) }
@@ -63,7 +62,7 @@ impl Table {
         let last = self.last;
         let deed = self.run(txn, true)?;
         self.last = txn.zxid;
-        let Deed {
+        let Effect {
             answer,
             parts,
             changes,
@@ -77,26 +76,26 @@ impl Table {
         })
     }
 
-    /// Applies a transaction that is not taken back, and of which nothing but the answer is told.
+    /// Applies a transaction without an undo record or changes.
     pub(crate) fn advance(&mut self, txn: &Txn) -> Result<TxnResult, NoMemory>
         ensures { IfOk result (λ answered. (state_of self.new, answered) ≡ step (state_of self.old) txn.now) }
     {
         let deed = self.run(txn, false)?;
         self.last = txn.zxid;
-        let Deed {
+        let Effect {
             answer,
             parts,
             touched,
             ..
         } = deed;
-        // The next transaction's notes go into the memory of these.
+        // The next transaction's preimages reuse this memory.
         self.nodes.touched = touched;
         Ok(result_of(txn, answer, parts))
     }
 
-    /// Applies a transaction, but for the number of the last one. What an instruction by itself changed is found only where it
-    /// is to be told.
-    fn run(&mut self, txn: &Txn, tells: bool) -> Result<Deed, NoMemory>
+    /// Applies a transaction, except for the number of the last one. The changes of a single
+    /// instruction are computed only if `tells`.
+    fn run(&mut self, txn: &Txn, tells: bool) -> Result<Effect, NoMemory>
         ensures stepped { IfOk result (λ deed. step (state_of self.old) txn.now ≡ told txn.now self.new.nodes.tree self.new.sessions deed.answer deed.parts.items) }
         ensures changes { IfOk result (λ deed. IsTrue tells → deed.changes.items ≡ changes_of (state_of self.old) txn.now) }
         ensures nodes { IfOk result (λ deed. nodes_before deed.touched self.new.nodes.tree ≡ self.old.nodes.tree) }
@@ -137,7 +136,7 @@ impl Table {
     }
 
     /// Opens the session of a transaction.
-    fn open_session(&mut self, txn: &Txn, timeout: i32, tells: bool) -> Result<Deed, NoMemory>
+    fn open_session(&mut self, txn: &Txn, timeout: i32, tells: bool) -> Result<Effect, NoMemory>
         requires { self.old.nodes.touched ≡ finite.empty }
         ensures stepped { IfOk result (λ deed. open_session (state_of self.old) txn.now timeout ≡ told txn.now self.new.nodes.tree self.new.sessions deed.answer deed.parts.items) }
         ensures changes { IfOk result (λ deed. IsTrue tells → deed.changes.items ≡ changes_between self.old.nodes.tree self.old.nodes.tree) }
@@ -153,8 +152,8 @@ impl Table {
         Ok(deed)
     }
 
-    /// Closes the session of a transaction; the nodes that it owns go.
-    fn close_session(&mut self, txn: &Txn, tells: bool) -> Result<Deed, NoMemory>
+    /// Closes the session of a transaction and deletes the nodes that it owns.
+    fn close_session(&mut self, txn: &Txn, tells: bool) -> Result<Effect, NoMemory>
         requires { self.old.nodes.touched ≡ finite.empty }
         ensures stepped { IfOk result (λ deed. close_session (state_of self.old) txn.now ≡ told txn.now self.new.nodes.tree self.new.sessions deed.answer deed.parts.items) }
         ensures changes { IfOk result (λ deed. IsTrue tells → deed.changes.items ≡ changes_between self.old.nodes.tree self.new.nodes.tree) }
@@ -171,8 +170,8 @@ impl Table {
         Ok(deed)
     }
 
-    /// Applies the parts of a transaction in turn, or none.
-    fn multi(&mut self, txn: &Txn, parts: &[Sub]) -> Result<Deed, NoMemory>
+    /// Applies the parts of a transaction in order, or none.
+    fn multi(&mut self, txn: &Txn, parts: &[Sub]) -> Result<Effect, NoMemory>
         ensures stepped { IfOk result (λ deed. multi (state_of self.old) txn.now parts.now ≡ told txn.now self.new.nodes.tree self.new.sessions deed.answer deed.parts.items) }
         ensures changes { IfOk result (λ deed. deed.changes.items ≡ multi_changes (state_of self.old) txn.now parts.now) }
         ensures nodes { IfOk result (λ deed. nodes_before deed.touched self.new.nodes.tree ≡ self.old.nodes.tree) }
@@ -182,18 +181,18 @@ impl Table {
         if hold_error(parts) {
             let alloc = self.nodes.alloc;
             let answers = answers_unapplied(alloc, parts)?;
-            return Ok(Deed {
+            return Ok(Effect {
                 answer: PartResult::plain(first_refusal(&answers)),
                 parts: answers,
                 changes: Vec::new(alloc),
-                touched: Touched::new(alloc),
+                touched: Preimages::new(alloc),
                 session: None,
             });
         }
         self.nodes.apply_parts(txn, parts)
     }
 
-    /// Puts back what a transaction had touched.
+    /// Restores the preimages of a transaction.
     pub(crate) fn take_back(&mut self, undo: Undo) -> Result<(), NoMemory>
         requires { IsState (restored undo (state_of self.old)).nodes }
         ensures { OnOk result (state_of self.new ≡ restored undo (state_of self.old)) }
@@ -205,7 +204,7 @@ impl Table {
     }
 }
 
-/// What the table answers to a transaction: the answer as a whole, and those of a multi's parts.
+/// The result of a transaction, from the result of its operation and those of a multi's parts.
 fn result_of(txn: &Txn, answer: PartResult, parts: Vec<PartResult>) -> TxnResult
     ensures { result ≡ record { zxid = txn.now.zxid; err = answer.err; path = answer.path; stat = answer.stat; parts = parts.items } }
 {

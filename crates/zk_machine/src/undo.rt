@@ -3,22 +3,21 @@ ghost use Rattle.std.specs.FinMap as finite;
 ghost use Rattle.zk_table.specs.States.{path_cmp};
 ghost use Rattle.zk_machine.specs.Undoing.{KeepsRoot};
 
-use crate::touched::Touched;
+use crate::preimages::Preimages;
 use std::marker::Model;
 use zk_path::Path;
 use zk_table::Node;
 
-/// What a transaction had touched: the data by which the machine that applied it takes it back, as long as it is the
-/// last one. Dropped, its transaction can't be taken back any more.
+/// The undo record of a transaction. The machine that applied it accepts the record as long as the
+/// transaction is its last one.
 #[derive(Debug)]
 pub struct Undo {
     pub(crate) step: u64,
     pub(crate) last: i64,
     pub(crate) session: Option<(u64, Option<i32>)>,
-    pub(crate) touched: Touched,
+    pub(crate) touched: Preimages,
 }
 
-// (by hand, and so proved once: a derived one is proved wherever a value may be dropped)
 impl Drop for Undo {
     fn drop(self) {
         let Undo {
@@ -45,13 +44,13 @@ impl Model for Undo {
 }
 
 impl Undo {
-    /// The record of a transaction, the so many-th that is applied: the last one before it, the session that it touched
-    /// with the timeout before, and the nodes before.
+    /// The undo record of step `step`: the last transaction before it, the touched session with its
+    /// timeout before, and the preimages.
     pub(crate) fn new(
         step: u64,
         last: i64,
         session: Option<(u64, Option<i32>)>,
-        touched: Touched,
+        touched: Preimages,
     ) -> Undo
         requires counted { 0 < step }
         requires root { KeepsRoot touched }
@@ -65,8 +64,8 @@ impl Undo {
         }
     }
 
-    /// What a step back puts in place, in the order of the paths: each path that the transaction touched, with the node
-    /// that stood there before, or none. Lent, so that what follows a tree pays for what changed alone.
+    /// What an undo restores, sorted by path: each path that the transaction touched, with its node
+    /// before, or none. A reader that mirrors the tree processes only what changed.
     pub fn notes(&self) -> &[(Path, Option<Node>)]
         ensures notes { result.now ≡ finite.entries self.now.touched }
         ensures sorted { IsTrue (finite.is_sorted path_cmp result.now) }
@@ -74,7 +73,7 @@ impl Undo {
         self.touched.as_slice()
     }
 
-    /// Which step it takes back, counted from 1.
+    /// The step that the record undoes, counted from 1.
     pub(crate) fn step(&self) -> u64
         ensures step { result ≡ self.now.step }
         ensures counted { 0 < self.now.step }

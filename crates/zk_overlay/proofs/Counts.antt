@@ -1,4 +1,4 @@
--- How many children the nodes have of which one came or went.
+-- The numbers of children after a node was added or removed.
 use Rattle.std.proofs.Common.{◌≡◌, ℕ, ◌+◌, ◌-◌, Bool, true, false, cond, not, ◌&&◌, List, length, Option, Some, None, is_some, Equal, refl, sym, ap, ◌∙◌}
 use Rattle.std.proofs.lemmas.Cmp.{nat_list_cmp_total}
 use Rattle.std.proofs.lemmas.List.Kept.{IsStrictlySortedBy-filter}
@@ -32,7 +32,7 @@ len_is_count m path =
     len-keys (finite.retain_keys m (is_child_of path))
     ∙ ap length (keys_are (finite.retain_keys m (is_child_of path)) (children_of m path) (IsStrictlySortedBy-filter path_cmp (is_child_of path) (finite.keys m) (rising_keys m)) (λ q. contains-kept m (is_child_of path) q ∙ any-children_of m path q))
 
--- ---- one node more
+-- ---- one more node
 
 module _ (m : NodeMap) (f : List ℕ → Bool) (path : List ℕ) (node : Node) where
   abbrev kept_with : Bool → NodeMap

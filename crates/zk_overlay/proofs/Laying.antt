@@ -1,4 +1,4 @@
--- Nodes with changes laid over them.
+-- Nodes with changes on top.
 use Rattle.std.proofs.Common.{◌≡◌, ℕ, pos, ◌+◌, Bool, true, false, cond, not, ◌&&◌, ◌||◌, List, [], ◌∷◌, length, Option, Some, None, is_some, refl, sym, ap, ◌∙◌}
 use Rattle.std.proofs.lemmas.Bool.{false≢true}
 use Rattle.std.proofs.lemmas.Cmp.{nat_list_cmp_total}
@@ -13,14 +13,14 @@ use Rattle.zk_tree.specs.Trees.{IsTree, owner_at}
 use Rattle.zk_tree.proofs.Kept.{path_cmp-IsAntisymmetric}
 use Rattle.zk_tree.proofs.Lists.{same_is, same_itself, any-children_of}
 use Rattle.zk_tree.proofs.Branching.{child_parent}
-use Rattle.zk_overlay.specs.declared.shades.Shade.{Shade}
-use Rattle.zk_overlay.specs.Overlays.{ShadeMap, placed, all_placed, nodes_over, count_of, counted, IsCounted, IsRecount}
+use Rattle.zk_overlay.specs.declared.deltas.Delta.{Delta}
+use Rattle.zk_overlay.specs.Overlays.{DeltaMap, placed, all_placed, nodes_over, count_of, counted, IsCounted, IsRecount}
 use Rattle.zk_overlay.proofs.Counts.{count-insert}
 
--- ---- what stands at a path
+-- ---- the node at a path
 
--- what was laid there, or else what lies below
-abbrev pub shown : Option Shade → Option Node → Option Node
+-- the changed node, or else that of the nodes below
+abbrev pub shown : Option Delta → Option Node → Option Node
 shown None below = below
 shown (Some shade) below = shade.node
 
@@ -28,20 +28,20 @@ pub get-placed : (path : List ℕ) (x : Option Node) (m : NodeMap) (q : List ℕ
 get-placed path None m q = finite.get-remove nat_list_cmp_total m path q
 get-placed path (Some node) m q = finite.get-insert nat_list_cmp_total m path node q
 
-get-all_placed : (es : List (List ℕ × Shade)) (m : NodeMap) (q : List ℕ) → finite.get (all_placed es m) q ≡ shown (find path_cmp q es) (finite.get m q)
+get-all_placed : (es : List (List ℕ × Delta)) (m : NodeMap) (q : List ℕ) → finite.get (all_placed es m) q ≡ shown (find path_cmp q es) (finite.get m q)
 get-all_placed [] m q = refl
 get-all_placed (e ∷ es) m q =
     get-placed e.0 e.1.node (all_placed es m) q
     ∙ ap (cond (eq_by_cmp path_cmp q e.0) e.1.node) (get-all_placed es m q)
     ∙ elim (eq_by_cmp path_cmp q e.0) as (λ b. cond b e.1.node (shown (find path_cmp q es) (finite.get m q)) ≡ shown (cond b (Some e.1) (find path_cmp q es)) (finite.get m q)) [ true ↦ refl | false ↦ refl ]
 
-pub get-nodes_over : (s : ShadeMap) (m : NodeMap) (q : List ℕ) → finite.get (nodes_over s m) q ≡ shown (finite.get s q) (finite.get m q)
+pub get-nodes_over : (s : DeltaMap) (m : NodeMap) (q : List ℕ) → finite.get (nodes_over s m) q ≡ shown (finite.get s q) (finite.get m q)
 get-nodes_over s m q = get-all_placed (finite.entries s) m q ∙ ap (λ x. shown x (finite.get m q)) (sym (finite.get-entries s q))
 
 pub over-empty : (m : NodeMap) → nodes_over finite.empty m ≡ m
 over-empty m = finite.same_map nat_list_cmp_total path_cmp-IsAntisymmetric _ _ (λ q. get-nodes_over finite.empty m q ∙ ap (λ x. shown x (finite.get m q)) (finite.get-empty path_cmp q))
 
-pub over-insert : (s : ShadeMap) (m : NodeMap) (path : List ℕ) (shade : Shade) → nodes_over (finite.insert s path shade) m ≡ placed path shade.node (nodes_over s m)
+pub over-insert : (s : DeltaMap) (m : NodeMap) (path : List ℕ) (shade : Delta) → nodes_over (finite.insert s path shade) m ≡ placed path shade.node (nodes_over s m)
 over-insert s m path shade =
     finite.same_map nat_list_cmp_total path_cmp-IsAntisymmetric _ _ (λ q. get-nodes_over (finite.insert s path shade) m q
     ∙ ap (λ x. shown x (finite.get m q)) (finite.get-insert nat_list_cmp_total s path shade q)
@@ -49,11 +49,11 @@ over-insert s m path shade =
     ∙ ap (cond (eq_by_cmp path_cmp q path) shade.node) (sym (get-nodes_over s m q))
     ∙ sym (get-placed path shade.node (nodes_over s m) q))
   where
-    here : (b : Bool) (x : Option Shade) (below : Option Node) → shown (cond b (Some shade) x) below ≡ cond b shade.node (shown x below)
+    here : (b : Bool) (x : Option Delta) (below : Option Node) → shown (cond b (Some shade) x) below ≡ cond b shade.node (shown x below)
     here true x below = refl
     here false x below = refl
 
--- a node that is changed where there is one
+-- a change of a node, if there is one
 pub placed_change : (m : NodeMap) (path : List ℕ) (change : Node → Node) → placed path (option_map change (finite.get m path)) m ≡ changed m path change
 placed_change m path change = by_node (finite.get m path) refl
   where
@@ -67,7 +67,7 @@ placed_change m path change = by_node (finite.get m path) refl
     by_node None e = absent e
     by_node (Some node) e = refl
 
--- ---- how many children a path has
+-- ---- the number of a path's children
 
 pub counted-empty : (m : NodeMap) → IsCounted finite.empty m
 counted-empty m = record { counts = λ q. ap (λ x. counted x (count_of m q)) (finite.get-empty path_cmp q) ∙ ap (λ n. count_of n q) (sym (over-empty m)) }
@@ -76,7 +76,7 @@ no_members : (xs : List (List ℕ)) → ((q : List ℕ) → list_any (eq_by_cmp 
 no_members [] none = refl
 no_members (x ∷ xs) none = absurd (false≢true (sym (none x) ∙ ap (λ b. b || list_any (eq_by_cmp path_cmp x) xs) (same_itself x)))
 
--- where no node is, none has a child
+-- a path without node has no children
 pub none_below : (m : NodeMap) (path : List ℕ) → IsTree m → finite.get m path ≡ None → 0 ≡ count_of m path
 none_below m path tree none = no_members (children_of m path) (λ q. sym (any-children_of m path q) ∙ no_child q)
   where
@@ -92,8 +92,8 @@ none_below m path tree none = no_members (children_of m path) (λ q. sym (any-ch
       | false ↦ λ _. refl
     ] refl
 
-module _ (s : ShadeMap) (m : NodeMap) (is : IsCounted s m) (path above : List ℕ) (own upper : Shade) (recount : IsRecount (nodes_over s m) (placed above upper.node (placed path own.node (nodes_over s m))) path above own.children upper.children) where
-  abbrev both : ShadeMap
+module _ (s : DeltaMap) (m : NodeMap) (is : IsCounted s m) (path above : List ℕ) (own upper : Delta) (recount : IsRecount (nodes_over s m) (placed above upper.node (placed path own.node (nodes_over s m))) path above own.children upper.children) where
+  abbrev both : DeltaMap
   both = finite.insert (finite.insert s path own) above upper
 
   pub over_both : nodes_over both m ≡ placed above upper.node (placed path own.node (nodes_over s m))
@@ -113,7 +113,7 @@ module _ (s : ShadeMap) (m : NodeMap) (is : IsCounted s m) (path above : List �
   pub both_counted : IsCounted both m
   both_counted = record { counts = λ q. ap (λ x. counted x (count_of m q)) (get-both q) ∙ count_at q _ _ refl refl ∙ ap (λ n. count_of n q) (sym over_both) }
 
--- ---- a node in the place of another one
+-- ---- replacing a node
 
 pub some_there : (m : NodeMap) (path : List ℕ) (node : Node) (q : List ℕ) → finite.contains_key m path ≡ true → count_of (finite.insert m path node) q ≡ count_of m q
 some_there m path node q there = count-insert m path node q ∙ ap (λ b. cond (is_child_of q path && not b) (count_of m q + 1) (count_of m q)) there ∙ never (is_child_of q path) _ _
@@ -122,7 +122,7 @@ some_there m path node q there = count-insert m path node q ∙ ap (λ b. cond (
     never true x y = refl
     never false x y = refl
 
-module _ (s : ShadeMap) (m : NodeMap) (is : IsCounted s m) (path : List ℕ) (shade : Shade) (node : Node) (other : shade.node ≡ Some node) (there : finite.contains_key (nodes_over s m) path ≡ true) (own : shade.children ≡ count_of (nodes_over s m) path) where
+module _ (s : DeltaMap) (m : NodeMap) (is : IsCounted s m) (path : List ℕ) (shade : Delta) (node : Node) (other : shade.node ≡ Some node) (there : finite.contains_key (nodes_over s m) path ≡ true) (own : shade.children ≡ count_of (nodes_over s m) path) where
   pub over_other : nodes_over (finite.insert s path shade) m ≡ finite.insert (nodes_over s m) path node
   over_other = over-insert s m path shade ∙ ap (λ x. placed path x (nodes_over s m)) other
 

@@ -1,4 +1,4 @@
--- The numbers of children after a node came, or went.
+-- The numbers of children after a node was created or deleted.
 use Rattle.std.proofs.Common.{◌≡◌, ℕ, ◌+◌, ◌-◌, ◌≤◌, Bool, true, false, cond, not, ◌&&◌, nat_lt, List, length, Option, Some, None, is_some, is_none, refl, sym, ap, subst, ◌∙◌, arith}
 use Rattle.std.proofs.lemmas.Bool.{false≢true, ltb-false}
 use Rattle.std.proofs.lemmas.Cmp.{nat_list_cmp_total}
@@ -17,7 +17,7 @@ use Rattle.zk_overlay.specs.Overlays.{placed, count_of, IsRecount}
 use Rattle.zk_overlay.proofs.Counts.{count-insert, count-remove}
 use Rattle.zk_overlay.proofs.Laying.{placed_change, some_there}
 
--- a change of a node leaves all numbers as they are
+-- a change of a node leaves all numbers unchanged
 count-changed : (m : NodeMap) (path : List ℕ) (change : Node → Node) (q : List ℕ) → count_of (changed m path change) q ≡ count_of m q
 count-changed m path change q = by_node (finite.get m path) refl
   where
@@ -26,7 +26,7 @@ count-changed m path change q = by_node (finite.get m path) refl
     by_node (Some node) e = some_there m path (change node) q (ap is_some e)
 
 module _ (m : NodeMap) (path above : List ℕ) (below : Some above ≡ parent_of path) (apart : eq_by_cmp path_cmp above path ≡ false) (change : Node → Node) where
-  -- the one child that comes or goes is one of the path above
+  -- the one child that is added or removed is one of the path above
   child_of_above : (q : List ℕ) → is_child_of q path ≡ eq_by_cmp path_cmp q above
   child_of_above q = ap (λ p. is_parent p q) (sym below) ∙ tests_alike above q
 
@@ -98,7 +98,7 @@ module _ (m : NodeMap) (path above : List ℕ) (below : Some above ≡ parent_of
     rest = λ q _ e. count-without q there ∙ ap (λ b. cond b (count_of m q - 1) (count_of m q)) e;
   }
 
--- ---- where a node can be made
+-- ---- if a node can be created
 
 none_not_some : {A : Type 0} {x : A} → Some x ≡ None → ⊥
 none_not_some e = false≢true (sym (ap is_some e))
@@ -135,7 +135,7 @@ module _ (m : NodeMap) (path above : List ℕ) (below : Some above ≡ parent_of
       by_test false e = refl
       by_test true e = absurd (false≢true (ap is_some (sym create_free) ∙ ap (finite.contains_key m) (sym (same_is above path e)) ∙ create_above))
 
--- ---- where one can go
+-- ---- if a node can be deleted
 
 pub delete_needs_parent : (m : NodeMap) (path : List ℕ) → delete_fault m path ≡ None → None ≡ parent_of path → ⊥
 delete_needs_parent m path e none = none_not_some (ap (λ p. cond (is_none p) (Some bad_arguments) (cond (finite.contains_key m path) (cond (nat_lt 0 (count_of m path)) (Some not_empty) None) (Some no_node))) none ∙ e)
@@ -171,7 +171,7 @@ module _ (m : NodeMap) (path above : List ℕ) (below : Some above ≡ parent_of
           own_child : Some path ≡ parent_of path → (is_child_of path path && finite.contains_key m path) ≡ true
           own_child own = (λ i. is_parent (sym own i) path && delete_there i) ∙ ap (λ b. b && true) (tests_alike path path ∙ same_itself path)
 
--- ---- as the code has it: by the path's text, and with the node above as it was made
+-- ---- as in the code: by the path's text, and with the node above as it was changed
 
 module _ (m : NodeMap) (path above key : List ℕ) (text : key ≡ path) (below : Some above ≡ parent_of path) (change : Node → Node) (upper : Option Node) (made : upper ≡ option_map change (finite.get m above)) where
   module _ (fits : create_fault m path ≡ None) (node : Node) where

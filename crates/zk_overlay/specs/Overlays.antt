@@ -1,40 +1,42 @@
--- Nodes with changes laid over them, which leave what lies below as it is: what the later parts of a multi see.
+-- Overlays: the nodes of a tree with changes on top, which leave the tree unchanged. The later
+-- parts of a multi see an overlay.
 use Rattle.std.specs.Prelude.{◌≡◌, ℕ, List, [], ◌∷◌, false, length, Option, Some, None}
 use Rattle.std.specs.FinMap.{FinMap, entries, get, insert, remove}
 use Rattle.std.specs.Ordering.{eq_by_cmp}
 use Rattle.zk_txn.specs.declared.node.Node.{Node}
 use Rattle.zk_table.specs.States.{NodeMap, path_cmp, children_of}
-use Rattle.zk_overlay.specs.declared.shades.Shade.{Shade}
+use Rattle.zk_overlay.specs.declared.deltas.Delta.{Delta}
 
--- paths to what stands there in place of what lies below
-abbrev pub ShadeMap : Type 0
-ShadeMap = FinMap path_cmp Shade
+-- the changed paths
+abbrev pub DeltaMap : Type 0
+DeltaMap = FinMap path_cmp Delta
 
--- a node at a path, or none
+-- puts a node at a path, or removes it
 abbrev pub placed : List ℕ → Option Node → NodeMap → NodeMap
 placed path None nodes = remove nodes path
 placed path (Some node) nodes = insert nodes path node
 
-abbrev pub all_placed : List (List ℕ × Shade) → NodeMap → NodeMap
+abbrev pub all_placed : List (List ℕ × Delta) → NodeMap → NodeMap
 all_placed [] nodes = nodes
 all_placed (e ∷ es) nodes = placed e.0 e.1.node (all_placed es nodes)
 
-abbrev pub nodes_over : ShadeMap → NodeMap → NodeMap
+abbrev pub nodes_over : DeltaMap → NodeMap → NodeMap
 nodes_over shades nodes = all_placed (entries shades) nodes
 
 abbrev pub count_of : NodeMap → List ℕ → ℕ
 count_of nodes path = length (children_of nodes path)
 
--- the number that is kept at a path, or else that of the nodes below
-abbrev pub counted : Option Shade → ℕ → ℕ
+-- the number in the overlay for a path, or else that of the nodes below
+abbrev pub counted : Option Delta → ℕ → ℕ
 counted None below = below
 counted (Some shade) below = shade.children
 
--- the numbers of children that are kept are those of the nodes with their changes
-pub record IsCounted (shades : ShadeMap) (nodes : NodeMap) : Type 0 where
+-- the overlay's numbers of children are those of its nodes
+pub record IsCounted (shades : DeltaMap) (nodes : NodeMap) : Type 0 where
   pub counts : (path : List ℕ) → counted (get shades path) (count_of nodes path) ≡ count_of (nodes_over shades nodes) path
 
--- after a change at a path and at another one, these are the numbers of their children; no other path's number changed
+-- after a change, these are the numbers of children at two paths; those of other paths are
+-- unchanged
 pub record IsRecount (old new : NodeMap) (path above : List ℕ) (own others : ℕ) : Type 0 where
   pub path_count : count_of new path ≡ own
   pub above_count : count_of new above ≡ others

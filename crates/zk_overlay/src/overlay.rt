@@ -7,7 +7,7 @@ ghost use Rattle.zk_table.specs.Operations.{create, create_fault, delete, delete
 ghost use Rattle.zk_table.specs.States.{children_of, parent_changed};
 ghost use Rattle.zk_overlay.specs.Overlays.{placed, IsRecount};
 
-use crate::shades::{Shade, Shades};
+use crate::deltas::{Delta, Deltas};
 use std::alloc::Global;
 use std::marker::Model;
 use zk_acl::Acls;
@@ -15,12 +15,13 @@ use zk_path::{NoMemory, Path};
 use zk_table::{Content, Node, Sub, Txn};
 use zk_tree::Tree;
 
-/// The nodes of a tree with changes laid over them, which leave the tree as it is. One that is refused memory is gone.
+/// The nodes of a tree with changes on top, which leave the tree unchanged. An allocation failure
+/// consumes the overlay.
 #[derive(Drop)]
 pub struct Overlay<'a> {
     alloc: Global,
     tree: &'a Tree,
-    shades: Shades,
+    shades: Deltas,
 }
 
 impl<'a> Model for Overlay<'a> {
@@ -39,7 +40,7 @@ impl<'a> Model for Overlay<'a> {
     ghost invariant = { λ overlay. IsCounted overlay.shades overlay.tree.now };
 }
 
-/// How many children a path has in a tree.
+/// The number of children of a path in a tree.
 fn count_in(tree: &Tree, path: &str) -> usize
     ensures { result ≡ length (children_of tree.now path.now) }
 {
@@ -51,23 +52,22 @@ fn count_in(tree: &Tree, path: &str) -> usize
 }
 
 impl<'a> Overlay<'a> {
-    /// The nodes of a tree.
+    /// An overlay without changes.
     pub fn new(alloc: Global, tree: &'a Tree) -> Overlay<'a>
         ensures { result ≡ tree.now }
     {
         Overlay {
             alloc,
             tree,
-            shades: Shades::new(alloc),
+            shades: Deltas::new(alloc),
         }
     }
 
-    /// What changes are kept in, and what is made of the nodes.
+    /// The allocator of the changes.
     pub fn allocator(&self) -> Global {
         self.alloc
     }
 
-    /// The node at a path.
     pub fn get(&self, path: &str) -> Option<&Node>
         ensures { option_copied result ≡ finite.get self.now path.now }
     {
@@ -77,7 +77,7 @@ impl<'a> Overlay<'a> {
         }
     }
 
-    /// How many children a path has.
+    /// The number of children of the node at a path.
     pub fn child_count(&self, path: &str) -> usize
         ensures { result ≡ length (children_of self.now path.now) }
     {
@@ -153,7 +153,7 @@ impl<'a> Overlay<'a> {
         self.with_other_node(path, node)
     }
 
-    /// Whether no node can be made at a path.
+    /// Whether a create at a path is rejected.
     fn refuses_create(&self, path: &Path) -> bool
         ensures { result ≡ is_some (create_fault self.now path.now) }
     {
@@ -169,7 +169,7 @@ impl<'a> Overlay<'a> {
         node.owner != 0
     }
 
-    /// Whether the node at a path can't be removed.
+    /// Whether a delete of the node at a path is rejected.
     fn refuses_delete(&self, path: &Path) -> bool
         ensures { result ≡ is_some (delete_fault self.now path.now) }
     {
@@ -178,7 +178,7 @@ impl<'a> Overlay<'a> {
             || self.child_count(path.text()) > 0
     }
 
-    /// With a new node, which its parent counts.
+    /// Adds a node and counts it in its parent.
     fn with_node(
         self,
         path: &Path,
@@ -196,7 +196,7 @@ impl<'a> Overlay<'a> {
         let Some(children) = self.child_count(parent).checked_add(1) else {
             return Err(NoMemory);
         };
-        let own = Shade {
+        let own = Delta {
             children: self.child_count(path.text()),
             node: Some(node),
         };
@@ -204,14 +204,14 @@ impl<'a> Overlay<'a> {
             path.text(),
             own,
             parent,
-            Shade {
+            Delta {
                 node: above,
                 children,
             },
         )
     }
 
-    /// Without a node, of which its parent learns.
+    /// Removes a node and updates its parent.
     fn without_node(self, path: &Path, zxid: i64) -> Result<Overlay<'a>, NoMemory>
         requires { delete_fault self path.now ≡ None }
         ensures { IfOk result (λ after. after ≡ parent_changed (finite.remove self.entry path.now) path.now (without_child zxid)) }
@@ -221,7 +221,7 @@ impl<'a> Overlay<'a> {
         };
         let above = self.without_child(parent, zxid)?;
         let children = self.child_count(parent).saturating_sub(1);
-        let own = Shade {
+        let own = Delta {
             node: None,
             children: 0,
         };
@@ -229,14 +229,14 @@ impl<'a> Overlay<'a> {
             path.text(),
             own,
             parent,
-            Shade {
+            Delta {
                 node: above,
                 children,
             },
         )
     }
 
-    /// The node at a path, if there is one, as it is with a child more.
+    /// The node at a path, if there is one, with one child more.
     fn with_child(&self, path: &str, zxid: i64, count: i32) -> Result<Option<Node>, NoMemory>
         ensures { IfOk result (λ node. node ≡ option_map (with_child zxid count) (finite.get self.now path.now)) }
     {
@@ -248,7 +248,7 @@ impl<'a> Overlay<'a> {
         Ok(Some(node))
     }
 
-    /// The node at a path, if there is one, as it is with a child less.
+    /// The node at a path, if there is one, with one child less.
     fn without_child(&self, path: &str, zxid: i64) -> Result<Option<Node>, NoMemory>
         ensures { IfOk result (λ node. node ≡ option_map (without_child zxid) (finite.get self.now path.now)) }
     {
@@ -260,7 +260,7 @@ impl<'a> Overlay<'a> {
         Ok(Some(node))
     }
 
-    /// With another node in the place of one that is there.
+    /// Replaces an existing node.
     fn with_other_node(self, path: &Path, node: Node) -> Result<Overlay<'a>, NoMemory>
         requires { finite.contains_key self path.now ≡ true }
         ensures { IfOk result (λ after. after ≡ finite.insert self.entry path.now node) }
@@ -271,7 +271,7 @@ impl<'a> Overlay<'a> {
             tree,
             mut shades,
         } = self;
-        let shade = Shade {
+        let shade = Delta {
             node: Some(node),
             children,
         };
@@ -283,13 +283,13 @@ impl<'a> Overlay<'a> {
         })
     }
 
-    /// With shades at a path and at another one above it, which tell how many children they have then.
+    /// Sets the changes at a path and at its parent's, with their numbers of children.
     fn shaded(
         self,
         path: &str,
-        own: Shade,
+        own: Delta,
         parent: &str,
-        above: Shade,
+        above: Delta,
     ) -> Result<Overlay<'a>, NoMemory>
         requires { IsRecount self (placed parent.now above.node (placed path.now own.node self)) path.now parent.now own.children above.children }
         ensures { IfOk result (λ after. after ≡ placed parent.now above.node (placed path.now own.node self.entry)) }

@@ -13,7 +13,7 @@ has_slash_none : (name : List ℕ) → HasNoSlash name → has_slash name ≡ fa
 has_slash_none [] whole = refl
 has_slash_none (b ∷ bs) whole = or_from (is_slash b) (has_slash bs) whole.0 (has_slash_none bs whole.1)
 
--- ---- names and the text that they spell
+-- ---- names and their text
 
 spelled-push : (names : List (List ℕ)) (last : List ℕ) → spelled (names ++ last ∷ []) ≡ spelled names ++ 47 ∷ last
 spelled-push [] last = ap (λ xs. 47 ∷ xs) (append-nil last)
@@ -49,7 +49,7 @@ path_of-IsPath : (names : List (List ℕ)) → AllByRecursion IsName names → I
 path_of-IsPath [] all = inl refl
 path_of-IsPath (name ∷ names) all = inr (name ∷ names, (λ none. absurd (cc)), all, refl)
 
--- ---- what stands above a last name
+-- ---- what precedes a last name
 
 is_root_behind : (above name : List ℕ) → name ≢ [] → is_root (above ++ 47 ∷ name) ≡ false
 is_root_behind above name filled =
@@ -74,7 +74,7 @@ name_of-names : (names : List (List ℕ)) (last : List ℕ) → IsName last → 
 name_of-names names last is =
     ap name_of (path_of-push names last) ∙ after_last_slash_at (spelled names) last (has_slash_none last is.no_slash)
 
--- ---- a name below a path
+-- ---- the child with a name
 
 stem_of-names : (names : List (List ℕ)) → AllByRecursion IsName names → (if is_root (path_of names) then [] else path_of names) ≡ spelled names
 stem_of-names [] all = refl
@@ -119,7 +119,7 @@ names-front (name ∷ front) last all =
     let rest = names-front front last all.1 in
     ((all.0, rest.0), rest.1)
 
--- what a path's parent says of the path
+-- what a path's parent implies for the path
 record IsChild (text parent : List ℕ) : Type 0 where
   front : List (List ℕ)
   last : List ℕ
@@ -157,7 +157,7 @@ pub child_has_no_fault : (parent name : List ℕ) → fault_of parent ≡ None �
 child_has_no_fault parent name good whole fine =
     fault_of-IsPath _ (child_adds_a_name parent name (IsPath-from_fault parent good) (IsName-from_fault name whole fine)).0
 
--- a path's text as it is written down: the stem, a slash, the name
+-- a path's text in parts: the stem, a slash, the name
 pub child_of-written : (parent name stem slash text : List ℕ) → stem ≡ (if is_root parent then [] else parent) → slash ≡ 47 ∷ [] → text ≡ stem ++ slash ++ name → text ≡ child_of parent name
 child_of-written parent name stem slash text stem_is slash_is is =
     is ∙ (append_assoc stem slash name ∙ (ap (λ xs. stem ++ (xs ++ name)) slash_is ∙ ap (λ xs. xs ++ 47 ∷ name) stem_is))

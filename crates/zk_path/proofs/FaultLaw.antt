@@ -1,4 +1,4 @@
--- A text has no fault just where the grammar spells it.
+-- A text has no fault if and only if the grammar accepts it.
 use Rattle.std.proofs.Common.{◌≡◌, ◌≢◌, ℕ, ◌-◌, ◌==◌, List, [], ◌∷◌, ◌++◌, Bool, true, false, cond, length, Option, Some, None, sym, ap, subst, ◌∙◌, refl, inl, inr, ⊎_elim, arith, slice_index}
 use Rattle.std.specs.List.{AllByRecursion, list_any, slice_split, onto_first}
 use Rattle.std.specs.Str.{chars, bytes_eq}
@@ -15,7 +15,7 @@ use Rattle.zk_path.proofs.Slashes.{begins_with_slash}
 abbrev pub HasNoSlash : List ℕ → Type 0
 HasNoSlash = AllByRecursion (λ b. is_slash b ≡ false)
 
--- ---- a test that stands before another
+-- ---- a test before another
 
 none_from_cond : (b : Bool) (fault : PathFault) (later : Option PathFault) → cond b (Some fault) later ≡ None → (b ≡ false) × (later ≡ None)
 none_from_cond true fault later e = absurd (cc)
@@ -98,7 +98,7 @@ filled_from_spelled : (names : List (List ℕ)) (bs : List ℕ) → spelled name
 filled_from_spelled [] bs e = λ _. absurd (cc)
 filled_from_spelled (name ∷ names) bs e = λ none. absurd (cc)
 
--- ---- the law, one way
+-- ---- the law, in one direction
 
 path_behind_slash : (rest : List ℕ) → rest_fault rest ≡ None → IsPath (47 ∷ rest)
 path_behind_slash [] e = inl refl
@@ -113,9 +113,9 @@ IsPath-from_fault text e =
     let first = begins_with_slash text e in
     subst IsPath (sym first.is) (path_behind_slash first.rest first.fault)
 
--- ---- and the other
+-- ---- and in the other
 
--- a text that ends with another byte than a slash
+-- a text whose last byte is not a slash
 record EndsWithName (text : List ℕ) : Type 0 where
   front : List ℕ
   last : ℕ

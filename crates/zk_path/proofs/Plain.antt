@@ -1,4 +1,4 @@
--- What is known at a glance has no fault.
+-- A text that a scan of the bytes accepts has no fault.
 use Rattle.std.proofs.Common.{◌≡◌, ◌≢◌, ℕ, ◌==◌, ◌<◌, ◌≤◌, ◌&&◌, ◌||◌, not, List, [], ◌∷◌, Bool, true, false, length, get_or, None, sym, ap, ◌∙◌, refl, ⊎_elim, arith}
 use Rattle.std.specs.Prelude.{nat_lt}
 use Rattle.std.specs.List.{All, AllByRecursion, list_any, slice_split, onto_first}
@@ -12,7 +12,7 @@ use Rattle.zk_path.specs.Paths.{is_slash, is_bad_char, is_dot_name, earlier, nam
 use Rattle.zk_path.specs.Plain.{may_follow, is_plain_behind}
 use Rattle.zk_path.proofs.FaultLaw.{different_bytes}
 
--- a byte that is a character by itself, and a good one
+-- a byte that is a character, and not a bad one
 record IsGood (b : ℕ) : Type 0 where
   ascii : b < 128
   good : is_bad_char b ≡ false
@@ -47,7 +47,7 @@ follows behind b e =
 abbrev AreGood : List ℕ → Type 0
 AreGood = AllByRecursion IsGood
 
--- behind a slash a name begins, and not with a dot
+-- after a slash a name starts, and not with a dot
 abbrev Begins : Bool → List ℕ → Type 0
 Begins true [] = ⊥
 Begins true (b ∷ bs) = (b == 46) ≡ false

@@ -1,4 +1,4 @@
--- The last slash of a text: what stands before it and behind it.
+-- The last slash of a text: what is before it and after it.
 use Rattle.std.proofs.Common.{◌≡◌, ◌≢◌, ℕ, suc, ◌<◌, List, [], ◌∷◌, ◌++◌, true, false, length, get_or, take, drop, Option, Some, None, sym, ⊎_elim, ap, ◌∙◌, refl, arith, lit<}
 use Rattle.std.specs.Option.{MatchOption, IsSome}
 use Rattle.std.specs.Borrow.{Bor}

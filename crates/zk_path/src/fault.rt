@@ -5,28 +5,28 @@ use crate::memory::NoMemory;
 use std::alloc::{AllocError, AllocFailed};
 use thiserror::Error;
 
-/// Why a text is no path: the first fault, in this order.
+/// The first fault of a text that is not a path, checked in the order of the variants.
 #[derive(Clone, Copy, Debug, PartialEq, Eq, Error)]
 pub enum PathFault {
     /// The text is empty.
     #[error("P1")]
     Empty,
-    /// The text doesn't begin with a slash.
+    /// The text does not start with a slash.
     #[error("P2")]
     NotAbsolute,
     /// The text ends with a slash and is not the root.
     #[error("P3")]
     TrailingSlash,
-    /// Two slashes stand side by side.
+    /// Two slashes are adjacent.
     #[error("P4")]
     EmptyName,
     /// A name is `.` or `..`.
     #[error("P5")]
     DotName,
-    /// A name has a character that no name may have.
+    /// A name contains a character that no name may contain.
     #[error("P6")]
     BadChar,
-    /// Memory was refused.
+    /// An allocation failed.
     #[error("P7")]
     NoMemory,
 }

@@ -7,7 +7,7 @@ ghost use Rattle.zk_path.specs.Plain.{is_plain_behind, may_follow};
 
 use crate::fault::PathFault;
 
-/// Whether a text is a path, or else its first fault.
+/// Fails with the first fault of a text that is not a path.
 pub(crate) fn check_path(text: &str) -> Result<(), PathFault>
     ensures { result_err result ≡ fault_of text.now }
 {
@@ -26,7 +26,7 @@ pub(crate) fn check_path(text: &str) -> Result<(), PathFault>
     check_names(names)
 }
 
-/// Whether names with slashes between them may stand in a path, from the left.
+/// Checks the names between slashes, from the left; fails with the first fault.
 fn check_names(names: &str) -> Result<(), PathFault>
     ensures { result_err result ≡ first_fault (slice_split is_slash names.now) }
 {
@@ -39,14 +39,15 @@ fn check_names(names: &str) -> Result<(), PathFault>
     Ok(())
 }
 
-/// Whether one look at each byte shows that what stands behind the first slash spells names: all of it is ASCII that
-/// shows, and no name is empty or begins with a dot. Most paths are so; another text may be a path still.
+/// Returns whether a scan of the bytes accepts the text after the first slash: printable ASCII in
+/// which no name is empty or starts with a dot. Most paths pass; a text that does not may still be
+/// a path.
 fn is_plain(names: &str) -> bool
     ensures { result ≡ is_plain_behind true names.now }
 {
     let mut plain = true;
     let mut behind_slash = true;
-    // No way out in the middle: so the compiler looks at several bytes at a time.
+    // No early exit, so that the compiler vectorizes the loop.
     for byte in names.as_bytes() {
         plain &= may_follow(behind_slash, *byte);
         behind_slash = *byte == b'/';
@@ -54,7 +55,7 @@ fn is_plain(names: &str) -> bool
     plain && !behind_slash
 }
 
-/// Whether a byte may follow a slash, or another byte of a name, in a plain path.
+/// Whether a byte of a plain path may follow a slash, or another byte of a name.
 fn may_follow(behind_slash: bool, byte: u8) -> bool
     ensures { result ≡ may_follow behind_slash byte }
 {
@@ -62,7 +63,7 @@ fn may_follow(behind_slash: bool, byte: u8) -> bool
     stays & (byte >= b' ') & (byte <= b'~')
 }
 
-/// Whether a text without a slash may be a node's name.
+/// Fails with the fault of a text without slashes that is not a node's name.
 pub(crate) fn check_name(name: &str) -> Result<(), PathFault>
     ensures { result_err result ≡ name_fault name.now }
 {
@@ -84,8 +85,8 @@ fn has_bad_char(name: &str) -> bool
     name.chars().any(is_bad_char)
 }
 
-/// Whether no name may have this character: NUL, a control character, one for
-/// private use, a special, or one that UTF-16 spells as two units.
+/// Whether no name may contain this character: NUL, a control character, one for private use, a
+/// special, or one that UTF-16 encodes as two units.
 fn is_bad_char(c: char) -> bool
     ensures { result ≡ is_bad_char c }
 {

@@ -1,4 +1,4 @@
-//! Paths of nodes, and the one refusal that all crates share.
+//! Paths of nodes, and [`NoMemory`], the allocation failure that all crates share.
 //!
 //! ZooKeeper Programmer's Guide, "The ZooKeeper Data Model".
 #![tactic(auto)]

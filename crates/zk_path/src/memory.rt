@@ -1,7 +1,8 @@
 use std::alloc::{AllocError, AllocFailed};
 use thiserror::Error;
 
-/// Memory was refused. A call whose only refusal this is leaves everything as it was, unless its docs say otherwise.
+/// An allocation failed. A call that has no other error leaves its arguments unchanged, unless its
+/// docs say otherwise.
 #[derive(Clone, Copy, Debug, PartialEq, Eq, Error)]
 #[error("no memory")]
 pub struct NoMemory;

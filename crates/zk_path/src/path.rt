@@ -33,10 +33,10 @@ impl Model for Path {
 }
 
 impl Path {
-    /// Reads a path.
+    /// Parses a path.
     ///
-    /// Refuses a text that is none with the first of its faults, and a path
-    /// with [`PathFault::NoMemory`] where memory is refused.
+    /// Fails with the first fault of a text that is not a path, and with [`PathFault::NoMemory`] if
+    /// an allocation fails.
     pub fn read(alloc: Global, text: &str) -> Result<Path, PathFault>
         ensures found { IfOk result (λ path. path ≡ text.now) }
         ensures is_path { IfOk result (λ _. IsPath text.now) }
@@ -51,7 +51,6 @@ impl Path {
         })
     }
 
-    /// The path as it is written.
     pub fn text(&self) -> &str
         ensures text { result.now ≡ self.now }
         ensures is_path { fault_of self.now ≡ None }
@@ -59,7 +58,7 @@ impl Path {
         self.text.as_str()
     }
 
-    /// The text of the parent's path. The root has none, and is nobody's child.
+    /// The text of the parent's path; `None` for the root.
     pub fn parent(&self) -> Option<&str>
         ensures { option_copied result ≡ parent_of self.now }
     {
@@ -73,7 +72,7 @@ impl Path {
         Some(above)
     }
 
-    /// The last name, or nothing for the root.
+    /// The last name; empty for the root.
     pub fn name(&self) -> &str
         ensures { result.now ≡ name_of self.now }
     {
@@ -81,10 +80,10 @@ impl Path {
         name
     }
 
-    /// The path of a child with this name, which is not empty and has no slash.
+    /// Returns the path of a child. The name must not be empty or contain a slash.
     ///
-    /// Refuses a name that no node may have with its fault, and any other with
-    /// [`PathFault::NoMemory`] where memory is refused.
+    /// Fails with the fault of a text that is not a name, and with [`PathFault::NoMemory`] if an
+    /// allocation fails.
     pub fn child(&self, name: &str) -> Result<Path, PathFault>
         requires filled { name.now ≢ [] }
         requires whole { AllByRecursion (λ b. is_slash b ≡ false) name.now }
@@ -104,8 +103,8 @@ impl Path {
         })
     }
 
-    /// The same path once more, over the same text: no memory is taken. [`NoMemory`] says that the count of the text's
-    /// owners is full.
+    /// A copy that shares the text, without allocating. Fails with [`NoMemory`] if the text's owner
+    /// count is full.
     pub fn copy(&self) -> Result<Path, NoMemory>
         ensures { IfOk result (λ copy. copy ≡ self.now) }
     {
@@ -115,7 +114,7 @@ impl Path {
         })
     }
 
-    /// What stands before the slash of a child's name.
+    /// The text that precedes the slash before a child's name.
     fn before_names(&self) -> &str
         ensures { result.now ≡ (if is_root self.now then [] else self.now) }
     {
@@ -126,7 +125,7 @@ impl Path {
         text
     }
 
-    /// What stands before the last slash, and behind it.
+    /// The texts before and after the last slash.
     fn around_last_slash(&self) -> (&str, &str)
         ensures before { result.0.now ≡ before_last_slash self.now }
         ensures behind { result.1.now ≡ after_last_slash self.now }

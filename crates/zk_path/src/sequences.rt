@@ -5,8 +5,8 @@ ghost use Rattle.zk_path.specs.Sequences.{sequence};
 use crate::memory::NoMemory;
 use std::alloc::Global;
 
-/// What the name of a sequential node ends with: a number in ten places, with zeros before its digits. A minus sign is
-/// one of the places.
+/// Formats the suffix of a sequential node's name: a number, padded with zeros after the sign to at
+/// least ten characters. The sign counts, so numbers below -999,999,999 have eleven.
 ///
 /// ZooKeeper Programmer's Guide, "Sequence Nodes".
 pub fn sequence(alloc: Global, number: i32) -> Result<String, NoMemory>

@@ -4,11 +4,12 @@ use Rattle.std.specs.Int.{w64, cast_unsigned, cast_signed, saturate_signed}
 use Rattle.std.specs.Ordering.{nat_cmp}
 use Rattle.std.specs.FinMap.{FinMap, entries, insert, remove}
 
--- Sessions to deadlines. The key is the unsigned number of the session's 64 bits, which its sixteen digits spell.
+-- Sessions to deadlines. The key is the unsigned number of the session's 64 bits, which its sixteen
+-- digits write.
 abbrev pub DeadlineMap : Type 0
 DeadlineMap = FinMap nat_cmp ℤ
 
--- so long from now, or else the nearest number of 64 bits
+-- this much later, or the nearest number of 64 bits
 abbrev pub deadline_of : ℤ → ℤ → ℤ
 deadline_of now timeout = saturate_signed w64 (now +ℤ timeout)
 
@@ -18,10 +19,10 @@ touched deadlines session timeout now = insert deadlines (cast_unsigned w64 sess
 abbrev pub forgotten : DeadlineMap → ℤ → DeadlineMap
 forgotten deadlines session = remove deadlines (cast_unsigned w64 session)
 
--- a deadline has come at its own moment
+-- a session has expired at its very deadline
 abbrev pub has_come : ℤ → ℕ × ℤ → Bool
 has_come now entry = int_le entry.1 now
 
--- the sessions whose deadline has come, in the order of their digits
+-- the expired sessions, in the order of their digits
 abbrev pub expired_at : DeadlineMap → ℤ → List ℤ
 expired_at deadlines now = map (λ e. cast_signed w64 e.0) (filter (has_come now) (entries deadlines))

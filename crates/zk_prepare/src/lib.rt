@@ -1,7 +1,9 @@
-//! What leads prepares requests: a call becomes one transaction, on the state that all that was taken before it leads to; and the
-//! deadlines of sessions. What a call is on a state stands in `zk_requests`.
+//! How a leader prepares requests: a call becomes one transaction, on the state after all that was
+//! taken before; and the deadlines of sessions. `zk_requests` defines the transaction of a call on
+//! a state.
 //!
-//! ZooKeeper Programmer's Guide, "ZNodes", "Sequence Nodes", "ZooKeeper access control using ACLs" and "ZooKeeper Sessions".
+//! ZooKeeper Programmer's Guide, "ZNodes", "Sequence Nodes", "ZooKeeper access control using ACLs"
+//! and "ZooKeeper Sessions".
 #![tactic(auto)]
 
 mod prep;

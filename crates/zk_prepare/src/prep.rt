@@ -13,17 +13,17 @@ use zk_path::NoMemory;
 use zk_requests::{Call, meaning_of};
 use zk_table::Txn;
 
-/// A leader's state for preparing: a committed state and a tail of transactions that are taken and not yet delivered. What
-/// is kept is a machine that runs ahead of the committed one by the whole tail, so that a call costs what it touches.
+/// A leader's state for preparing requests: a committed state, and a tail of transactions that are
+/// taken but not yet delivered. It holds a machine that is ahead of the committed one by the whole
+/// tail: a call costs what it touches.
 ///
-/// One that was refused memory in [`Prep::taken`] has failed for good: of its calls only [`Prep::has_failed`] may be made.
+/// After a failed allocation in [`Prep::taken`] only [`Prep::has_failed`] may be called.
 pub struct Prep {
     alloc: Global,
     ahead: Machine,
     failed: bool,
 }
 
-// (by hand, and so proved once: a derived one is proved wherever a value may be dropped)
 impl Drop for Prep {
     fn drop(self) {
         let Prep {
@@ -49,7 +49,7 @@ impl Model for Prep {
 }
 
 impl Prep {
-    /// Stands for the state of a machine that has not failed, and for a tail behind it.
+    /// Starts from the state of a machine that has not failed, and a tail after it.
     pub fn start(alloc: Global, committed: &Machine, tail: &[Txn]) -> Result<Prep, NoMemory>
         requires { committed.now.failed ≡ false }
         ensures stands { IfOk result (λ prep. StandsFor prep committed.now.state tail.now) }
@@ -66,8 +66,8 @@ impl Prep {
         })
     }
 
-    /// The transaction that a call is, at a zxid, on the state that the tail leads to: an error where the request is
-    /// refused.
+    /// Prepares a call at a zxid, on the state after the tail: an error transaction if the request
+    /// is rejected.
     pub fn make(&self, call: &Call, zxid: i64) -> Result<Txn, NoMemory>
         requires { self.now.failed ≡ false }
         ensures { (committed : State) (tail : List Taken) → StandsFor self.now committed tail
@@ -76,7 +76,7 @@ impl Prep {
         meaning_of(self.alloc, &self.ahead, call, zxid)
     }
 
-    /// The tail goes on with a transaction. After want of memory this has failed.
+    /// Appends a transaction to the tail. After [`NoMemory`] it has failed.
     pub fn taken(&mut self, txn: &Txn) -> Result<(), NoMemory>
         requires { self.old.failed ≡ false }
         ensures taken { (committed : State) (tail : List Taken) → StandsFor self.old committed tail
@@ -91,19 +91,18 @@ impl Prep {
         Ok(())
     }
 
-    /// So many of the tail's first transactions are delivered, and belong to the committed state from now on. It takes no
-    /// memory.
+    /// Moves the tail's first `count` transactions to the committed state. Allocates nothing.
     pub fn delivered(&mut self, count: usize)
         requires { self.old.failed ≡ false }
         ensures delivered { (committed : State) (tail : List Taken) → StandsFor self.old committed tail → count ≤ length tail
             → StandsFor self.new (state_after committed (take count tail)) (drop count tail) }
-        // What leads there is the same.
+        // The state after the tail is the same.
         ensures unchanged { self.new ≡ self.old }
     {
         let _ = count;
     }
 
-    /// Whether memory was refused in [`Prep::taken`].
+    /// Whether an allocation failed in [`Prep::taken`].
     pub fn has_failed(&self) -> bool
         ensures { result ≡ self.now.failed }
     {
@@ -111,7 +110,8 @@ impl Prep {
     }
 }
 
-/// Applies a transaction to a machine of which no step is taken back. Where memory is refused, nothing more is said of it.
+/// Applies a transaction to a machine without undo. After a failed allocation its state is
+/// unspecified.
 fn advance(machine: &mut Machine, txn: &Txn) -> Result<(), NoMemory>
     requires { machine.old.failed ≡ false }
     ensures stepped { OnOk result (machine.new.state ≡ (step machine.old.state txn.now).0) }

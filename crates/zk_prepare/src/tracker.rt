@@ -1,7 +1,7 @@
 ghost use Rattle.std.specs.Prelude.{◌≡◌, ◌<◌, ◌≤◌, length, MatchResult, IfOk, OnOk, OnErr, IsTrue};
 ghost use Rattle.std.specs.FinMap as finite;
 ghost use Rattle.std.specs.Ordering.{nat_cmp};
-ghost use Rattle.zk_table.specs.Places.{place_of};
+ghost use Rattle.zk_table.specs.Places.{position_of};
 ghost use Rattle.zk_prepare.specs.Deadlines.{deadline_of, touched, forgotten, has_come, expired_at};
 
 use std::alloc::Global;
@@ -9,7 +9,7 @@ use std::cmp::Ordering;
 use std::marker::Model;
 use zk_path::NoMemory;
 
-/// The deadlines of sessions, in milliseconds: a list in the order of the sessions' sixteen digits.
+/// The deadlines of sessions, in milliseconds, in the order of the sessions' sixteen digits.
 ///
 /// ZooKeeper Programmer's Guide, "ZooKeeper Sessions".
 #[derive(Debug)]
@@ -17,7 +17,6 @@ pub struct Tracker {
     entries: Vec<(u64, i64)>,
 }
 
-// (by hand, and so proved once: a derived one is proved wherever a value may be dropped)
 impl Drop for Tracker {
     fn drop(self) {
         let Tracker { entries: _ } = self;
@@ -40,10 +39,10 @@ impl Model for Tracker {
     ghost invariant = { λ tracker. IsTrue (finite.is_sorted nat_cmp tracker.entries.items) };
 }
 
-/// Where a session stands, or else where it would go.
-fn place_of(entries: &[(u64, i64)], session: u64) -> Result<usize, usize>
+/// Finds a session's position, or the one where it would be inserted.
+fn position_of(entries: &[(u64, i64)], session: u64) -> Result<usize, usize>
     requires { IsTrue (finite.is_sorted nat_cmp entries.now) }
-    ensures place { result ≡ place_of nat_cmp session entries.now }
+    ensures place { result ≡ position_of nat_cmp session entries.now }
     ensures within { MatchResult result (λ at. at < length entries.now) (λ at. at ≤ length entries.now) }
 {
     entries.binary_search_by(
@@ -53,14 +52,14 @@ fn place_of(entries: &[(u64, i64)], session: u64) -> Result<usize, usize>
     )
 }
 
-/// So long from now, or else the nearest number of 64 bits.
+/// Adds a timeout to the time; the nearest `i64` on overflow.
 fn deadline_of(now: i64, timeout: i32) -> i64
     ensures { result ≡ deadline_of now timeout }
 {
     now.saturating_add(i64::from(timeout))
 }
 
-/// Whether a session's deadline has come; it has at its own moment.
+/// Whether a session has expired; it has at its very deadline.
 fn has_come(entry: &(u64, i64), now: i64) -> bool
     ensures { result ≡ has_come now entry.exit.now }
 {
@@ -68,7 +67,6 @@ fn has_come(entry: &(u64, i64), now: i64) -> bool
 }
 
 impl Tracker {
-    /// No session.
     pub fn new(alloc: Global) -> Tracker
         ensures { result ≡ finite.empty }
     {
@@ -77,8 +75,8 @@ impl Tracker {
         }
     }
 
-    /// The session was heard of now: its deadline is its timeout later, or the greatest `i64` where that would be more.
-    /// After [`NoMemory`] nothing is changed.
+    /// Records that a session was heard of now: its deadline is its timeout later, at most the
+    /// greatest `i64`. After [`NoMemory`] nothing has changed.
     pub fn touch(&mut self, session: i64, timeout: i32, now: i64) -> Result<(), NoMemory>
         ensures touched { OnOk result (self.new ≡ touched self.old session timeout now) }
         ensures unchanged { OnErr result (self.new ≡ self.old) }
@@ -86,14 +84,14 @@ impl Tracker {
         self.put(session.cast_unsigned(), deadline_of(now, timeout))
     }
 
-    /// The session has no deadline any more.
+    /// Removes a session's deadline.
     pub fn forget(&mut self, session: i64)
         ensures { self.new ≡ forgotten self.old session }
     {
         self.take(session.cast_unsigned());
     }
 
-    /// The sessions whose deadline has come, in the order of their sixteen digits.
+    /// Returns the expired sessions, in the order of their sixteen digits.
     pub fn expired(&self, now: i64) -> Result<Vec<i64>, NoMemory>
         ensures { IfOk result (λ sessions. sessions.items ≡ expired_at self.now now) }
     {
@@ -106,18 +104,17 @@ impl Tracker {
         Ok(sessions)
     }
 
-    /// The sessions and their deadlines, in order.
     fn as_slice(&self) -> &[(u64, i64)]
         ensures { result.now ≡ finite.entries self.now }
     {
         self.entries.as_slice()
     }
 
-    /// Takes a session's deadline away.
+    /// Removes a session's deadline.
     fn take(&mut self, session: u64)
         ensures { self.new ≡ finite.remove self.old session }
     {
-        match place_of(&self.entries, session) {
+        match position_of(&self.entries, session) {
             Ok(at) => {
                 self.entries.remove(at);
             }
@@ -125,12 +122,12 @@ impl Tracker {
         }
     }
 
-    /// Puts a deadline in place of a session's earlier one.
+    /// Replaces a session's deadline.
     fn put(&mut self, session: u64, deadline: i64) -> Result<(), NoMemory>
         ensures there { OnOk result (self.new ≡ finite.insert self.old session deadline) }
         ensures unchanged { OnErr result (self.new ≡ self.old) }
     {
-        match place_of(&self.entries, session) {
+        match position_of(&self.entries, session) {
             Ok(at) => self.entries[at].1 = deadline,
             Err(at) => self.entries.insert(at, (session, deadline))?,
         }

@@ -5,6 +5,6 @@ use Rattle.zk_records.specs.Records.{record_of, IsRecordOf}
 use Rattle.zk_records.specs.Sizes.{size_of}
 use Rattle.zk_txn.specs.declared.txn.Txn.{Txn}
 
--- what is not too long has a record
+-- a transaction whose size is in the limit has a record
 abbrev pub ShortOnesHaveRecords : Type 0
 ShortOnesHaveRecords = (txn : Txn) → InRange txn → size_of (record_of txn) ≤ 16777216 → IsRecordOf (record_of txn) txn

@@ -1,7 +1,7 @@
 -- Numbers of bytes in a `u64`.
 use Rattle.std.specs.Prelude.{ℕ, ◌-◌, ◌^◌, List, length, min}
 
--- a number, or the greatest `u64` where it is more
+-- a number, at most the greatest `u64`
 abbrev pub capped : ℕ → ℕ
 capped n = min n (2 ^ 64 - 1)
 

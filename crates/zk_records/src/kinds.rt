@@ -7,7 +7,7 @@ pub const DELETE: i32 = 2;
 pub const SET_DATA: i32 = 5;
 
 pub const SET_ACL: i32 = 7;
-/// Inside a multi alone.
+/// Occurs only in a multi.
 pub const CHECK: i32 = 13;
 
 pub const MULTI: i32 = 14;

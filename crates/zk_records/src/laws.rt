@@ -1,4 +1,4 @@
-//! A law of records: the contract of a function that does nothing.
+//! A law of records: a function without code, whose contract is a theorem.
 
 ghost use Rattle.zk_records.specs.Laws.{ShortOnesHaveRecords};
 

@@ -5,12 +5,12 @@ use Rattle.std.proofs.lemmas.List.{append-nil, append_assoc, length-append}
 use Rattle.zab_epoch.specs.declared.history.Entry.{Entry}
 use Rattle.zab_epoch.specs.Entries.{txns_of}
 use Rattle.zab_laws.specs.Prefixes.{IsPrefix}
-use Rattle.zk_replicas.specs.declared.kept.Kept.{Kept}
+use Rattle.zk_replicas.specs.declared.crash_cache.CrashCache.{CrashCache}
 use Rattle.zk_replicas.specs.Keeping.{MayServe, IsShownBy, GoesOn, EachKept, WasKept, WasShown}
 use Rattle.zk_replicas.proofs.Unwatched.{shown, same_shown, untold}
-use Rattle.zk_runs.specs.declared.answer.Answered.{Answered}
-use Rattle.zk_runs.specs.Ensembles.{Shown, fresh, answered, take_in, take_all, shown_at}
-use Rattle.zk_runs.specs.Runs.{answered_after, answered_of}
+use Rattle.zk_model.specs.declared.answer.Answered.{Answered}
+use Rattle.zk_model.specs.Ensembles.{ReplicaView, fresh, answered, take_in, take_all, replica_at}
+use Rattle.zk_model.specs.Runs.{answered_after, answered_of}
 use Rattle.zk_table.specs.Histories.{state_after, tree_of}
 use Rattle.zk_table.specs.States.{State, start_state}
 use Rattle.zk_table.specs.Steps.{step}
@@ -33,7 +33,7 @@ take_unwatched (x ∷ entries) t a e =
 begun : (entries : List Entry) → take_all fresh entries ≡ shown (tree_of (txns_of entries)) (answered_of entries) [] []
 begun entries = take_unwatched entries start_state [] []
 
-take_both : (a b : List Entry) (s : Shown) → take_all s (a ++ b) ≡ take_all (take_all s a) b
+take_both : (a b : List Entry) (s : ReplicaView) → take_all s (a ++ b) ≡ take_all (take_all s a) b
 take_both [] b s = refl
 take_both (x ∷ a) b s = take_both a b (take_in s x)
 
@@ -48,7 +48,7 @@ none_of [] n short = refl
 none_of (x ∷ xs) n short = absurd (omega (arith, short))
 
 -- what is no longer than these entries is their beginning
-front : (entries : List Entry) (it : Kept) (m : MayServe entries it) → length it.answers.items ≤ length entries → IsPrefix m.list entries
+front : (entries : List Entry) (it : CrashCache) (m : MayServe entries it) → length it.answers.items ≤ length entries → IsPrefix m.list entries
 front entries it m short =
     let many : length it.answers.items ≡ length m.list = ap length m.over.answers ∙ as_many start_state m.list in
     elim m.order [
@@ -59,7 +59,7 @@ front entries it m short =
           record { rest = []; is = append-nil m.list ∙ sym q.is ∙ ap (λ l. entries ++ l) none ∙ append-nil entries })
     ]
 
-pub goes_on_so : (old new : Shown) (kept : Option Kept) (most done : ℕ) (entries : List Entry) → ((new ≡ old) × (done ≡ 0)) ⊎ GoesOn old kept most new done → IfSome kept (MayServe entries) → most ≡ length entries → take_all new (drop done entries) ≡ take_all old entries
+pub goes_on_so : (old new : ReplicaView) (kept : Option CrashCache) (most done : ℕ) (entries : List Entry) → ((new ≡ old) × (done ≡ 0)) ⊎ GoesOn old kept most new done → IfSome kept (MayServe entries) → most ≡ length entries → take_all new (drop done entries) ≡ take_all old entries
 goes_on_so old new kept most done entries (inl same) may all = ap (λ n. take_all new (drop n entries)) same.1 ∙ ap (λ s. take_all s entries) same.0
 goes_on_so old new kept most done entries (inr g) may all =
     let m : MayServe entries g.it = subst (λ o. IfSome o (MayServe entries)) g.was may in
@@ -91,7 +91,7 @@ pub below_it : (number many all : ℕ) → number ≢ 0 → number ≤ all → m
 below_it number many all some within same = let above : 0 < number = omega (arith, some) in omega arith
 
 -- one of them is replaced
-pub kept_then : (kept : List (Option Kept)) (i : ℕ) (old new : Option Kept) (shown : List Shown) (number : ℕ) (by : Shown) → slice_get kept i ≡ Some old → shown_at shown number ≡ Some by → IfSome new (λ it. (old ≡ Some it) ⊎ IsShownBy by it) → EachKept (λ it. WasKept kept it ⊎ WasShown shown number it) (slice_set kept i new)
+pub kept_then : (kept : List (Option CrashCache)) (i : ℕ) (old new : Option CrashCache) (shown : List ReplicaView) (number : ℕ) (by : ReplicaView) → slice_get kept i ≡ Some old → replica_at shown number ≡ Some by → IfSome new (λ it. (old ≡ Some it) ⊎ IsShownBy by it) → EachKept (λ it. WasKept kept it ⊎ WasShown shown number it) (slice_set kept i new)
 kept_then kept i old new shown number by here there each place it is =
     elim (get_set kept i place new (Some it) is) [
       | inl now ↦ elim (subst (λ o. IfSome o (λ k. (old ≡ Some k) ⊎ IsShownBy by k)) (sym now) each) [

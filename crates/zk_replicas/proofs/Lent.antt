@@ -1,4 +1,4 @@
--- Entries that are lent as tags and transactions.
+-- Entries borrowed as tags and transactions.
 use Rattle.std.proofs.Common.{◌≡◌, ℕ, zero, suc, ◌+◌, ◌<◌, List, [], ◌∷◌, length, drop, get_or, refl, sym, ap, ◌∙◌, arith}
 use Rattle.zab_epoch.specs.declared.history.Entry.{Entry}
 use Rattle.zab_epoch.specs.Entries.{tags_of, txns_of}
@@ -17,7 +17,7 @@ from_there [] i txn below is = absurd (omega (arith, below))
 from_there (x ∷ entries) zero txn below is = ap (λ (y : Txn). record { tag = x.tag; txn = y } ∷ entries) (sym is)
 from_there (x ∷ entries) (suc i) txn below is = from_there entries i txn (omega (arith, below)) is
 
--- the entry at a place, and those behind it
+-- the entry at a position, and those after it
 pub next_one : (entries : List Entry) (tags : List ℕ) (txns : List Txn) (i : ℕ) (txn : Txn) → tags ≡ tags_of entries → txns ≡ txns_of entries → i < length entries → txn ≡ get_or txns i txn → drop i entries ≡ record { tag = get_or tags i 0; txn = txn } ∷ drop (i + 1) entries
 next_one entries tags txns i txn tags_are txns_are below is =
     (let after : suc i ≡ i + 1 = omega arith in

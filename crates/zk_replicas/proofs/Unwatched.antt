@@ -3,8 +3,8 @@ use Rattle.std.proofs.Common.{◌≡◌, ℕ, ℤ, List, [], ◌∷◌, ◌++◌
 use Rattle.zab_epoch.specs.declared.history.Entry.{Entry}
 use Rattle.zk_machine.specs.declared.change.Change.{Change}
 use Rattle.zk_machine.specs.Changes.{changes_of}
-use Rattle.zk_runs.specs.declared.answer.Answered.{Answered}
-use Rattle.zk_runs.specs.Ensembles.{Shown, answered, waiting_by, waiting, take_in}
+use Rattle.zk_model.specs.declared.answer.Answered.{Answered}
+use Rattle.zk_model.specs.Ensembles.{ReplicaView, answered, waiting_by, waiting, take_in}
 use Rattle.zk_table.specs.States.{State}
 use Rattle.zk_table.specs.Steps.{step}
 use Rattle.zk_txn.specs.declared.result.TxnResult.{TxnResult}
@@ -42,14 +42,14 @@ append_none : {A : Type 0} (xs : List A) → xs ++ [] ≡ xs
 append_none [] = refl
 append_none (x ∷ xs) = ap (λ l. x ∷ l) (append_none xs)
 
-abbrev pub shown : State → List Answered → List Watch → List Fired → Shown
+abbrev pub shown : State → List Answered → List Watch → List Fired → ReplicaView
 shown tree answers watches events = record { tree = tree; answers = answers; watches = watches; events = events }
 
 pub same_shown : (t u : State) (a b : List Answered) (v w : List Watch) (e f : List Fired) → t ≡ u → a ≡ b → v ≡ w → e ≡ f → shown t a v e ≡ shown u b w f
 same_shown t u a b v w e f p q r s =
     ap (λ x. shown x a v e) p ∙ ap (λ x. shown u x v e) q ∙ ap (λ x. shown u b x e) r ∙ ap (λ x. shown u b w x) s
 
--- what a server shows then that was answered so
+-- what a server shows after this result
 pub untold : (before after : State) (had has : List Answered) (watches : List Watch) (events : List Fired) (tag : ℕ) (txn : Txn) (result : TxnResult) (item : Answered) → watches ≡ [] → (after, result) ≡ step before txn → has ≡ had ++ item ∷ [] → item ≡ answered (record { tag = tag; txn = txn }) result → shown after has watches events ≡ take_in (shown before had watches events) (record { tag = tag; txn = txn })
 untold before after had has watches events tag txn result item none stepped items is =
     let entry : Entry = record { tag = tag; txn = txn } in

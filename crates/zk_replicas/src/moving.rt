@@ -1,23 +1,23 @@
-//! What an event does to the servers' trees.
+//! The effect of an event on the servers' trees.
 
 ghost use Rattle.std.specs.Prelude.{◌≡◌, ◌≢◌, ◌≤◌, ◌<◌, ◌⊎◌, length, true, if◌then◌else◌, int_lt, Some, None, Err, IfSome, OnOk, OnErr};
 ghost use Rattle.std.specs.Option.{option_copied};
-ghost use Rattle.zab_runs.specs.Worlds.{World as WorldState};
+ghost use Rattle.zab_model.specs.Worlds.{World as WorldState};
 ghost use Rattle.zk_requests.specs.declared.call.Call.{Call as SomeCall};
-ghost use Rattle.zk_runs.specs.declared.fault.EnsembleFault.TheVariants as faults;
-ghost use Rattle.zk_runs.specs.Ensembles.{fresh, ensemble, shown_at, at_server, shown_then, take_all, looks};
+ghost use Rattle.zk_model.specs.declared.fault.EnsembleFault.TheVariants as faults;
+ghost use Rattle.zk_model.specs.Ensembles.{fresh, ensemble, replica_at, at_server, shown_then, take_all, looks};
 ghost use Rattle.zk_replicas.specs.Keeping.{MayServe, IsShownBy, EachKept, WasKept, WasShown};
 
-use crate::kept::Kept;
+use crate::crash_cache::CrashCache;
 use crate::replica::Replica;
 use std::alloc::Global;
 use zab_epoch::Entries;
+use zk_model::{Answer, EnsembleFault, Question};
 use zk_path::NoMemory;
-use zk_runs::{Answer, EnsembleFault, Question};
 
-/// The server with this number, lent; none where there is none.
+/// Borrows the replica with this number.
 pub fn find(replicas: &[Replica], number: usize) -> Option<&Replica>
-    ensures { option_copied result ≡ shown_at replicas.now number }
+    ensures { option_copied result ≡ replica_at replicas.now number }
 {
     if number == 0 {
         return None;
@@ -25,15 +25,14 @@ pub fn find(replicas: &[Replica], number: usize) -> Option<&Replica>
     replicas.get(number - 1)
 }
 
-/// The server with this number, which runs or does not and has delivered these entries by now, delivers what it had not delivered
-/// before; one that is down shows what a new one does, and what it had delivered is kept for it. Where memory was refused, it
-/// shows what a new one does, too.
+/// Brings a server up to its delivered list. One that is down shows nothing, and what it had
+/// delivered is cached. If an allocation fails, the server shows nothing, either.
 pub fn catch_up(
     alloc: Global,
     running: bool,
     delivered: &Entries<'_>,
     replicas: &mut [Replica],
-    kept: &mut [Option<Kept>],
+    kept: &mut [Option<CrashCache>],
     number: usize,
     before: usize,
 ) -> Result<(), NoMemory>
@@ -55,13 +54,13 @@ pub fn catch_up(
     bring_up(alloc, running, delivered, replica, aside, before)
 }
 
-/// One server does.
+/// Brings one server up to its delivered list.
 fn bring_up(
     alloc: Global,
     running: bool,
     delivered: &Entries<'_>,
     replica: &mut Replica,
-    kept: &mut Option<Kept>,
+    kept: &mut Option<CrashCache>,
     before: usize,
 ) -> Result<(), NoMemory>
     requires grown { running ≡ true → before ≤ length delivered.now }
@@ -84,11 +83,11 @@ fn bring_up(
     Ok(())
 }
 
-/// A server delivers entries behind so many. Where these are its first ones, it goes on from what was kept.
+/// Delivers entries after the first `n`. If these are its first ones, it continues from its cache.
 fn deliver(
     alloc: Global,
     replica: &mut Replica,
-    kept: &mut Option<Kept>,
+    kept: &mut Option<CrashCache>,
     entries: &Entries<'_>,
     before: usize,
 ) -> Result<(), NoMemory>
@@ -105,7 +104,7 @@ fn deliver(
     replica.take_all(alloc, &entries.behind(done))
 }
 
-/// How a client is refused that has seen more than this server's last transaction.
+/// Rejects a client that has seen more than this server's last transaction.
 fn behind(replica: &Replica, question: &Question) -> Option<EnsembleFault>
     ensures { result ≡ (if int_lt replica.now.tree.last question.now.seen
         then Some (faults.Behind question.now.seen replica.now.tree.last) else None) }
@@ -119,10 +118,10 @@ fn behind(replica: &Replica, question: &Question) -> Option<EnsembleFault>
     }
 }
 
-/// A client reads at one of the servers.
+/// Reads at a server, and sets the read's watch.
 pub fn look(replicas: &mut [Replica], question: &Question) -> Result<Answer, EnsembleFault>
     ensures looks { (w : WorldState SomeCall) → result ≢ Err faults.NoMemory → (ensemble w replicas.new, result)
-        ≡ looks (ensemble w replicas.old) question.now (shown_at replicas.old question.now.server) }
+        ≡ looks (ensemble w replicas.old) question.now (replica_at replicas.old question.now.server) }
     ensures count { length replicas.new ≡ length replicas.old }
     ensures unchanged { OnErr result (replicas.new ≡ replicas.old) }
 {
@@ -137,10 +136,10 @@ pub fn look(replicas: &mut [Replica], question: &Question) -> Result<Answer, Ens
     Ok(Answer::Looked(replica.look(question)?))
 }
 
-/// What a client would be told that reads at one of the servers.
+/// Returns the reply to a read at a server, without setting its watch.
 pub fn peek(replicas: &[Replica], question: &Question) -> Result<Answer, EnsembleFault>
     ensures { (w : WorldState SomeCall) → result ≢ Err faults.NoMemory
-        → result ≡ (looks (ensemble w replicas.now) question.now (shown_at replicas.now question.now.server)).1 }
+        → result ≡ (looks (ensemble w replicas.now) question.now (replica_at replicas.now question.now.server)).1 }
 {
     let number = question.server;
     if number == 0 || number > replicas.len() {

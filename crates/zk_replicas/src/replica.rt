@@ -1,27 +1,27 @@
 ghost use Rattle.std.specs.Prelude.{◌≡◌, ◌<◌, ◌-◌, ◌^◌, ◌⊎◌, [], length, true, false, Some, None, IfOk, IfSome, OnOk, OnErr};
 ghost use Rattle.zk_machine.specs.Changes.{changes_of};
-ghost use Rattle.zk_runs.specs.Ensembles.{fresh, waiting, take_in, take_all, kind_set, watching, reply_of};
+ghost use Rattle.zk_model.specs.Ensembles.{fresh, waiting, take_in, take_all, kind_set, watching, reply_of};
 ghost use Rattle.zk_table.specs.Steps.{step};
 ghost use Rattle.zk_replicas.specs.Keeping.{IsShownBy, GoesOn};
 ghost use Rattle.zk_replicas.specs.Views.{tree_by, HasNotFailed};
 
-use crate::kept::Kept;
+use crate::crash_cache::CrashCache;
 use std::alloc::Global;
 use std::marker::Model;
 use std::mem::replace;
 use zab_epoch::Entries;
 use zk_machine::{Applied, Machine};
+use zk_model::{Answered, Question};
 use zk_path::NoMemory;
-use zk_runs::{Answered, Question};
 use zk_table::codes::{NO_NODE, SESSION_EXPIRED};
 use zk_table::{Op, ReadCall, ReadReply, Txn, TxnResult};
 use zk_watch::{Fired, WatchKind, Watches};
 
-/// What a server of an ensemble shows of what it has delivered: its tree, what each entry was answered, who watches there,
-/// and what was fired.
+/// What a server of an ensemble shows of its delivered list: its tree, the result of each entry,
+/// its watches, and the events fired.
 #[derive(Drop)]
 pub struct Replica {
-    /// None before the first entry: what a server shows that is down takes no memory.
+    /// `None` before the first entry: a server that is down takes no memory.
     machine: Option<Machine>,
     answers: Vec<Answered>,
     watches: Watches,
@@ -30,13 +30,13 @@ pub struct Replica {
 
 impl Model for Replica {
     ghost use Rattle.zk_txn.specs.contracts.node.Node as node;
-    ghost use Rattle.zk_runs.specs.contracts.answer.Answered as answered;
+    ghost use Rattle.zk_model.specs.contracts.answer.Answered as answered;
     ghost use Rattle.zk_watch.specs.contracts.watch.Watch as watch;
     ghost use Rattle.zk_watch.specs.contracts.watch.Fired as fired;
-    ghost use Rattle.zk_runs.specs.Ensembles.{Shown};
+    ghost use Rattle.zk_model.specs.Ensembles.{ReplicaView};
     ghost use Rattle.zk_replicas.specs.Views.{shown_code, tree_by, HasNotFailed};
 
-    ghost Value = { Shown };
+    ghost Value = { ReplicaView };
 
     ghost coded = { shown_code node.the_row.coded answered.the_row.coded watch.the_row.coded fired.the_row.coded };
 
@@ -46,7 +46,7 @@ impl Model for Replica {
 }
 
 impl Replica {
-    /// One that has delivered nothing. It takes no memory.
+    /// A replica that has delivered nothing; allocates nothing.
     pub fn new(alloc: Global) -> Replica
         ensures { result ≡ fresh }
     {
@@ -69,7 +69,7 @@ impl Replica {
         }
     }
 
-    /// Delivers an entry where nobody watches: what it changes is told to none, and is not asked for.
+    /// Delivers an entry while there is no watch: its changes are not computed.
     fn take_unwatched(&mut self, alloc: Global, tag: u64, txn: &Txn) -> Result<(), NoMemory>
         requires { self.old.watches ≡ [] }
         ensures { OnOk result (self.new ≡ take_in self.old (record { tag = tag; txn = txn.now })) }
@@ -83,7 +83,7 @@ impl Replica {
         Ok(())
     }
 
-    /// Delivers an entry, and tells those who watch.
+    /// Delivers an entry, and fires watches.
     fn take_watched(&mut self, alloc: Global, tag: u64, txn: &Txn) -> Result<(), NoMemory>
         ensures { OnOk result (self.new ≡ take_in self.old (record { tag = tag; txn = txn.now })) }
     {
@@ -113,8 +113,8 @@ impl Replica {
         Ok(())
     }
 
-    /// Shows nothing any more. What it had delivered, if anything, is kept in place of what was.
-    pub(crate) fn leave(&mut self, alloc: Global, kept: &mut Option<Kept>)
+    /// Resets to nothing delivered. What it had delivered, if anything, replaces the cache.
+    pub(crate) fn leave(&mut self, alloc: Global, kept: &mut Option<CrashCache>)
         ensures gone { self.new ≡ fresh }
         ensures aside { IfSome kept.new (λ it. (kept.old ≡ Some it) ⊎ IsShownBy self.old it) }
     {
@@ -124,13 +124,13 @@ impl Replica {
             ..
         } = replace(self, Replica::new(alloc));
         if let Some(machine) = machine {
-            *kept = Some(Kept { machine, answers });
+            *kept = Some(CrashCache { machine, answers });
         }
     }
 
-    /// Goes on from what was kept, where nothing was delivered yet and at most so many entries were delivered then; and how many
-    /// these are.
-    pub(crate) fn go_on(&mut self, kept: &mut Option<Kept>, most: usize) -> usize
+    /// Continues from the cache if nothing is delivered yet and the cache holds at most `most`
+    /// entries. Returns their number.
+    pub(crate) fn go_on(&mut self, kept: &mut Option<CrashCache>, most: usize) -> usize
         requires { IfSome kept.old (λ it. it.machine.failed ≡ false) }
         ensures goes_on { ((self.new ≡ self.old) × (result ≡ 0)) ⊎ GoesOn self.old kept.old most self.new result }
         ensures aside { IfSome kept.new (λ it. kept.old ≡ Some it) }
@@ -138,7 +138,7 @@ impl Replica {
         if !self.is_unbegun() {
             return 0;
         }
-        let Some(Kept { machine, answers }) = kept.take() else {
+        let Some(CrashCache { machine, answers }) = kept.take() else {
             return 0;
         };
         let count = answers.len();
@@ -150,7 +150,7 @@ impl Replica {
         count
     }
 
-    /// Whether it has delivered nothing, and nobody watches.
+    /// Whether it has delivered nothing and has no watch.
     fn is_unbegun(&self) -> bool
         ensures { result ≡ true → self.now ≡ fresh }
     {
@@ -160,7 +160,7 @@ impl Replica {
             && self.events.is_empty()
     }
 
-    /// The last transaction that was delivered, and 0 before the first.
+    /// Returns the zxid of the last delivered transaction; 0 before the first.
     pub fn last(&self) -> i64
         ensures { result ≡ self.now.tree.last }
     {
@@ -173,7 +173,7 @@ impl Replica {
         last
     }
 
-    /// What a client's question is told.
+    /// Returns the reply to a read.
     pub(crate) fn reply_of(&self, question: &Question) -> Result<ReadReply, NoMemory>
         ensures { IfOk result (λ reply. reply ≡ reply_of question.now self.now.tree) }
     {
@@ -183,7 +183,7 @@ impl Replica {
         }
     }
 
-    /// A client's question is told what stands in the tree, and sets its watch. After [`NoMemory`] nothing is changed.
+    /// Returns the reply to a read, and sets its watch. After [`NoMemory`] nothing has changed.
     pub(crate) fn look(&mut self, question: &Question) -> Result<ReadReply, NoMemory>
         ensures told { IfOk result (λ reply. reply ≡ reply_of question.now self.old.tree) }
         ensures watching { IfOk result (λ reply. self.new ≡ watching question.now reply self.old) }
@@ -199,7 +199,7 @@ impl Replica {
         Ok(reply)
     }
 
-    /// A machine in the state of the tree.
+    /// Returns a machine in the state of the tree.
     pub fn tree(&self, alloc: Global) -> Result<Machine, NoMemory>
         ensures { IfOk result (λ machine. machine ≡ record { state = self.now.tree; steps = 0; failed = false }) }
     {
@@ -209,14 +209,14 @@ impl Replica {
         }
     }
 
-    /// What each delivered entry was answered, lent.
+    /// Borrows the results of delivered entries.
     pub fn answers(&self) -> &[Answered]
         ensures { result.now ≡ self.now.answers }
     {
         self.answers.as_slice()
     }
 
-    /// What was fired, lent.
+    /// Borrows the events fired.
     pub fn events(&self) -> &[Fired]
         ensures { result.now ≡ self.now.events }
     {
@@ -224,8 +224,8 @@ impl Replica {
     }
 }
 
-/// A machine that can count one step more, taken out of its place: a new one where there is none. Where memory was refused,
-/// there is none any more.
+/// Takes the machine that can count one step more, or a new one. After a failed allocation there is
+/// none.
 fn take_machine(alloc: Global, machine: &mut Option<Machine>) -> Result<Machine, NoMemory>
     requires { HasNotFailed machine.old }
     ensures state { IfOk result (λ it. it.state ≡ tree_by machine.old) }
@@ -241,8 +241,8 @@ fn take_machine(alloc: Global, machine: &mut Option<Machine>) -> Result<Machine,
     Ok(it)
 }
 
-/// Applies a transaction to the tree of a machine, which is made where there is none. Where memory was refused, there is none
-/// any more.
+/// Applies a transaction to the machine, created if there is none. After a failed allocation there
+/// is none.
 fn apply(alloc: Global, machine: &mut Option<Machine>, txn: &Txn) -> Result<Applied, NoMemory>
     requires { HasNotFailed machine.old }
     ensures stepped { IfOk result (λ applied. (tree_by machine.new, applied.result) ≡ step (tree_by machine.old) txn.now) }
@@ -257,7 +257,7 @@ fn apply(alloc: Global, machine: &mut Option<Machine>, txn: &Txn) -> Result<Appl
     Ok(applied)
 }
 
-/// The same, where only the answer is asked for.
+/// As [`apply`], if only the result is wanted.
 fn advance(alloc: Global, machine: &mut Option<Machine>, txn: &Txn) -> Result<TxnResult, NoMemory>
     requires { HasNotFailed machine.old }
     ensures stepped { IfOk result (λ answered. (tree_by machine.new, answered) ≡ step (tree_by machine.old) txn.now) }
@@ -271,7 +271,7 @@ fn advance(alloc: Global, machine: &mut Option<Machine>, txn: &Txn) -> Result<Tx
     Ok(answered)
 }
 
-/// What a client's question is told by a machine.
+/// Returns a machine's reply to a read.
 fn read(machine: &Machine, question: &Question) -> Result<ReadReply, NoMemory>
     requires { machine.now.failed ≡ false }
     ensures { IfOk result (λ reply. reply ≡ reply_of question.now machine.now.state) }
@@ -288,7 +288,7 @@ fn read(machine: &Machine, question: &Question) -> Result<ReadReply, NoMemory>
     Ok(reply)
 }
 
-/// A session that closes is told nothing of it.
+/// Removes the watches of a session that closes.
 fn stop_waiting(watches: &mut Watches, txn: &Txn)
     ensures { watches.new ≡ waiting txn.now watches.old }
 {
@@ -297,7 +297,7 @@ fn stop_waiting(watches: &mut Watches, txn: &Txn)
     }
 }
 
-/// The watch that a read sets which is told this.
+/// Returns the kind of watch that a read with this reply sets.
 fn kind_set(call: &ReadCall, reply: &ReadReply) -> Option<WatchKind>
     ensures { result ≡ kind_set call.now reply.now }
 {

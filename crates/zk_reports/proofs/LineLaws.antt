@@ -37,12 +37,12 @@ first_line-cons b bs false e rest h =
     let inner : 1 + position_or_len is_newline bs < suc (length bs) = rw e at h in
     rw (e, two_more (position_or_len is_newline bs), one_more (position_or_len is_newline bs)) (ap (begun_by b) (rest (omega arith)))
 
--- another begins with the line before the first newline
+-- any other text starts with the line before the first newline
 pub first_line : (text : List ℕ) → position_or_len is_newline text < length text → lines_of text ≡ before_first is_newline text ∷ lines_of (after_first is_newline text)
 first_line [] h = absurd (omega arith)
 first_line (b ∷ bs) h = first_line-cons b bs (is_newline b) refl (first_line bs) h
 
--- ---- whether a text is left
+-- ---- whether the text is empty
 
 pub is_filled : (rest : List ℕ) → eqb (length rest) 0 ≡ false → rest ≢ []
 is_filled [] h = λ e. let bad : true ≡ false = h in cc

@@ -3,18 +3,18 @@ use Rattle.std.specs.Prelude.{ℕ, ℤ, List, [], ◌∷◌, ◌++◌, codes}
 use Rattle.std.specs.Fmt.{signed_decimal}
 use Rattle.std.specs.FinMap.{entries}
 use Rattle.std.specs.List.{flat_map}
-use Rattle.zk_spelling.specs.Reports.{node_line}
-use Rattle.zk_spelling.specs.Spelling.{sixteen_digits, id_digits}
+use Rattle.zk_format.specs.Reports.{node_line}
+use Rattle.zk_format.specs.Spelling.{sixteen_digits, id_digits}
 use Rattle.zk_txn.specs.declared.node.Node.{Node}
 use Rattle.zk_txn.specs.Nodes.{stat_with}
 use Rattle.zk_table.specs.States.{NodeMap, State, stat_of}
 use Rattle.zk_tree.specs.declared.entry.Entry.{Entry}
 
--- a line, with the newline that ends it
+-- a line with its newline
 abbrev pub line : List ℕ → List ℕ
 line text = text ++ 10 ∷ []
 
--- the last transaction
+-- the zxid of the last transaction
 unfoldable pub zxid_line : ℤ → List ℕ
 zxid_line zxid = codes "zxid " ++ id_digits zxid
 
@@ -26,11 +26,11 @@ session_line session = codes "session " ++ sixteen_digits session.0 ++ 32 ∷ si
 abbrev pub tree_node_line : NodeMap → List ℕ × Node → List ℕ
 tree_node_line nodes entry = node_line entry.0 entry.1 (stat_of nodes entry.0 entry.1)
 
--- the line of a node that a tree lends with its path and the number of its children
+-- the line of an entry of a tree
 abbrev pub entry_line : Entry → List ℕ
 entry_line entry = line (node_line entry.path.now entry.node.now (stat_with entry.node.now entry.child_count))
 
--- the last transaction, the open sessions in order, and the nodes in the order of their paths
+-- the last transaction, the open sessions in order, and the nodes sorted by path
 unfoldable pub tree_report : State → List ℕ
 tree_report state =
     line (zxid_line state.last)

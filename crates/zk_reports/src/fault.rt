@@ -6,18 +6,18 @@ use std::alloc::Global;
 use thiserror::Error;
 use zk_path::NoMemory;
 
-/// Why a script ended before its end.
+/// Why a script stopped before its end.
 #[derive(Clone, Copy, Debug, PartialEq, Eq, Error)]
 pub enum ScriptFault {
-    /// The line of this number, counted from 1, says no command.
+    /// The line with this number, counted from 1, is not a command.
     #[error("script {0}")]
     Malformed(u64),
-    /// Memory was refused.
+    /// An allocation failed.
     #[error("no memory")]
     NoMemory,
 }
 
-/// The line that tells which line of a script says no command.
+/// The line for the first line of a script that is not a command.
 pub fn script_line(alloc: Global, number: u64) -> Result<String, NoMemory>
     ensures { IfOk result (λ line. string_bytes line ≡ line_of_script_fault number) }
 {

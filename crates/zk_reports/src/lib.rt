@@ -1,4 +1,5 @@
-//! What reports and scripts share: the report of a tree, the lines of a text, and why a script ended before its end.
+//! Shared by reports and scripts: the report of a tree, the lines of a text, and the faults of a
+//! script.
 #![tactic(auto)]
 
 mod fault;

@@ -1,7 +1,7 @@
 ghost use Rattle.std.specs.Prelude.{◌≡◌, ◌≢◌, ◌∷◌, ◌<◌, [], length};
 ghost use Rattle.zk_reports.specs.Lines.{lines_of};
 
-/// Takes the first line from a text that is not empty, without its newline.
+/// Removes the first line from a text that is not empty; returns it without its newline.
 pub fn next_line<'a>(text: &mut &'a str) -> &'a str
     requires { text.old.now ≢ [] }
     ensures line { lines_of text.old.now ≡ result.now ∷ lines_of text.new.now }

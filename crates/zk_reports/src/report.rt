@@ -1,14 +1,15 @@
-//! The report of a tree. Calls that are named `push` append all of it, or nothing where memory is refused, but for `push_entry_line`.
+//! The report of a tree. Functions named `push` append all of it, or nothing if an allocation
+//! fails, except `push_entry_line`.
 ghost use Rattle.std.specs.Prelude.{◌≡◌, ◌++◌, false, OnErr, OnOk};
 ghost use Rattle.std.specs.FinMap as finite;
 ghost use Rattle.std.specs.List.{flat_map};
 ghost use Rattle.std.specs.String.{string_bytes};
 ghost use Rattle.zk_reports.specs.Reports.{line, entry_line, zxid_line, session_line, tree_report};
 
+use zk_format::spell_node_line;
 use zk_listing::{push_digits, push_id};
 use zk_machine::Machine;
 use zk_path::NoMemory;
-use zk_spelling::spell_node_line;
 use zk_tree::Entry;
 
 /// Appends the report of a machine's state: its last transaction, its open sessions and its nodes.
@@ -24,7 +25,8 @@ pub fn push_tree(page: &mut String, machine: &Machine) -> Result<(), NoMemory>
     Ok(())
 }
 
-/// Appends the same, or a part of it where memory is refused: for a text that is given up then.
+/// Like [`push_tree`], but an allocation failure may leave a part, so the caller must discard the
+/// text.
 #[tactic(auto, unfolding(crate::specs::Reports::tree_report))]
 pub fn spell_tree(page: &mut String, machine: &Machine) -> Result<(), NoMemory>
     requires { machine.now.failed ≡ false }
@@ -115,7 +117,8 @@ fn push_entries(page: &mut String, entries: &[Entry]) -> Result<(), NoMemory>
     Ok(())
 }
 
-/// Appends the line of a node that a tree lends, or a part of it where memory is refused: for a page that is given up then.
+/// Appends the line of an entry. An allocation failure may leave a part of it, so the caller must
+/// discard the text.
 pub fn push_entry_line(page: &mut String, entry: &Entry) -> Result<(), NoMemory>
     ensures { OnOk result (string_bytes page.new ≡ string_bytes page.old ++ entry_line entry.now) }
 {

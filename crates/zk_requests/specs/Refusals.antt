@@ -1,4 +1,4 @@
--- How a request is tested: the tests stand in their order, and the first one that fails gives the code.
+-- How a request is tested: in the order written, and the first test that fails gives the code.
 use Rattle.std.specs.Prelude.{◌≡◌, ℤ, Bool, Option, Some, None, Result, Ok, Err, if◌then◌else◌}
 use Rattle.zk_requests.specs.declared.refusal.Refusal.{Refusal}
 use Rattle.zk_requests.specs.declared.refusal.Refusal.TheVariants as refusals
@@ -15,7 +15,7 @@ abbrev pub or_refused : {A : Type 0} → ℤ → Option A → Result A ℤ
 or_refused code None = Err code
 or_refused code (Some x) = Ok x
 
--- ---- what the code answers, which may also be refused memory
+-- ---- the code's results, which include failed allocations
 
 abbrev pub Refuses : {A : Type 0} → Refusal → Result A ℤ → Type 0
 Refuses refusals.NoMemory said = Unit {0}

@@ -1,7 +1,8 @@
--- What a call comes to, on a state and at a zxid: one transaction, which is an error where the request is refused.
--- ZooKeeper Programmer's Guide, "ZNodes", "Ephemeral Nodes", "Sequence Nodes" and "ZooKeeper access control using ACLs"; the
--- transactions are those of `zookeeper.jute`, module `org.apache.zookeeper.txn`. In which order a request is tested, and
--- which code each refusal has, is this project's own.
+-- The transaction of a call, on a state and at a zxid; an error if the request is rejected.
+-- ZooKeeper Programmer's Guide, "ZNodes", "Ephemeral Nodes", "Sequence Nodes" and "ZooKeeper access
+-- control using ACLs"; the transactions are those of `zookeeper.jute`, module
+-- `org.apache.zookeeper.txn`. The order of tests, and the code of each error, are this project's
+-- own.
 use Rattle.std.specs.Prelude.{ℕ, ℤ, pos, negsuc, ◌+ℤ◌, Bool, true, false, not, ◌&&◌, ◌||◌, nat_lt, ◌==◌, List, [], ◌∷◌, ◌++◌, length, Option, is_none, Result, Ok, Err, if◌then◌else◌, codes, int_le}
 use Rattle.std.specs.List.{list_any}
 use Rattle.std.specs.Int.{w32, w64, int_wrap, cast_unsigned}
@@ -39,15 +40,15 @@ use Rattle.zk_requests.specs.Refusals.{◌>>=◌, demand, or_refused}
 abbrev pub path_in : List ℕ → Result (List ℕ) ℤ
 path_in text = if is_none (fault_of text) then Ok text else Err bad_arguments
 
--- what stands before the last slash, and the root where nothing does
+-- the text before the last slash; `/` if it is empty
 abbrev pub text_above : List ℕ → List ℕ
 text_above text = if length (before_last_slash text) == 0 then codes "/" else before_last_slash text
 
--- a text in which a parent can be looked for: it has a slash, and no NUL
+-- a text that can have a parent: it has a slash, and no NUL
 abbrev pub is_legible : List ℕ → Bool
 is_legible text = has_slash text && not (list_any (λ b. b == 0) text)
 
--- a node that stood there before any transaction
+-- a node that exists before any transaction
 abbrev pub is_first_path : List ℕ → Bool
 is_first_path path = bytes_eq path (codes "/") || bytes_eq path (codes "/zookeeper") || bytes_eq path (codes "/zookeeper/quota")
 
@@ -70,21 +71,21 @@ is_sequential flags = int_eq flags (pos 2) || int_eq flags (pos 3)
 abbrev pub matches : ℤ → ℤ → Bool
 matches wanted version = int_eq wanted (negsuc 0) || int_eq wanted version
 
--- in 32 bits, which wrap
+-- in 32 bits, wrapping
 abbrev pub one_more : ℤ → ℤ
 one_more number = int_wrap w32 (number +ℤ pos 1)
 
 -- ---- create
 
--- a sequential node's text goes on with the number of its parent's creates
+-- a sequential node's text ends with the number of its parent's creates
 abbrev pub numbered : List ℕ → ℤ → ℤ → List ℕ
 numbered text flags creates = if is_sequential flags then text ++ sequence creates else text
 
--- a node without owner, below which others may stand
+-- a node without owner, which may have children
 abbrev pub is_persistent : Node → Bool
 is_persistent node = int_eq node.owner (pos 0)
 
--- where the node may stand, below this parent
+-- the path at which the node may be created, below this parent
 abbrev pub place_below : NodeMap → List Id → List ℕ → ℤ → Node → Result (List ℕ) ℤ
 place_below nodes auths text flags parent = do
   allowed ← demand (allows parent.acl create_perm auths) no_auth
@@ -108,7 +109,7 @@ create nodes auths text content acl flags = do
 
 -- ---- delete
 
--- whether the node may go, of which its parent's list decides
+-- the node may be deleted; its parent's list decides
 abbrev pub may_go : NodeMap → List Id → List ℕ → ℤ → Result (Unit {0}) ℤ
 may_go nodes auths path version = do
   node ← node_at nodes path
@@ -126,7 +127,7 @@ delete nodes auths text version = do
 
 -- ---- set, and check
 
--- the version that follows, where the caller may do this and knows the one that is there
+-- the next version, if the caller has the permission and knows the present one
 abbrev pub next_version : NodeMap → List Id → List ℕ → ℤ → ℕ → Result ℤ ℤ
 next_version nodes auths path version perm = do
   node ← node_at nodes path
@@ -146,7 +147,7 @@ check nodes auths text version = do
   next ← next_version nodes auths path version read_perm
   Ok (subs.Check path next)
 
--- the same for the version of the access control list
+-- the next version of the access control list
 abbrev pub next_aversion : NodeMap → List Id → List ℕ → ℤ → Result ℤ ℤ
 next_aversion nodes auths path version = do
   node ← node_at nodes path
@@ -173,11 +174,11 @@ abbrev pub part_or_error : Result Sub ℤ → Sub
 part_or_error (Ok part) = part
 part_or_error (Err code) = subs.Error code
 
--- behind a refused part no part is looked at
+-- after a rejected part no further one is tested
 abbrev pub next_part : NodeMap → List Id → Bool → Part → Sub
 next_part nodes auths refused part = if refused then subs.Error runtime_inconsistency else part_or_error (part_on nodes auths part)
 
--- the header tells a created node's zxid, time and owner
+-- the header has a created node's zxid, time and owner
 abbrev pub parts_after : Txn → List Id → NodeMap → Bool → List Part → List Sub
 parts_after header auths nodes refused [] = []
 parts_after header auths nodes refused (part ∷ parts) =
@@ -188,7 +189,7 @@ parts_on header auths nodes parts = parts_after header auths nodes false parts
 
 -- ---- the transaction
 
--- a part as an operation of its own; no request is a check alone
+-- a part as an operation of its own; no request is only a check
 abbrev pub op_of : Sub → Op
 op_of (subs.Create path content acl ephemeral count) = ops.Create path content acl ephemeral count
 op_of (subs.Delete path) = ops.Delete path
@@ -208,7 +209,7 @@ op_on state header auths (Multi parts) = Ok (ops.Multi (parts_on header auths st
 op_on state header auths (OpenSession timeout) = Ok (ops.OpenSession (clamp timeout))
 op_on state header auths CloseSession = Ok ops.CloseSession
 
--- a session is opened without one, and then named by the zxid
+-- a session is opened without one, and has the zxid as its number
 abbrev pub opens : Request → Bool
 opens (Create path content acl flags) = false
 opens (Delete path version) = false
@@ -221,7 +222,7 @@ opens CloseSession = false
 abbrev pub is_open : State → ℤ → Bool
 is_open state session = contains_key state.sessions (cast_unsigned w64 session)
 
--- the header, under which it is not yet said what is done
+-- the header, with an operation still to be filled in
 abbrev pub header_of : Call → ℤ → Txn
 header_of call zxid = record { session = (if opens call.request then zxid else call.session); cxid = call.cxid; zxid = zxid; time = call.now; op = ops.CloseSession }
 
@@ -241,7 +242,7 @@ within_limit txn = if nat_lt 1048576 (size_of (record_of txn)) then record txn {
 abbrev pub meaning_of : State → Call → ℤ → Txn
 meaning_of state call zxid = within_limit (record (header_of call zxid) { op = op_or_error (asked_on state call zxid) })
 
--- ---- the call that closes a session whose deadline has come
+-- ---- the call that closes an expired session
 
 abbrev pub closing_call : ℕ → ℤ → ℤ → Call
 closing_call tag session now = record { tag = tag; session = session; cxid = pos 0; auths = []; now = now; request = CloseSession }

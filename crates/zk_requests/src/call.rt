@@ -7,19 +7,20 @@ use zk_acl::{Acls, Ids, Text};
 use zk_path::NoMemory;
 use zk_table::Content;
 
-/// What a client asks of the leader. A version of -1 matches any; flags are 0 plain, 1 ephemeral, 2 sequential, 3 both.
+/// A client's request to the leader. Version -1 matches any; flags are 0 plain, 1 ephemeral, 2
+/// sequential, 3 both.
 ///
 /// ZooKeeper Programmer's Guide, "ZNodes", "Ephemeral Nodes" and "Sequence Nodes".
 #[derive(Debug)]
 pub enum Request {
-    /// Makes a node. The path of a sequential one goes on with the number of its parent's creates.
+    /// Creates a node. A sequential one's path ends with the number of its parent's creates.
     Create {
         path: Text,
         content: Option<Content>,
         acl: Acls,
         flags: i32,
     },
-    /// Removes a node that has no children.
+    /// Deletes a node without children.
     Delete {
         path: Text,
         version: i32,
@@ -30,25 +31,24 @@ pub enum Request {
         content: Option<Content>,
         version: i32,
     },
-    /// Sets a node's access control list; the version is that of the list.
+    /// Sets a node's access control list; the version is that list's.
     SetAcl {
         path: Text,
         acl: Acls,
         version: i32,
     },
-    /// Several operations, each on the nodes after those before it; all are done or none.
+    /// Several operations, each on the nodes after those before it; all are applied or none.
     Multi {
         parts: Parts,
     },
-    /// Opens a session with a timeout in milliseconds. The session that asks is not looked at.
+    /// Opens a session with a timeout in milliseconds. The call's session is ignored.
     OpenSession {
         timeout: i32,
     },
-    /// Closes the session that asks.
+    /// Closes the call's session.
     CloseSession,
 }
 
-// (by hand, and so proved once: a derived one is proved wherever a value may be dropped)
 impl Drop for Request {
     fn drop(self) {
         match self {
@@ -79,7 +79,7 @@ impl Drop for Request {
     }
 }
 
-/// A part of a multi, as it is asked for. The fields are those of [`Request`].
+/// A part of a multi. The fields are those of [`Request`].
 #[derive(Debug)]
 pub enum Part {
     Create {
@@ -97,14 +97,13 @@ pub enum Part {
         content: Option<Content>,
         version: i32,
     },
-    /// Asks that a node has a version.
+    /// Tests a node's version.
     Check {
         path: Text,
         version: i32,
     },
 }
 
-// (by hand, and so proved once: a derived one is proved wherever a value may be dropped)
 impl Drop for Part {
     fn drop(self) {
         match self {
@@ -131,7 +130,7 @@ impl Drop for Part {
     }
 }
 
-/// The parts of a multi, seen as their list.
+/// The parts of a multi; contracts see a list.
 #[derive(Debug, Drop)]
 pub struct Parts {
     parts: Vec<Part>,
@@ -147,21 +146,19 @@ impl Model for Parts {
 }
 
 impl Parts {
-    /// These parts, without memory.
+    /// Wraps the parts; allocates nothing.
     pub fn new(parts: Vec<Part>) -> Parts
         ensures { result ≡ parts.items }
     {
         Parts { parts }
     }
 
-    /// The parts, lent.
     pub fn as_slice(&self) -> &[Part]
         ensures { result.now ≡ self.now }
     {
         self.parts.as_slice()
     }
 
-    /// The same parts once more.
     pub fn copy(&self) -> Result<Parts, NoMemory>
         ensures { IfOk result (λ copy. copy ≡ self.now) }
     {
@@ -173,23 +170,22 @@ impl Parts {
     }
 }
 
-/// A request, and who asks.
+/// A request, and its caller.
 #[derive(Debug)]
 pub struct Call {
-    /// By which the call is told from every other.
+    /// Identifies the call among all others.
     pub tag: u64,
-    /// The session that asks.
+    /// The caller's session.
     pub session: i64,
-    /// Which request of that session it is.
+    /// The number of the request within its session.
     pub cxid: i32,
     /// The identities that the caller has proved.
     pub auths: Ids,
-    /// Milliseconds.
+    /// The leader's time, in milliseconds.
     pub now: i64,
     pub request: Request,
 }
 
-// (by hand, and so proved once: a derived one is proved wherever a value may be dropped)
 impl Drop for Call {
     fn drop(self) {
         let Call {
@@ -203,7 +199,7 @@ impl Drop for Call {
     }
 }
 
-/// The call that closes a session whose deadline has come. It takes no memory.
+/// Returns the call that closes an expired session. Allocates nothing.
 pub fn closing_call(alloc: Global, tag: u64, session: i64, now: i64) -> Call
     ensures { result ≡ closing_call tag session now }
 {

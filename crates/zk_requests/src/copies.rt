@@ -1,4 +1,4 @@
-//! Calls once more, for those who hand them on.
+//! Copies of calls.
 
 ghost use Rattle.std.specs.Prelude.{◌≡◌, IfOk};
 ghost use Rattle.zk_requests.specs.declared.call.Part.TheVariants as asked;
@@ -10,7 +10,6 @@ use zk_path::NoMemory;
 use zk_table::Content;
 
 impl Part {
-    /// The same part once more.
     pub fn copy(&self) -> Result<Part, NoMemory>
         ensures { IfOk result (λ copy. copy ≡ self.now) }
     {
@@ -70,7 +69,6 @@ fn set_data_part(path: &Text, content: &Option<Content>, version: i32) -> Result
 }
 
 impl Request {
-    /// The same request once more.
     pub fn copy(&self) -> Result<Request, NoMemory>
         ensures { IfOk result (λ copy. copy ≡ self.now) }
     {
@@ -144,7 +142,6 @@ fn set_acl_request(path: &Text, acl: &Acls, version: i32) -> Result<Request, NoM
 }
 
 impl Call {
-    /// The same call once more.
     pub fn copy(&self) -> Result<Call, NoMemory>
         ensures { IfOk result (λ copy. copy ≡ self.exit.now) }
     {

@@ -1,4 +1,4 @@
-//! What makes a node.
+//! Creates.
 
 ghost use Rattle.std.specs.Prelude.{◌≡◌, IfOk};
 ghost use Rattle.std.specs.String.{string_bytes};
@@ -15,7 +15,7 @@ use zk_path::{NoMemory, Path, sequence};
 use zk_table::codes::{BAD_ARGUMENTS, NO_AUTH, NO_CHILDREN_FOR_EPHEMERALS, NO_NODE, NODE_EXISTS};
 use zk_table::{Content, Node, Sub};
 
-/// Whether a request may have these flags.
+/// Whether the flags are 0 to 3.
 fn are_flags(flags: i32) -> bool
     ensures { result ≡ are_flags flags }
 {
@@ -34,14 +34,15 @@ fn is_sequential(flags: i32) -> bool
     flags == 2 || flags == 3
 }
 
-/// Whether a node has no owner, so that others may stand below it.
+/// Whether a node has no owner, and may have children.
 fn is_persistent(node: &Node) -> bool
     ensures { result ≡ is_persistent node.now }
 {
     node.owner == 0
 }
 
-/// The text of the node's path: a sequential one goes on with the number of its parent's creates.
+/// Returns the text of the node's path: a sequential one ends with the number of its parent's
+/// creates.
 fn numbered(alloc: Global, text: &str, flags: i32, creates: i32) -> Result<String, NoMemory>
     ensures { IfOk result (λ path. string_bytes path ≡ numbered text.now flags creates) }
 {
@@ -53,7 +54,7 @@ fn numbered(alloc: Global, text: &str, flags: i32, creates: i32) -> Result<Strin
     Ok(path)
 }
 
-/// The path that the text of a request comes to, below this parent.
+/// Returns the path of the request's text, below this parent.
 fn numbered_path(alloc: Global, text: &str, flags: i32, creates: i32) -> Result<Path, Refusal>
     ensures { Gives result (path_in (numbered text.now flags creates)) }
 {
@@ -61,7 +62,7 @@ fn numbered_path(alloc: Global, text: &str, flags: i32, creates: i32) -> Result<
     path_in(alloc, path.as_str())
 }
 
-/// Where the node may stand, below this parent.
+/// Returns the path at which the node may be created, below this parent.
 fn place_below(
     nodes: &Overlay<'_>,
     auths: &[Id],
@@ -79,7 +80,7 @@ fn place_below(
     Ok(path)
 }
 
-/// What makes the node below this parent, with this access control list.
+/// Creates the node below this parent, with this access control list.
 fn create_below(
     nodes: &Overlay<'_>,
     auths: &[Id],
@@ -102,7 +103,7 @@ fn create_below(
     })
 }
 
-/// What makes a node.
+/// Prepares a create.
 pub(crate) fn create(
     nodes: &Overlay<'_>,
     auths: &[Id],

@@ -1,4 +1,4 @@
-//! What removes a node.
+//! Deletes.
 
 ghost use Rattle.std.specs.Prelude.{◌≡◌};
 ghost use Rattle.zk_requests.specs.Refusals.{Gives};
@@ -12,7 +12,7 @@ use zk_overlay::Overlay;
 use zk_table::Sub;
 use zk_table::codes::{BAD_ARGUMENTS, BAD_VERSION, NO_AUTH, NO_NODE, NOT_EMPTY};
 
-/// Refuses where the node may not go. The parent's access control list decides.
+/// Fails if the node may not be deleted. The parent's access control list decides.
 fn may_go(nodes: &Overlay<'_>, auths: &[Id], path: &str, version: i32) -> Result<(), Refusal>
     ensures { Gives result (may_go nodes.now auths.now path.now version) }
 {
@@ -27,7 +27,7 @@ fn may_go(nodes: &Overlay<'_>, auths: &[Id], path: &str, version: i32) -> Result
     demand(nodes.child_count(path) == 0, NOT_EMPTY)
 }
 
-/// What removes a node.
+/// Prepares a delete.
 pub(crate) fn delete(
     nodes: &Overlay<'_>,
     auths: &[Id],

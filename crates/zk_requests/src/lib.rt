@@ -1,7 +1,10 @@
-//! What a request is, on a state: a call becomes one transaction.
+//! Part of `zk_prepare`, split off for the prover's time alone.
 //!
-//! ZooKeeper Programmer's Guide, "ZNodes", "Sequence Nodes", "ZooKeeper access control using ACLs" and "ZooKeeper Sessions".
-//! `zk_prepare` makes one on the state that all that was taken before it leads to.
+//! The transaction that a client's call becomes, on a given state.
+//!
+//! ZooKeeper Programmer's Guide, "ZNodes", "Sequence Nodes", "ZooKeeper access control using ACLs"
+//! and "ZooKeeper Sessions". `zk_prepare` prepares calls on the state after all that was taken
+//! before.
 #![tactic(auto)]
 
 mod call;

@@ -1,4 +1,4 @@
-//! What a call comes to on a machine's state: one transaction.
+//! Turns a call into one transaction, on a machine's state.
 
 ghost use Rattle.std.specs.Prelude.{◌≡◌, ℤ, Result, false, IfOk};
 ghost use Rattle.zk_requests.specs.Refusals.{Gives};
@@ -23,10 +23,10 @@ use zk_records::size;
 use zk_table::codes::{BAD_ARGUMENTS, SESSION_EXPIRED};
 use zk_table::{Op, Sub, Subs, Txn};
 
-/// The bytes of the longest record that is prepared.
+/// The greatest number of bytes of a prepared record.
 const LONGEST_RECORD: u64 = 1_048_576;
 
-/// A part as an operation of its own; no request is a check alone.
+/// Turns a part into an operation of its own; no request is only a check.
 fn op_of(part: Sub) -> Op
     ensures { result ≡ op_of part }
 {
@@ -61,7 +61,7 @@ fn op_of(part: Sub) -> Op
     }
 }
 
-/// The nodes of a machine, with no change yet.
+/// The nodes of a machine, without changes.
 fn nodes_of(alloc: Global, machine: &Machine) -> Overlay<'_>
     requires { machine.now.failed ≡ false }
     ensures { result ≡ machine.now.state.nodes }
@@ -82,14 +82,14 @@ fn is_open(machine: &Machine, session: i64) -> bool
     timeout.is_some()
 }
 
-/// The operation that a part is which stands alone.
+/// Turns a part that is a whole request into its operation.
 fn alone(made: Result<Sub, Refusal>) -> Result<Op, Refusal>
     ensures { (said : Result Sub ℤ) → Gives made said → Gives result (alone said) }
 {
     Ok(op_of(made?))
 }
 
-/// The operation that the parts of a multi are, under this header.
+/// Prepares the parts of a multi under this header.
 fn multi_on(nodes: Overlay<'_>, header: &Txn, auths: &[Id], parts: &[Part]) -> Result<Op, NoMemory>
     ensures { IfOk result (λ op. op ≡ ops.Multi (parts_on header.now auths.now nodes.entry parts.now)) }
 {
@@ -99,7 +99,7 @@ fn multi_on(nodes: Overlay<'_>, header: &Txn, auths: &[Id], parts: &[Part]) -> R
     })
 }
 
-/// What a request comes to, under this header.
+/// Prepares a request under this header.
 fn op_on(
     alloc: Global,
     machine: &Machine,
@@ -135,14 +135,14 @@ fn op_on(
     }
 }
 
-/// Whether a request asks for a session, which is then named by the zxid.
+/// Whether a request opens a session, which then has the zxid as its number.
 fn opens(request: &Request) -> bool
     ensures { result ≡ opens request.now }
 {
     matches!(request, Request::OpenSession { .. })
 }
 
-/// The header of a call, under which it is not yet said what is done.
+/// The header of a call, with an operation still to be filled in.
 fn header_of(call: &Call, zxid: i64) -> Txn
     ensures { result ≡ header_of call.exit.now zxid }
 {
@@ -160,7 +160,7 @@ fn header_of(call: &Call, zxid: i64) -> Txn
     }
 }
 
-/// What a call comes to, under its header.
+/// Prepares a call under its header.
 fn asked_on(alloc: Global, machine: &Machine, call: &Call, header: &Txn) -> Result<Op, Refusal>
     requires { machine.now.failed ≡ false }
     ensures { (zxid : ℤ) → header.now ≡ header_of call.exit.now zxid → Gives result (asked_on machine.now.state call.exit.now zxid) }
@@ -172,7 +172,7 @@ fn asked_on(alloc: Global, machine: &Machine, call: &Call, header: &Txn) -> Resu
     op_on(alloc, machine, header, call.auths.as_slice(), &call.request)
 }
 
-/// An error in place of a transaction whose record is too long.
+/// Replaces a transaction whose record is too long by an error.
 fn within_limit(txn: Txn) -> Txn
     ensures { result ≡ within_limit txn }
 {
@@ -188,7 +188,7 @@ fn within_limit(txn: Txn) -> Txn
     }
 }
 
-/// What a call is on a machine's state, at a zxid.
+/// Returns the transaction of a call on a machine's state, at a zxid.
 pub fn meaning_of(alloc: Global, machine: &Machine, call: &Call, zxid: i64) -> Result<Txn, NoMemory>
     requires { machine.now.failed ≡ false }
     ensures { IfOk result (λ txn. txn ≡ meaning_of machine.now.state call.exit.now zxid) }

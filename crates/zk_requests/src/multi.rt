@@ -15,7 +15,7 @@ use zk_path::NoMemory;
 use zk_table::codes::RUNTIME_INCONSISTENCY;
 use zk_table::{Sub, Txn};
 
-/// What a part comes to.
+/// Prepares a part.
 fn part_on(nodes: &Overlay<'_>, auths: &[Id], part: &Part) -> Result<Sub, Refusal>
     ensures { Gives result (part_on nodes.now auths.now part.now) }
 {
@@ -36,7 +36,7 @@ fn part_on(nodes: &Overlay<'_>, auths: &[Id], part: &Part) -> Result<Sub, Refusa
     }
 }
 
-/// What a part comes to, or the error in its place. Behind a refused part no part is looked at.
+/// Prepares a part, or puts an error in its place. After a rejected part no further one is tested.
 fn next_part(nodes: &Overlay<'_>, auths: &[Id], refused: bool, part: &Part) -> Result<Sub, NoMemory>
     ensures { IfOk result (λ made. made ≡ next_part nodes.now auths.now refused part.now) }
 {
@@ -52,7 +52,7 @@ fn next_part(nodes: &Overlay<'_>, auths: &[Id], refused: bool, part: &Part) -> R
     }
 }
 
-/// What the parts of a multi with this header come to, in order.
+/// Prepares the parts of a multi with this header, in order.
 pub(crate) fn parts_on(
     nodes: Overlay<'_>,
     header: &Txn,

@@ -1,16 +1,16 @@
-//! The first refusal of a request is its answer.
+//! The first error of a request is its answer.
 
 ghost use Rattle.std.specs.Prelude.{◌≡◌};
 ghost use Rattle.zk_requests.specs.declared.refusal.Refusal.TheVariants as refusals;
 
 use zk_path::NoMemory;
 
-/// Why a request is not prepared as it was asked for.
+/// Why a request is not prepared as asked.
 #[derive(Clone, Copy, Debug)]
 pub(crate) enum Refusal {
-    /// A code of the protocol, which the transaction then carries.
+    /// A code of the protocol, which the transaction carries.
     Code(i32),
-    /// Memory was refused, and no transaction is made.
+    /// An allocation failed; there is no transaction.
     NoMemory,
 }
 

@@ -1,4 +1,4 @@
-//! Texts that are not paths yet, and what is read of them.
+//! Texts of requests that need not be paths.
 
 ghost use Rattle.std.specs.Prelude.{◌≡◌, IfOk};
 ghost use Rattle.zk_acl.specs.Access.{fix};
@@ -12,7 +12,7 @@ use zk_acl::{AclFault, Acls, Id, fix};
 use zk_path::{NoMemory, Path, PathFault};
 use zk_table::codes::{BAD_ARGUMENTS, INVALID_ACL};
 
-/// Refuses with a code, unless the test holds.
+/// Fails with a code unless the test holds.
 pub(crate) fn demand(holds: bool, code: i32) -> Result<(), Refusal>
     ensures { Gives result (demand holds code) }
 {
@@ -23,7 +23,7 @@ pub(crate) fn demand(holds: bool, code: i32) -> Result<(), Refusal>
     }
 }
 
-/// The path of a text that is one.
+/// Reads a text as a path.
 pub(crate) fn path_in(alloc: Global, text: &str) -> Result<Path, Refusal>
     ensures { Gives result (path_in text.now) }
 {
@@ -34,7 +34,7 @@ pub(crate) fn path_in(alloc: Global, text: &str) -> Result<Path, Refusal>
     }
 }
 
-/// The access control list that is kept of one that is asked for.
+/// Returns the access control list that is stored for the one in a request.
 pub(crate) fn kept_acl(acl: &Acls, auths: &[Id]) -> Result<Acls, Refusal>
     ensures { Gives result (or_refused invalid_acl (fix acl.now auths.now)) }
 {
@@ -45,7 +45,7 @@ pub(crate) fn kept_acl(acl: &Acls, auths: &[Id]) -> Result<Acls, Refusal>
     }
 }
 
-/// What stands before the last slash of a text, and the root where nothing does.
+/// Returns the text before the last slash; `/` if it is empty.
 pub(crate) fn text_above(text: &str) -> &str
     ensures { result.now ≡ text_above text.now }
 {
@@ -55,7 +55,7 @@ pub(crate) fn text_above(text: &str) -> &str
     if above.is_empty() { "/" } else { above }
 }
 
-/// Whether a parent can be looked for in a text: it has a slash, and no NUL.
+/// Whether the text can have a parent: it has a slash, and no NUL.
 pub(crate) fn is_legible(text: &str) -> bool
     ensures { result ≡ is_legible text.now }
 {
@@ -63,7 +63,7 @@ pub(crate) fn is_legible(text: &str) -> bool
     bytes.contains(&b'/') && !bytes.contains(&b'\0')
 }
 
-/// Whether a path is that of a node which stood there before any transaction.
+/// Whether the path is that of a node that exists before any transaction.
 pub(crate) fn is_first_path(path: &str) -> bool
     ensures { result ≡ is_first_path path.now }
 {

@@ -1,13 +1,13 @@
 ghost use Rattle.std.specs.Prelude.{◌≡◌};
 ghost use Rattle.zk_requests.specs.Timeouts.{clamp};
 
-/// The least timeout that a session gets, in milliseconds: two ticks of 2,000.
+/// The least timeout of a session, in milliseconds: 2 ticks of 2,000.
 const LEAST_TIMEOUT: i32 = 4000;
 
-/// The greatest one: twenty ticks.
+/// The greatest one: 20 ticks.
 const GREATEST_TIMEOUT: i32 = 40000;
 
-/// The timeout that a session gets that asks for this one, in milliseconds.
+/// Returns the timeout that a session gets if it asks for this one; both in milliseconds.
 ///
 /// ZooKeeper Programmer's Guide, "ZooKeeper Sessions".
 pub fn clamp(timeout: i32) -> i32

@@ -1,4 +1,4 @@
-//! Requests on a node that is there, by the version that the caller knows.
+//! Requests on an existing node, by the version that the caller expects.
 
 ghost use Rattle.std.specs.Prelude.{◌≡◌};
 ghost use Rattle.zk_requests.specs.Refusals.{Gives};
@@ -11,21 +11,21 @@ use zk_overlay::Overlay;
 use zk_table::codes::{BAD_VERSION, NO_AUTH, NO_NODE};
 use zk_table::{Content, Op, Sub};
 
-/// Whether a version is the one that is wanted; -1 wants any.
+/// Whether a version is the expected one; -1 matches any.
 pub(crate) fn matches(wanted: i32, version: i32) -> bool
     ensures { result ≡ matches wanted version }
 {
     wanted == -1 || wanted == version
 }
 
-/// One more, in 32 bits that wrap.
+/// Adds one, wrapping in 32 bits.
 pub(crate) fn one_more(number: i32) -> i32
     ensures { result ≡ one_more number }
 {
     number.wrapping_add(1)
 }
 
-/// The version that follows that of the node at a path, for a caller who may use the node so and knows its version.
+/// Returns the next version of a node, if the caller has the permission and knows its version.
 fn next_version(
     nodes: &Overlay<'_>,
     auths: &[Id],
@@ -43,7 +43,7 @@ fn next_version(
     Ok(one_more(node.version))
 }
 
-/// The same of the access control list.
+/// Returns the next version of its access control list.
 fn next_aversion(
     nodes: &Overlay<'_>,
     auths: &[Id],
@@ -60,7 +60,7 @@ fn next_aversion(
     Ok(one_more(node.aversion))
 }
 
-/// What sets a node's content.
+/// Prepares a setData.
 pub(crate) fn set_data(
     nodes: &Overlay<'_>,
     auths: &[Id],
@@ -80,7 +80,7 @@ pub(crate) fn set_data(
     })
 }
 
-/// What tests a node's version.
+/// Prepares a check.
 pub(crate) fn check(
     nodes: &Overlay<'_>,
     auths: &[Id],
@@ -94,7 +94,7 @@ pub(crate) fn check(
     Ok(Sub::Check { path, version })
 }
 
-/// What sets a node's access control list.
+/// Prepares a setACL.
 pub(crate) fn set_acl(
     nodes: &Overlay<'_>,
     auths: &[Id],

@@ -1,26 +1,26 @@
--- A line of a run script is read just where it is spelled so.
+-- A line of a run script is read exactly if it has this form.
 use Rattle.std.proofs.Common.{◌≡◌, ℕ, ℤ, ◌^◌, ◌<◌, Bool, true, false, cond, List, [], ◌∷◌, ◌++◌, Some, None, Result, Ok, Err, refl, sym, ap, ◌∙◌, append_assoc}
 use Rattle.std.specs.Prelude.{FitsSigned, codes}
 use Rattle.std.specs.Fmt.{decimal, signed_decimal}
 use Rattle.std.specs.Int.{w32, w64}
 use Rattle.std.specs.List.{AllByRecursion}
-use Rattle.zab_runs.specs.declared.event.Event.TheVariants.{Lead, Follow, Arrive, Submit, Expire, Sync, Crash, Restart}
+use Rattle.zab_model.specs.declared.event.Event.TheVariants.{Lead, Follow, Arrive, Submit, Expire, Sync, Crash, Restart}
 use Rattle.zk_acl.specs.declared.acl.Id.{Id}
 use Rattle.zk_listing.specs.declared.fault.ListCause.{ListCause}
 use Rattle.zk_listing.specs.declared.fault.ListCause.TheVariants as causes
 use Rattle.zk_listing.specs.Reading.{front_of, back_of, spaced, both, Takes}
 use Rattle.zk_requests.specs.declared.call.Call.{Call}
-use Rattle.zk_spelling.specs.Spelling.{id_digits}
-use Rattle.zk_request_lines.specs.declared.lookups.Lookup.{Lookup}
-use Rattle.zk_request_lines.specs.declared.lookups.Lookup.TheVariants as lookups
-use Rattle.zk_request_lines.specs.Reading.{id_field_at, int_field_at, long_field_at, number_at, ids_at, request_at, lookup_at}
-use Rattle.zk_request_lines.specs.RequestLines.{SpellsIds, SpellsRequest, SpellsLookup}
-use Rattle.zk_request_lines.proofs.FieldLaws.{id_field_exact, int_field_exact, long_field_exact, reads_ids}
-use Rattle.zk_request_lines.proofs.LookupTexts.{whole_lookup}
-use Rattle.zk_request_lines.proofs.NumberLaws.{number_exact}
-use Rattle.zk_request_lines.proofs.Readings.{Reads, Next, NextThen, reads_exact, reads_last, TakesBehind, by_word_takes, ReadsWhole, whole_of}
-use Rattle.zk_request_lines.proofs.RequestTexts.{whole_request}
-use Rattle.zk_runs.specs.declared.event.Event.TheVariants as events
+use Rattle.zk_format.specs.Spelling.{id_digits}
+use Rattle.zk_request_syntax.specs.declared.lookups.Lookup.{Lookup}
+use Rattle.zk_request_syntax.specs.declared.lookups.Lookup.TheVariants as lookups
+use Rattle.zk_request_syntax.specs.Reading.{id_field_at, int_field_at, long_field_at, number_at, ids_at, request_at, lookup_at}
+use Rattle.zk_request_syntax.specs.RequestLines.{SpellsIds, SpellsRequest, SpellsLookup}
+use Rattle.zk_request_syntax.proofs.FieldLaws.{id_field_exact, int_field_exact, long_field_exact, reads_ids}
+use Rattle.zk_request_syntax.proofs.LookupTexts.{whole_lookup}
+use Rattle.zk_request_syntax.proofs.NumberLaws.{number_exact}
+use Rattle.zk_request_syntax.proofs.Readings.{Reads, Next, NextThen, reads_exact, reads_last, TakesBehind, by_word_takes, ReadsWhole, whole_of}
+use Rattle.zk_request_syntax.proofs.RequestTexts.{whole_request}
+use Rattle.zk_model.specs.declared.event.Event.TheVariants as events
 use Rattle.zk_run_script.specs.declared.command.Command.{Command}
 use Rattle.zk_run_script.specs.declared.command.Command.TheVariants as commands
 use Rattle.zk_run_script.specs.declared.command.Report.{Report}

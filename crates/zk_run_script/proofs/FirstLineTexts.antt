@@ -1,4 +1,4 @@
--- A first line is read just where it is spelled so.
+-- A first line is read exactly if it has this form.
 use Rattle.std.proofs.Common.{◌≡◌, ◌≢◌, ◌&&◌, ◌==◌, inl, inr, ℕ, zero, suc, ◌^◌, ◌<◌, ◌≤◌, nat_le, Bool, true, false, List, [], ◌∷◌, ◌++◌, length, replicate, Option, Some, None, Result, Ok, Err, refl, sym, ap, subst, ◌∙◌, append_assoc, arith}
 use Rattle.std.proofs.lemmas.List.{append-nil, length-replicate}
 use Rattle.std.proofs.lemmas.Bool.Decides.{nat_tests}
@@ -12,8 +12,8 @@ use Rattle.zk_listing.specs.Reading.{IsEnd, front_of, back_of, spaced, Fails}
 use Rattle.zk_listing.specs.declared.fault.ListCause.{ListCause}
 use Rattle.zk_listing.specs.declared.fault.ListCause.TheVariants as causes
 use Rattle.zk_listing.proofs.Exact.{bind_some, first_is, second_is}
-use Rattle.zk_request_lines.specs.Reading.{number_at}
-use Rattle.zk_request_lines.proofs.Readings.{TakesBehind, by_word_takes, ReadsWhole, nothing_left}
+use Rattle.zk_request_syntax.specs.Reading.{number_at}
+use Rattle.zk_request_syntax.proofs.Readings.{TakesBehind, by_word_takes, ReadsWhole, nothing_left}
 use Rattle.zk_run_script.specs.FirstLines.{field, SpellsWeights, SaysServers, ReadsServers}
 use Rattle.zk_run_script.specs.FirstLineReading.{servers_at, weights_of, counted_weights, first_at, are_right, are_right_alone}
 use Rattle.zk_run_script.proofs.Weights.{Fit, spaced_number, if_some, listed_takes, listed_again}
@@ -40,9 +40,9 @@ servers_again : (n : ℕ) (rest : List ℕ) → n < 2 ^ 64 → IsEnd rest → se
 unfolding servers_at front_of back_of
 servers_again n rest fits end = spaced_number.again n rest fits end
 
--- ---- what stands behind it
+-- ---- what comes after it
 
--- these weights, of at most 15 servers, are spelled so
+-- the line has these weights, of at most 15 servers
 record IsFirst (weights text : List ℕ) : Type 0 where
   pub most : length weights ≤ 15
   pub each : Fit weights

@@ -2,17 +2,17 @@
 use Rattle.std.proofs.Common.{◌≡◌, ℕ, List, [], Option, Some, None, refl}
 use Rattle.std.specs.Option.{option_map}
 use Rattle.zab_epoch.specs.Entries.{txns_of}
-use Rattle.zab_runs.specs.Runs.{kept, stable_of, history_list, history_of}
-use Rattle.zab_runs.specs.Standings.{Standing}
-use Rattle.zab_runs.specs.Worlds.{World, server_at}
+use Rattle.zab_model.specs.Runs.{kept, stable_of, history_list, history_of}
+use Rattle.zab_model.specs.ProcessStates.{ProcessState}
+use Rattle.zab_model.specs.Worlds.{World, server_at}
 use Rattle.zk_requests.specs.declared.call.Call.{Call}
 use Rattle.zk_txn.specs.declared.txn.Txn.{Txn}
 
-told_by : (o : Option Standing) (txns : List Txn) → Some txns ≡ option_map (λ stable. txns_of stable.history) (kept o) → txns ≡ txns_of (history_list o)
+told_by : (o : Option ProcessState) (txns : List Txn) → Some txns ≡ option_map (λ stable. txns_of stable.history) (kept o) → txns ≡ txns_of (history_list o)
 told_by None txns is = absurd cc
 told_by (Some it) txns is = cc
 
-none_by : (o : Option Standing) → (let none : Option (List Txn) = None in none ≡ option_map (λ stable. txns_of stable.history) (kept o)) → txns_of (history_list o) ≡ []
+none_by : (o : Option ProcessState) → (let none : Option (List Txn) = None in none ≡ option_map (λ stable. txns_of stable.history) (kept o)) → txns_of (history_list o) ≡ []
 none_by None is = refl
 none_by (Some it) is = absurd cc
 

@@ -1,4 +1,4 @@
--- A script whose first lines are answered.
+-- A script of which a prefix of lines is executed.
 use Rattle.std.proofs.Common.{◌≡◌, ℕ, ◌+◌, ◌≤◌, ◌<◌, List, [], ◌∷◌, ◌++◌, length, Result, Ok, Err, refl, sym, ap, subst, ◌∙◌, inl, inr, append_assoc, length-append, arith}
 use Rattle.std.proofs.lemmas.List.{append-nil}
 use Rattle.zk_ensemble.specs.Views.{EnsembleView}
@@ -109,7 +109,7 @@ no_line_left servers old text before left number after new h end = record {
   ends = refl;
 }
 
--- a cause that is not want of memory
+-- a cause that is no failed allocation
 pub says_nothing : (servers : ℕ) (line : List ℕ) (cause : ListCause) → (cause ≡ causes.NoMemory → ⊥) → ReadsCommand servers line (Err cause) → SaysNothing servers line
 says_nothing servers line causes.NoMemory other read = absurd (other refl)
 says_nothing servers line causes.Fields other read = read

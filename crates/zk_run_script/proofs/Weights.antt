@@ -1,4 +1,4 @@
--- So many weights, each behind a space, are read just where they are spelled so.
+-- Weights, each after a space, are read exactly if the text has this form.
 use Rattle.std.proofs.Common.{◌≡◌, ℕ, ◌^◌, ◌<◌, nat_lt, Bool, true, false, List, [], ◌∷◌, ◌++◌, length, Option, Some, None, refl, sym, ap, subst, ◌∙◌, arith}
 use Rattle.std.proofs.lemmas.List.{append-nil}
 use Rattle.std.proofs.lemmas.Bool.Decides.{nat_tests}
@@ -7,10 +7,10 @@ use Rattle.std.specs.Fmt.{decimal}
 use Rattle.std.specs.List.{AllByRecursion, flat_map}
 use Rattle.zk_listing.specs.Reading.{IsEnd, front_of, back_of, past, spaced, many_at}
 use Rattle.zk_listing.proofs.Exact.{IsExact, bind_some, first_is, second_is, past_is, exact_spaced}
-use Rattle.zk_request_lines.specs.Reading.{by_word, number_at}
-use Rattle.zk_request_lines.proofs.FieldLaws.{many_takes, many_again}
-use Rattle.zk_request_lines.proofs.NumberLaws.{number_exact}
-use Rattle.zk_request_lines.proofs.Readings.{TakesBehind, by_word_takes}
+use Rattle.zk_request_syntax.specs.Reading.{by_word, number_at}
+use Rattle.zk_request_syntax.proofs.FieldLaws.{many_takes, many_again}
+use Rattle.zk_request_syntax.proofs.NumberLaws.{number_exact}
+use Rattle.zk_request_syntax.proofs.Readings.{TakesBehind, by_word_takes}
 use Rattle.zk_run_script.specs.FirstLines.{field}
 use Rattle.zk_run_script.specs.FirstLineReading.{if_weight, weight_at, listed_at}
 
@@ -48,7 +48,7 @@ weight_again w rest small end =
 weight_exact : IsExact field IsWeight weight_at
 weight_exact = record { takes = weight_takes; again = weight_again }
 
--- ---- all of them, behind their word
+-- ---- all of them, after their word
 
 abbrev pub Fit : List ℕ → Type 0
 Fit weights = AllByRecursion IsWeight weights

@@ -6,7 +6,7 @@ use Rattle.zk_listing.specs.declared.fault.ListCause.{ListCause}
 use Rattle.zk_listing.specs.declared.fault.ListCause.TheVariants as causes
 use Rattle.zk_listing.specs.Reading.{IsEnd, past, spaced, both, mapped, Takes}
 use Rattle.zk_listing.proofs.Exact.{bind_some, first_is, second_is, past_is}
-use Rattle.zk_request_lines.proofs.Readings.{Reads, Next, NextThen, TakesBehind, ReadsWhole, reads_last, nothing_left}
+use Rattle.zk_request_syntax.proofs.Readings.{Reads, Next, NextThen, TakesBehind, ReadsWhole, reads_last, nothing_left}
 
 pub whole_last : {X : Type 0} (Spells : X → List ℕ → Type 0) (at : List ℕ → Option (X × List ℕ)) → ReadsWhole Spells at → ReadsWhole (Next Spells) (spaced at)
 whole_last {X} Spells at f = record {
@@ -34,7 +34,7 @@ whole_next {X} {Y} Spells at Follows other f g ends = record {
       rw (s.spelled, f.again x.0 s.field s.others s.spells (ends x.1 s.others s.follows), g.again x.1 s.others s.follows) refl;
 }
 
--- a field, and what follows it, each spelled as it is known
+-- a field, and what follows it, each of known form
 pub next_is : (text field others field' others' : List ℕ) → text ≡ 32 ∷ (field ++ others) → field ≡ field' → others ≡ others' → text ≡ 32 ∷ (field' ++ others')
 next_is text field others field' others' e one two = e ∙ ap (λ (f : List ℕ). 32 ∷ (f ++ others)) one ∙ ap (λ (o : List ℕ). 32 ∷ (field' ++ o)) two
 

@@ -1,4 +1,4 @@
--- What a run script is answered. This project's own.
+-- The answers to a run script. This project's own.
 use Rattle.std.specs.Prelude.{◌≡◌, ◌+◌, ◌⊎◌, ℕ, List, [], ◌∷◌, ◌++◌, length, Result, Ok, Err, codes}
 use Rattle.zk_ensemble.specs.Views.{EnsembleView}
 use Rattle.zk_run_script.specs.FirstLines.{SaysServers}
@@ -9,7 +9,7 @@ use Rattle.zk_reports.specs.declared.fault.ScriptFault.{ScriptFault}
 use Rattle.zk_reports.specs.declared.fault.ScriptFault.TheVariants as faults
 use Rattle.zk_run_script.specs.Playing.{started, Answers}
 
--- each line says its command
+-- each line has its command
 abbrev pub SayAll : ℕ → List (List ℕ) → List Command → Type 0
 SayAll servers [] [] = Unit {0}
 SayAll servers (line ∷ lines) (command ∷ commands) = Says servers line command × SayAll servers lines commands
@@ -21,8 +21,9 @@ AnswersAll old [] answers new = (answers ≡ []) × (new ≡ old)
 AnswersAll old (command ∷ commands) answers new =
     (between : EnsembleView) × (answer : List ℕ) × (others : List ℕ) × Answers old command answer between × AnswersAll between commands others new × (answers ≡ answer ++ others)
 
--- Why a script ends behind its first line and so many commands, with these lines left: none is left, or the first says no
--- command. Where memory was refused, the command of the first may be done already, and is not answered.
+-- Why a script ends after its first line and `n` commands, with these lines left: none is left, or
+-- the first of them is no command. If an allocation failed, the command of the first may be
+-- executed already, without its answer.
 abbrev pub EndsScript : ℕ → ℕ → List (List ℕ) → EnsembleView → Result (Unit {0}) ScriptFault → EnsembleView → Type 0
 EndsScript servers done [] between (Ok x) new = new ≡ between
 EndsScript servers done (line ∷ lines) between (Err (faults.Malformed number)) new = (number ≡ done + 2) × SaysNothing servers line × (new ≡ between)
@@ -30,7 +31,7 @@ EndsScript servers done (line ∷ lines) between (Err faults.NoMemory) new =
     (new ≡ between) ⊎ ((command : Command) × (answer : List ℕ) × Says servers line command × Answers between command answer new)
 EndsScript servers done left between result new = ⊥
 
--- commands are answered up to the end of the text, or to its first line that says none
+-- commands are executed up to the end of the text, or to its first line that is no command
 pub record Plays (servers : ℕ) (old : EnsembleView) (text before : List ℕ) (result : Result (Unit {0}) ScriptFault) (after : List ℕ) (new : EnsembleView) : Type 0 where
   pub said : List (List ℕ)
   pub left : List (List ℕ)
@@ -43,16 +44,16 @@ pub record Plays (servers : ℕ) (old : EnsembleView) (text before : List ℕ) (
   pub told : after ≡ before ++ answers
   pub ends : EndsScript servers (length commands) left between result new
 
--- servers of these weights start, and what follows is played by them
+-- servers of these weights start, and execute what follows
 pub record Begins (weights text before : List ℕ) (result : Result (Unit {0}) ScriptFault) (after : List ℕ) : Type 0 where
   pub new : EnsembleView
   pub plays : Plays (length weights) (started weights) text (before ++ codes "ok\n") result after new
 
--- or memory for them is refused
+-- or their allocation fails
 abbrev pub BeginsOrNot : List ℕ → List ℕ → List ℕ → Result (Unit {0}) ScriptFault → List ℕ → Type 0
 BeginsOrNot weights text before result after = Begins weights text before result after ⊎ ((result ≡ Err faults.NoMemory) × (after ≡ before))
 
--- no line that tells the number of servers, and their weights, stands first
+-- the first line has no number and weights of servers
 abbrev pub BeginsWithNone : List (List ℕ) → Type 0
 BeginsWithNone [] = Unit {0}
 BeginsWithNone (first ∷ lines) = (weights : List ℕ) → SaysServers first weights → ⊥
@@ -66,7 +67,7 @@ pub record BeginsWell (script before : List ℕ) (result : Result (Unit {0}) Scr
   pub counted : SaysServers first weights
   pub begins : BeginsOrNot weights text before result after
 
--- what a script is answered: a refusal of its first line changes nothing
+-- the answers to a script: a rejected first line changes nothing
 abbrev pub RunsScript : List ℕ → List ℕ → Result (Unit {0}) ScriptFault → List ℕ → Type 0
 RunsScript script before result after =
     BeginsWell script before result after ⊎ (BeginsWithNone (lines_of script) × (result ≡ Err (faults.Malformed 1)) × (after ≡ before))

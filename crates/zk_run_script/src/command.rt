@@ -1,29 +1,31 @@
-use zk_runs::Event;
+use zk_model::Event;
 
-/// What a line of a run script says. Servers and messages are numbered from 1.
+/// The command of a line of a run script. Servers and messages are numbered from 1.
 #[derive(Debug, Drop)]
 pub enum Command {
-    /// An event happens: `lead P`, `follow P Q`, `arrive K`, `crash P`, `restart P`, `submit P TAG SESSION CXID NOW AUTHS
-    /// REQUEST`, `expire P TAG SESSION NOW`, `sync P TAG` or `read P SESSION SEEN AUTHS READ`.
+    /// Executes an event: `lead P`, `follow P Q`, `arrive K`, `crash P`, `restart P`, `submit P TAG
+    /// SESSION CXID NOW AUTHS REQUEST`, `expire P TAG SESSION NOW`, `sync P TAG` or `read P SESSION
+    /// SEEN AUTHS READ`.
     Happens(Event),
     /// A read at a text that is no path: nothing happens.
     ReadsNoPath,
-    /// A report on a server: `delivered P`, `history P`, `answers P`, `syncs P`, `events P` or `tree P`.
+    /// Reports on a server: `delivered P`, `history P`, `answers P`, `syncs P`, `events P` or `tree
+    /// P`.
     Reports { report: Report, server: usize },
 }
 
-/// What is told of a server.
+/// The kind of a report on a server.
 #[derive(Clone, Copy, Debug, PartialEq, Eq)]
 pub enum Report {
     /// The entries that it has delivered, as a listing.
     Delivered,
     /// The entries of its history, delivered or not, as a listing.
     History,
-    /// What each delivered entry was answered.
+    /// The result of each delivered entry.
     Answers,
-    /// The syncs that it has answered since it started, and the length of each.
+    /// The syncs completed since it started, and the length of each.
     Syncs,
-    /// What sessions were told there by their watches.
+    /// The events that its sessions' watches have fired.
     Events,
     /// Its tree.
     Tree,

@@ -1,25 +1,26 @@
-//! The reader of a line that says a command.
+//! Reads a line with a command.
 ghost use Rattle.std.specs.Prelude.{◌≡◌, ◌≢◌, IfErr};
 ghost use Rattle.zk_listing.specs.Reading.{Takes, spaced, mapped};
-ghost use Rattle.zk_request_lines.specs.Reading.{number_at};
+ghost use Rattle.zk_request_syntax.specs.Reading.{number_at};
 ghost use Rattle.zk_run_script.specs.Commands.{ReadsCommand};
 ghost use Rattle.zk_run_script.specs.CommandReading.{two_at, submit_at, expire_at, read_at, submitted, expired, read_by, reported_at, command_at, is_among, among_result};
 ghost use Rattle.zk_run_script.specs.declared.command.Command.TheVariants as commands;
-ghost use Rattle.zk_runs.specs.declared.event.Event.TheVariants as events;
-ghost use Rattle.zab_runs.specs.declared.event.Event.TheVariants.{Follow as WorldFollow, Sync as WorldSync};
+ghost use Rattle.zk_model.specs.declared.event.Event.TheVariants as events;
+ghost use Rattle.zab_model.specs.declared.event.Event.TheVariants.{Follow as WorldFollow, Sync as WorldSync};
 
 use crate::command::{Command, Report};
 use std::alloc::Global;
-use zab_runs::Event as WorldEvent;
+use zab_model::Event as WorldEvent;
 use zk_listing::ListCause;
-use zk_request_lines::{
+use zk_model::{Event, Question};
+use zk_request_syntax::{
     Lookup, spaced_id, spaced_ids, spaced_int, spaced_long, spaced_lookup, spaced_number,
     spaced_request, take_word,
 };
 use zk_requests::Call;
-use zk_runs::{Event, Question};
 
-/// The command that a line says among so many servers, without its newline. A report on another server is none.
+/// Reads the command of a line, without its newline, among `servers` servers. A report on another
+/// server is an error.
 pub fn read_command(alloc: Global, servers: usize, line: &str) -> Result<Command, ListCause>
     ensures { ReadsCommand servers line.now result }
 {
@@ -28,7 +29,7 @@ pub fn read_command(alloc: Global, servers: usize, line: &str) -> Result<Command
     among(servers, read, rest)
 }
 
-/// What was read, if nothing is left behind it and it asks of a server that there is.
+/// Checks that nothing is left of the line, and that the server of a report exists.
 fn among(servers: usize, read: Result<Command, ListCause>, left: &str) -> Result<Command, ListCause>
     ensures { result ≡ among_result servers left.now read }
 {
@@ -39,7 +40,7 @@ fn among(servers: usize, read: Result<Command, ListCause>, left: &str) -> Result
     Err(ListCause::Fields)
 }
 
-/// Whether a report is asked of a server that there is.
+/// Whether the server of a report exists.
 fn is_among(servers: usize, command: &Command) -> bool
     ensures { result ≡ is_among servers command.now }
 {
@@ -81,7 +82,7 @@ fn command(alloc: Global, input: &mut &str) -> Result<Command, ListCause>
     }
 }
 
-/// What happens in the world of servers.
+/// An event of the world of servers.
 fn happens(event: WorldEvent<Call>) -> Command
     ensures { result ≡ commands.Happens (events.World event) }
 {
@@ -170,7 +171,7 @@ fn report(report: Report, input: &mut &str) -> Result<Command, ListCause>
     Ok(Command::Reports { report, server })
 }
 
-/// The number of a server or a message, behind a space.
+/// Reads the number of a server or a message, after a space.
 fn place(input: &mut &str) -> Result<usize, ListCause>
     ensures taken { Takes result input.new.now (spaced number_at input.old.now) }
     ensures memory { IfErr result (λ cause. cause ≢ ListCause.NoMemory) }

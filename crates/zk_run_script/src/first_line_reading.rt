@@ -1,4 +1,4 @@
-//! The reader of the first line.
+//! Reads the first line.
 ghost use Rattle.std.specs.Prelude.{◌≡◌, ◌≢◌, ◌≤◌, true, false, IfOk, IfErr, Err};
 ghost use Rattle.zk_listing.specs.Reading.{Takes, many_at};
 ghost use Rattle.zk_run_script.specs.FirstLines.{ReadsServers};
@@ -8,10 +8,10 @@ use crate::server_weights::{MOST_SERVERS, ServerWeights};
 use std::alloc::Global;
 use zab_quorums::{WeightFault, Weighted};
 use zk_listing::ListCause;
-use zk_request_lines::{spaced_number, take_space, take_word};
+use zk_request_syntax::{spaced_number, take_space, take_word};
 
-/// The weights of the servers that a script's first line says: `servers N`, where each weighs 1, or
-/// `servers N weights WEIGHT ..`. Only the weights themselves take memory, once the whole line is read.
+/// Reads the weights in a script's first line: `servers N`, where each weighs 1, or `servers N
+/// weights WEIGHT ..`. Only the weights themselves are allocated, once the whole line is read.
 pub fn read_servers(alloc: Global, line: &str) -> Result<Weighted, ListCause>
     ensures { ReadsServers line.now result }
 {
@@ -20,7 +20,8 @@ pub fn read_servers(alloc: Global, line: &str) -> Result<Weighted, ListCause>
     weighted(alloc, &weights, rest)
 }
 
-/// The quorums by the weights that were read, if nothing is left behind them and they are taken.
+/// Builds the quorums from the weights, if nothing is left of the line and the weights are
+/// accepted.
 fn weighted(alloc: Global, weights: &ServerWeights, left: &str) -> Result<Weighted, ListCause>
     ensures found { IfOk result (λ it. (it ≡ weights.now) × (are_right_alone left.now weights.now ≡ true)) }
     ensures refused { IfErr result (λ cause. cause ≢ ListCause.NoMemory → are_right_alone left.now weights.now ≡ false) }
@@ -59,7 +60,7 @@ fn servers(input: &mut &str) -> Result<usize, ListCause>
     }
 }
 
-/// What stands behind the number of servers: nothing, where each weighs 1, or their weights.
+/// Reads what comes after the number of servers: nothing, where each weighs 1, or their weights.
 fn weights(count: usize, input: &mut &str) -> Result<ServerWeights, ListCause>
     requires { count ≤ 15 }
     ensures taken { Takes result input.new.now (weights_of count input.old.now) }
@@ -71,7 +72,7 @@ fn weights(count: usize, input: &mut &str) -> Result<ServerWeights, ListCause>
     listed(count, input)
 }
 
-/// The word for weights behind a space, and so many weights.
+/// Reads the word for weights after a space, and `count` weights.
 #[tactic(auto, unfolding(crate::specs::FirstLineReading::listed_at))]
 fn listed(count: usize, input: &mut &str) -> Result<ServerWeights, ListCause>
     requires { count ≤ 15 }
@@ -85,7 +86,7 @@ fn listed(count: usize, input: &mut &str) -> Result<ServerWeights, ListCause>
     }
 }
 
-/// So many weights, each behind a space.
+/// Reads `count` weights, each after a space.
 fn each(count: usize, input: &mut &str) -> Result<ServerWeights, ListCause>
     requires { count ≤ 15 }
     ensures taken { Takes result input.new.now (many_at weight_at count input.old.now) }
@@ -98,7 +99,7 @@ fn each(count: usize, input: &mut &str) -> Result<ServerWeights, ListCause>
     Ok(weights)
 }
 
-/// A weight behind a space.
+/// Reads a weight after a space.
 #[tactic(auto, unfolding(crate::specs::FirstLineReading::weight_at))]
 fn weight(input: &mut &str) -> Result<u32, ListCause>
     ensures taken { Takes result input.new.now (weight_at input.old.now) }

@@ -1,7 +1,9 @@
-//! Run scripts: what the first line says of the servers, which is how many there are and what each of them weighs; what each other
-//! line may say; and what an ensemble answers to a command, and to a whole script of elections, crashes, messages, calls and reads.
+//! Run scripts: the first line, which has the number of servers and their weights; the commands of
+//! the other lines; and an ensemble's answers to a command, and to a whole script of elections,
+//! crashes, messages, calls and reads.
 //!
-//! What is named `push` appends whole lines, with their newlines, or nothing where memory is refused.
+//! A function named `push..` appends whole lines with their newlines, or nothing if an allocation
+//! fails.
 #![tactic(auto)]
 
 mod command;

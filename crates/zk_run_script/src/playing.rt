@@ -1,9 +1,9 @@
-//! What an ensemble answers to a command.
+//! Answers of an ensemble to a command.
 ghost use Rattle.std.specs.Prelude.{◌≡◌, ◌++◌, OnOk, OnErr};
 ghost use Rattle.std.specs.String.{string_bytes};
 ghost use Rattle.zab_epoch.specs.Entries.{txns_of};
-ghost use Rattle.zab_runs.specs.Runs.{history_of};
-ghost use Rattle.zk_request_lines.specs.ReplyLines.{refusal_text};
+ghost use Rattle.zab_model.specs.Runs.{history_of};
+ghost use Rattle.zk_request_syntax.specs.ReplyLines.{refusal_text};
 ghost use Rattle.zk_run_script.specs.Answers.{listing_report};
 ghost use Rattle.zk_run_script.specs.Playing.{Obeys, report_text};
 ghost use Rattle.zk_reports.specs.Reports.{line};
@@ -14,11 +14,11 @@ use crate::reports::{push_answers, push_counted_tree, push_events, push_listing,
 use crate::told::push_told;
 use zk_ensemble::Ensemble;
 use zk_path::NoMemory;
-use zk_request_lines::push_refusal;
+use zk_request_syntax::push_refusal;
 use zk_table::codes::BAD_ARGUMENTS;
 
-/// Does what a command says, and appends the answer's lines. Where memory for the answer is refused, the ensemble has done
-/// it, and nothing is appended.
+/// Executes a command, and appends the answer's lines. If an allocation for the answer fails, the
+/// command has been executed, and nothing is appended.
 pub fn run_command(
     ensemble: &mut Ensemble,
     command: Command,
@@ -48,7 +48,7 @@ fn obey(ensemble: &mut Ensemble, command: Command, answer: &mut String) -> Resul
     }
 }
 
-/// Appends what a read is answered at a text that is no path.
+/// Appends the answer to a read at a text that is no path.
 fn push_no_path(answer: &mut String) -> Result<(), NoMemory>
     ensures { OnOk result (string_bytes answer.new ≡ string_bytes answer.old ++ line (refusal_text bad_arguments)) }
 {

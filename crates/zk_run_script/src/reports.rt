@@ -3,14 +3,14 @@ ghost use Rattle.std.specs.Prelude.{◌≡◌, ◌++◌, false, IfOk, OnErr, OnO
 ghost use Rattle.std.specs.List.{flat_map};
 ghost use Rattle.std.specs.String.{string_bytes};
 ghost use Rattle.zk_run_script.specs.Answers.{lines_line, listing_report, answer_line, answers_report, sync_line, syncs_report, kind_text, event_line, events_report, tree_lines, counted_tree};
-ghost use Rattle.zk_spelling.specs.Listings.{line_of};
+ghost use Rattle.zk_format.specs.Listings.{line_of};
 
 use zk_ensemble::Caught;
 use zk_listing::{push_digits, push_line, push_quoted, push_result_line};
 use zk_machine::{ChangeKind, Machine};
+use zk_model::Answered;
 use zk_path::NoMemory;
 use zk_reports::push_tree;
-use zk_runs::Answered;
 use zk_table::Txn;
 use zk_watch::Fired;
 
@@ -46,7 +46,7 @@ fn push_txns(page: &mut String, txns: &[Txn]) -> Result<(), NoMemory>
     Ok(())
 }
 
-/// Appends the report of what the delivered entries were answered: the tag of each, and its result.
+/// Appends the report of delivered entries' results: the tag and the result of each.
 pub fn push_answers(page: &mut String, answers: &[Answered]) -> Result<(), NoMemory>
     ensures appended { OnOk result
         (string_bytes page.new ≡ string_bytes page.old ++ answers_report answers.now) }
@@ -79,7 +79,7 @@ fn push_answer(page: &mut String, answered: &Answered) -> Result<(), NoMemory>
     Ok(())
 }
 
-/// Appends the report of the syncs that a server has answered: the tag of each, and its length.
+/// Appends the report of a server's completed syncs: the tag and the length of each.
 pub fn push_syncs(page: &mut String, syncs: &[Caught]) -> Result<(), NoMemory>
     ensures appended { OnOk result
         (string_bytes page.new ≡ string_bytes page.old ++ syncs_report syncs.now) }
@@ -110,7 +110,7 @@ fn push_sync(page: &mut String, caught: Caught) -> Result<(), NoMemory>
     Ok(())
 }
 
-/// Appends the report of what sessions were told by their watches, in the order in which it was fired.
+/// Appends the report of fired events, in the order in which they fired.
 pub fn push_events(page: &mut String, fired: &[Fired]) -> Result<(), NoMemory>
     ensures appended { OnOk result
         (string_bytes page.new ≡ string_bytes page.old ++ events_report fired.now) }
@@ -146,7 +146,6 @@ fn push_event(page: &mut String, event: &Fired) -> Result<(), NoMemory>
     Ok(())
 }
 
-/// The number of a kind of change.
 fn number_of(kind: ChangeKind) -> &'static str
     ensures { result.now ≡ kind_text kind }
 {
@@ -158,7 +157,7 @@ fn number_of(kind: ChangeKind) -> &'static str
     }
 }
 
-/// Appends the report of a tree, behind the number of its lines.
+/// Appends the report of a tree, after the number of its lines.
 pub fn push_counted_tree(page: &mut String, machine: &Machine) -> Result<(), NoMemory>
     requires { machine.now.failed ≡ false }
     ensures appended { OnOk result
@@ -173,7 +172,7 @@ pub fn push_counted_tree(page: &mut String, machine: &Machine) -> Result<(), NoM
     Ok(())
 }
 
-/// How many lines the report of a tree has.
+/// Counts the lines of a tree's report.
 fn lines_of(machine: &Machine) -> Result<usize, NoMemory>
     requires { machine.now.failed ≡ false }
     ensures { IfOk result (λ lines. lines ≡ tree_lines machine.now.state) }

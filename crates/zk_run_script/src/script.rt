@@ -1,4 +1,4 @@
-//! What a whole script is answered.
+//! Answers to a whole script.
 ghost use Rattle.std.specs.Prelude.{◌≡◌, ◌++◌, ◌≤◌};
 ghost use Rattle.std.specs.String.{string_bytes};
 ghost use Rattle.zk_run_script.specs.Scripts.{RunsScript, BeginsOrNot, Plays};
@@ -12,9 +12,9 @@ use zk_ensemble::Ensemble;
 use zk_listing::ListCause;
 use zk_reports::{ScriptFault, next_line};
 
-/// Does what the lines of a script say, one after the other, with an ensemble of the servers that the first line says, and
-/// appends what is answered to them, up to the first that says no command. A newline ends each line; the last one may have
-/// none. A script without lines is refused at line 1.
+/// Executes the lines of a script one after the other, with an ensemble of the servers that the
+/// first line names, and appends the answers, up to the first line that is no command. A newline
+/// ends each line; the last one may have none. A script without lines fails at line 1.
 pub fn run_script(alloc: Global, script: &str, answers: &mut String) -> Result<(), ScriptFault>
     ensures { RunsScript script.now (string_bytes answers.old) result (string_bytes answers.new) }
 {
@@ -30,7 +30,7 @@ pub fn run_script(alloc: Global, script: &str, answers: &mut String) -> Result<(
     }
 }
 
-/// Starts a server for each weight, and does with them what the lines say.
+/// Starts a server for each weight, and executes the lines.
 fn begin(
     alloc: Global,
     weights: Weighted,
@@ -49,7 +49,7 @@ fn begin(
     play(alloc, servers, &mut ensemble, text, answers)
 }
 
-/// Does what the lines say, the first of which is the script's second.
+/// Executes the lines, of which the first is the script's second.
 fn play(
     alloc: Global,
     servers: usize,

@@ -1,7 +1,7 @@
-//! The weights of a script's servers, read without memory.
+//! The weights of a script's servers, read without allocating.
 use std::marker::Model;
 
-/// How many servers a script has at most.
+/// The greatest number of servers in a script.
 pub(crate) const MOST_SERVERS: usize = 15;
 
 /// The weights of up to 15 servers, from server 1 on.
@@ -11,7 +11,7 @@ pub(crate) struct ServerWeights {
     count: usize,
 }
 
-/// They are seen as their list.
+/// Contracts see a list.
 impl Model for ServerWeights {
     ghost use Rattle.std.specs.Prelude.{List, ℕ, ◌≤◌, take};
 
@@ -25,7 +25,6 @@ impl Model for ServerWeights {
 impl ServerWeights {
     ghost use Rattle.std.specs.Prelude.{◌≡◌, ◌≤◌, ◌<◌, ◌++◌, [], ◌∷◌, length, replicate};
 
-    /// Those of no server.
     pub(crate) fn none() -> ServerWeights
         ensures { result ≡ [] }
     {
@@ -35,7 +34,7 @@ impl ServerWeights {
         }
     }
 
-    /// So many servers, each of weight 1.
+    /// Weighs each of `servers` servers 1.
     pub(crate) fn even(servers: usize) -> ServerWeights
         requires { servers ≤ 15 }
         ensures { result ≡ replicate servers 1 }
@@ -46,7 +45,7 @@ impl ServerWeights {
         }
     }
 
-    /// The next server weighs so much.
+    /// Appends the weight of the next server.
     pub(crate) fn push(&mut self, weight: u32)
         requires { length self.old < 15 }
         ensures { self.new ≡ self.old ++ weight ∷ [] }
@@ -55,7 +54,6 @@ impl ServerWeights {
         self.count += 1;
     }
 
-    /// The weights, lent.
     pub(crate) fn as_slice(&self) -> &[u32]
         ensures { result.now ≡ self.now }
     {

@@ -1,17 +1,17 @@
-//! What an event is answered.
+//! Answers to events.
 ghost use Rattle.std.specs.Prelude.{◌≡◌, ◌++◌, OnErr, OnOk};
 ghost use Rattle.std.specs.String.{string_bytes};
 ghost use Rattle.zk_run_script.specs.Answers.{numbers_text, moved_text, fault_text, told_text};
-ghost use Rattle.zk_runs.specs.declared.fault.EnsembleFault.TheVariants as faults;
+ghost use Rattle.zk_model.specs.declared.fault.EnsembleFault.TheVariants as faults;
 ghost use Rattle.zk_reports.specs.Reports.{line};
 
-use zab_runs::Moved;
+use zab_model::Moved;
 use zk_listing::push_id;
+use zk_model::{Answer, EnsembleFault};
 use zk_path::NoMemory;
-use zk_request_lines::push_reply;
-use zk_runs::{Answer, EnsembleFault};
+use zk_request_syntax::push_reply;
 
-/// Appends the line of what an event is answered.
+/// Appends the line of an event's answer.
 pub fn push_told(page: &mut String, told: &Result<Answer, EnsembleFault>) -> Result<(), NoMemory>
     ensures appended { OnOk result
         (string_bytes page.new ≡ string_bytes page.old ++ line (told_text told.now)) }
@@ -45,7 +45,7 @@ fn push_moved(page: &mut String, moved: Moved) -> Result<(), NoMemory>
     push_numbers(page, moved.first, moved.count)
 }
 
-/// Appends so many numbers from the first on. They are counted in 128 bits, so that no sum is too great.
+/// Appends `count` numbers from the first on. They are counted in 128 bits: no sum overflows.
 fn push_numbers(page: &mut String, first: usize, count: usize) -> Result<(), NoMemory>
     ensures { OnOk result
         (string_bytes page.new ≡ string_bytes page.old ++ numbers_text first count) }
@@ -57,7 +57,7 @@ fn push_numbers(page: &mut String, first: usize, count: usize) -> Result<(), NoM
     Ok(())
 }
 
-/// Appends the number of a refusal.
+/// Appends the number of an error.
 fn push_fault(page: &mut String, fault: EnsembleFault) -> Result<(), NoMemory>
     ensures { OnOk result
         (string_bytes page.new ≡ string_bytes page.old ++ fault_text fault) }
@@ -77,7 +77,7 @@ fn push_fault(page: &mut String, fault: EnsembleFault) -> Result<(), NoMemory>
     Ok(())
 }
 
-/// Appends that a server is behind: what the client has seen, and where the server is.
+/// Appends that a server is behind: the zxid that the client has seen, and the server's.
 fn push_behind(page: &mut String, seen: i64, at: i64) -> Result<(), NoMemory>
     ensures { OnOk result
         (string_bytes page.new ≡ string_bytes page.old ++ fault_text (faults.Behind seen at)) }

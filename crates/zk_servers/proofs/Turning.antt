@@ -1,11 +1,11 @@
--- One turn more.
+-- One more turn.
 use Rattle.std.proofs.Common.{◌≡◌, ◌⊎◌, inl, inr, ℕ, suc, Bool, true, false, ◌+◌, ◌<◌, ◌≤◌, All, List, [], ◌∷◌, ◌++◌, length, take, map, refl, sym, ap, subst, ◌∙◌, arith}
 use Rattle.std.proofs.lemmas.List.{length-append, map-append, append_assoc, append-nil}
 use Rattle.std.proofs.lemmas.List.Elements.{All-append}
 use lib.ListN.{get_or}
-use Rattle.zk_runs.specs.declared.event.Event.{Event}
-use Rattle.zab_runs.specs.declared.event.Event.TheVariants.{Arrive}
-use Rattle.zk_runs.specs.declared.event.Event.TheVariants as events
+use Rattle.zk_model.specs.declared.event.Event.{Event}
+use Rattle.zab_model.specs.declared.event.Event.TheVariants.{Arrive}
+use Rattle.zk_model.specs.declared.event.Event.TheVariants as events
 use Rattle.zk_chronicle.specs.declared.record.Receipt.{Receipt}
 use Rattle.zk_chronicle.specs.declared.calls.Made.{Made}
 use Rattle.zk_chronicle.specs.Calls.{made}

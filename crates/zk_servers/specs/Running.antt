@@ -1,6 +1,6 @@
--- What the threads of all servers do.
+-- The effect of all servers' threads.
 use Rattle.std.specs.Prelude.{◌≡◌, ◌<◌, ℕ, List, [], ◌∷◌, ◌++◌, length, map, slice_index_or}
-use Rattle.zk_runs.specs.declared.event.Event.{Event}
+use Rattle.zk_model.specs.declared.event.Event.{Event}
 use Rattle.zk_chronicle.specs.declared.record.Receipt.{Receipt}
 use Rattle.zk_chronicle.specs.declared.calls.Made.{Made}
 use Rattle.zk_servers.specs.declared.serving.Worker.{Worker}
@@ -9,7 +9,8 @@ use Rattle.zk_servers.specs.declared.running.Turns.{Turns}
 use Rattle.std.specs.declared.thread.PromisedHandle.{PromisedHandle}
 use Rattle.zk_servers.specs.Turns.{DidTurns}
 
--- of each server: its seat before, its jobs, and its seat, its receipts and how many jobs were passed over after so many turns
+-- for each server: its seat before, its jobs, and after `turns` turns its seat, its receipts and
+-- the number of jobs that were passed over
 abbrev pub AllServed : ℕ → List (List Made) → List (List Event) → List (List Made) → List (List Receipt) → List ℕ → Type 0
 AllServed turns [] [] [] [] [] = Unit {0}
 AllServed turns (before ∷ befores) (jobs ∷ rest) (after ∷ afters) (receipts ∷ told) (passed ∷ counts) =

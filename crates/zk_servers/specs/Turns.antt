@@ -1,12 +1,12 @@
--- What a server's thread does in its turns.
+-- The effect of a server's thread in its turns.
 use Rattle.std.specs.Prelude.{◌≡◌, ◌⊎◌, ◌+◌, ℕ, All, List, [], ◌∷◌, ◌++◌, map, take}
-use Rattle.zk_runs.specs.declared.event.Event.{Event}
-use Rattle.zk_runs.specs.declared.event.Event.TheVariants as events
-use Rattle.zab_runs.specs.declared.event.Event.TheVariants.{Arrive}
+use Rattle.zk_model.specs.declared.event.Event.{Event}
+use Rattle.zk_model.specs.declared.event.Event.TheVariants as events
+use Rattle.zab_model.specs.declared.event.Event.TheVariants.{Arrive}
 use Rattle.zk_chronicle.specs.declared.record.Receipt.{Receipt}
 use Rattle.zk_chronicle.specs.declared.calls.Made.{Made}
 
--- these are the events in order, but for so many that are passed over
+-- these are the events in order, except `n` that are passed over
 abbrev pub IsAllBut : ℕ → List Event → List Event → Type 0
 IsAllBut passed [] kept = (passed ≡ 0) × (kept ≡ [])
 IsAllBut passed (event ∷ events) kept =
@@ -25,7 +25,7 @@ numbers_of calls = map (λ call. call.number) calls
 abbrev pub numbers_told : List Receipt → List ℕ
 numbers_told receipts = map (λ receipt. receipt.number) receipts
 
--- the calls of so many turns: jobs first, in order, and then arrivals alone
+-- the calls of `turns` turns: jobs first, in order, and then arrivals alone
 pub record AreOfTurns (jobs : List Event) (turns passed : ℕ) (calls : List Made) : Type 0 where
   pub busy : List Made
   pub idle : List Made
@@ -33,7 +33,7 @@ pub record AreOfTurns (jobs : List Event) (turns passed : ℕ) (calls : List Mad
   pub jobs_made : IsAllBut passed (take turns jobs) (events_of busy)
   pub arrivals : All IsArrival (events_of idle)
 
--- what a thread adds to a seat, and the receipts that it brings
+-- the calls that a thread adds to a seat, and their receipts
 pub record DidTurns (before : List Made) (jobs : List Event) (turns : ℕ) (after : List Made) (receipts : List Receipt) (passed : ℕ) : Type 0 where
   pub calls : List Made
   pub added : after ≡ before ++ calls

@@ -1,23 +1,38 @@
-//! Servers that run as threads: each takes its turns, calls on an ensemble which all share under one lock, and sends on the numbers
-//! of the messages that its calls make.
+//! Servers as threads: each takes its turns, and calls an ensemble that all share under one lock.
+//! It sends the numbers of its calls' messages to the inboxes of their addressees.
 //!
-//! A thread calls by its [`Seat`], which keeps its calls, and gets a [`Receipt`] for each event that happened. At the end
-//! [`Shared::close`] compares the calls and the receipts with what is recorded, and hands the [`Chronicle`] out.
+//! A thread calls by its [`Seat`], which keeps its calls, and gets a [`Receipt`] for each event
+//! that happened. At the end [`Shared::close`] compares the calls and the receipts with the
+//! records, and returns the [`Chronicle`].
 //!
-//! What each server has delivered is published in a view of its own, in which a [`Reader`] reads without the lock.
-//!
-//! Own; the events are those of `zk_ensemble`, the chronicle is that of `zk_chronicle`, and the views are those of `zk_views`.
+//! What each server has delivered is published in a view of its own, which a [`Reader`] reads
+//! without the lock.
 #![tactic(auto)]
 
+mod closing;
+mod counted_chronicle;
+mod inbox;
+mod ledger;
+mod looked;
+mod pausing;
 mod running;
+mod seat;
 mod serving;
+mod shared;
+mod shared_state;
+mod waker;
 
+pub use closing::joined;
+pub use inbox::{Inbox, Post, Sender, Senders, inboxes};
+pub use ledger::CallLedger;
+pub use looked::Looked;
 pub use running::{Run, Turns, run_servers};
+pub use seat::Seat;
 pub use serving::{Gate, Worked, Worker, send_on};
-pub use zk_boards::{
-    Board, Chronicle, Ensemble, Mark, Outcome, Routed, Seat, Shared, Started, Unclosed, joined,
+pub use shared::{Routed, Shared, Started, Unclosed};
+pub use shared_state::SharedState;
+pub use zk_chronicle::{
+    CallFault, Chronicle, CloseFault, Ensemble, Made, Mark, Outcome, Receipt, Record,
 };
-pub use zk_chronicle::{CallFault, CloseFault, Made, Receipt, Record};
-pub use zk_inboxes::{Inbox, Post, Senders, inboxes};
-pub use zk_runs::Event;
-pub use zk_views::{Kept, Pass, Reader, Seen, ViewFault};
+pub use zk_model::Event;
+pub use zk_views::{Pass, PublishedView, Reader, Seen, ViewFault};

@@ -2,20 +2,22 @@ ghost use Rattle.std.specs.Prelude.{◌≡◌, length, map, IfOk, vec_len};
 ghost use Rattle.zk_servers.specs.Running.{AllDid, ArePromised, AreWorkers, DidRun, IsRunOf};
 ghost use Rattle.zk_servers.specs.Turns.{DidTurns};
 
+use crate::inbox::{Inbox, Post, Senders};
+use crate::ledger::CallLedger;
+use crate::seat::Seat;
 use crate::serving::{Gate, Worked, Worker, serve};
+use crate::shared::Shared;
 use std::alloc::Global;
 use std::snapshot::Snapshot;
 use std::sync::Wait;
 use std::sync::ledger::Ledger;
 use std::thread;
 use std::thread::{Promise, PromisedHandle, Scope, Threads};
-use zk_boards::{Seat, Shared};
 use zk_chronicle::Receipt;
-use zk_inboxes::{Inbox, Post, Senders};
+use zk_model::Event;
 use zk_path::NoMemory;
-use zk_runs::Event;
 
-/// What a server's thread is to do.
+/// The input of a server's thread.
 #[derive(Drop)]
 pub struct Turns<L: Ledger> {
     worker: Snapshot<Worker<L>>,
@@ -26,23 +28,25 @@ impl<L: Ledger> Promise<Worked<L>> for Turns<L> {
     ghost kept_by = { λ p w. DidTurns p.worker.value.seat p.worker.value.jobs.items p.turns w.seat w.receipts.items w.passed };
 }
 
-/// What servers did in their turns.
+/// The effect of all servers' turns.
 #[derive(Drop)]
 pub struct Run<L: Ledger> {
     /// The seats, with the calls that were made.
     pub seats: Vec<Seat<L>>,
     /// One for each call, seat by seat.
     pub receipts: Vec<Receipt>,
-    /// How many of each server's jobs were passed over, since their calls were refused.
+    /// The number of each server's jobs that were passed over, since their calls failed.
     pub passed: Vec<usize>,
 }
 
-/// Runs each server in a thread of its own. In each of so many turns a server passes the gate, and then takes its next job, or where
-/// none is left waits for a number in its inbox, which is that of a message that comes to it; it calls, and sends the numbers of new
-/// messages to their addressees. The number 0 ends it.
+/// Runs each server in a thread of its own, for `turns` turns. In each turn a server passes the
+/// gate, and then takes its next job; without jobs it waits for the number of an arriving message
+/// in its inbox. It calls the event, and sends the numbers of new messages to their addressees. The
+/// number 0 ends the thread.
 ///
-/// [`NoMemory`] also where a thread can't be made; then no thread runs on, what was recorded stays, and the seats are gone.
-pub fn run_servers<L: Ledger + Send + Sync, G: Gate + Sync, R: Threads + Wait + Sync>(
+/// Fails with [`NoMemory`] also if a thread can't be spawned. Then no thread continues, the records
+/// remain, and the seats are lost.
+pub fn run_servers<L: CallLedger + Send + Sync, G: Gate + Sync, R: Threads + Wait + Sync>(
     rt: &R,
     alloc: Global,
     shared: &Shared<L>,
@@ -63,7 +67,7 @@ pub fn run_servers<L: Ledger + Send + Sync, G: Gate + Sync, R: Threads + Wait + 
     Ok(done)
 }
 
-/// What each server's thread begins with.
+/// Returns the input of each server's thread.
 fn workers_of<L: Ledger>(
     alloc: Global,
     inboxes: Vec<Inbox>,
@@ -92,7 +96,7 @@ fn workers_of<L: Ledger>(
     Ok(workers)
 }
 
-/// What the threads hand back, in three lists.
+/// Returns the results of the threads, in three lists.
 fn run_of<L: Ledger>(alloc: Global, worked: Vec<Worked<L>>) -> Result<Run<L>, NoMemory>
     ensures { IfOk result (λ run. IsRunOf worked.items run.seats.items run.receipts.items run.passed.items) }
 {
@@ -119,8 +123,8 @@ fn run_of<L: Ledger>(alloc: Global, worked: Vec<Worked<L>>) -> Result<Run<L>, No
     })
 }
 
-/// A thread for each server. Where one can't be made, the others are told to end, and are waited for.
-pub(crate) fn run_workers<L: Ledger + Send + Sync, G: Gate + Sync, R: Threads + Wait + Sync>(
+/// Spawns a thread for each server. If one can't be spawned, ends the others, and waits for them.
+pub(crate) fn run_workers<L: CallLedger + Send + Sync, G: Gate + Sync, R: Threads + Wait + Sync>(
     rt: &R,
     alloc: Global,
     shared: &Shared<L>,
@@ -146,7 +150,7 @@ pub(crate) fn run_workers<L: Ledger + Send + Sync, G: Gate + Sync, R: Threads + 
     )
 }
 
-fn start_all<'s, E, L: Ledger + Send + Sync, G: Gate + Sync, R: Threads + Wait + Sync>(
+fn start_all<'s, E, L: CallLedger + Send + Sync, G: Gate + Sync, R: Threads + Wait + Sync>(
     scope: &Scope<'s, E>,
     rt: &'s R,
     alloc: Global,
@@ -174,7 +178,7 @@ fn start_all<'s, E, L: Ledger + Send + Sync, G: Gate + Sync, R: Threads + Wait +
         match started {
             Ok(child) => children.push_reserved(child),
             Err(_) => {
-                senders.end_all(rt);
+                senders.end_all();
                 return Err(NoMemory);
             }
         }

@@ -2,20 +2,22 @@ ghost use Rattle.std.specs.Prelude.{◌≡◌, ◌++◌, ◌∷◌, [], true, fa
 ghost use Rattle.zk_chronicle.specs.Calls.{made};
 ghost use Rattle.zk_servers.specs.Turns.{DidTurns};
 
+use crate::inbox::{Inbox, Senders};
+use crate::ledger::CallLedger;
+use crate::seat::Seat;
+use crate::shared::{Routed, Shared};
 use std::alloc::Global;
 use std::sync::Wait;
 use std::sync::ledger::Ledger;
-use zk_boards::{Routed, Seat, Shared};
 use zk_chronicle::Receipt;
-use zk_inboxes::{Inbox, Senders};
-use zk_runs::Event;
+use zk_model::Event;
 
-/// What each thread passes before each of its turns.
+/// Each thread passes it before each of its turns.
 pub trait Gate {
     fn enter(&self, server: usize, turn: u32);
 }
 
-/// What a server's thread begins with.
+/// The input of a server's thread.
 #[derive(Drop)]
 pub struct Worker<L: Ledger> {
     pub server: usize,
@@ -24,7 +26,7 @@ pub struct Worker<L: Ledger> {
     pub jobs: Vec<Event>,
 }
 
-/// What a server's thread hands back.
+/// The result of a server's thread.
 #[derive(Drop)]
 pub struct Worked<L: Ledger> {
     pub seat: Seat<L>,
@@ -32,8 +34,8 @@ pub struct Worked<L: Ledger> {
     pub passed: usize,
 }
 
-/// A server's turns.
-pub(crate) fn serve<L: Ledger, G: Gate, R: Wait>(
+/// Runs a server's turns.
+pub(crate) fn serve<L: CallLedger, G: Gate, R: Wait>(
     rt: &R,
     alloc: Global,
     shared: &Shared<L>,
@@ -77,7 +79,7 @@ pub(crate) fn serve<L: Ledger, G: Gate, R: Wait>(
             senders,
             &mut seat,
             &mut receipts,
-            Event::World(zab_runs::Event::Arrive { message }),
+            Event::World(zab_model::Event::Arrive { message }),
         );
     }
     Worked {
@@ -87,8 +89,8 @@ pub(crate) fn serve<L: Ledger, G: Gate, R: Wait>(
     }
 }
 
-/// One call, whose new messages go to their addressees. Whether it was made.
-fn call_once<L: Ledger, R: Wait>(
+/// Makes one call, and sends its new messages to their addressees. Returns whether it was made.
+fn call_once<L: CallLedger, R: Wait>(
     rt: &R,
     alloc: Global,
     shared: &Shared<L>,
@@ -110,7 +112,7 @@ fn call_once<L: Ledger, R: Wait>(
     true
 }
 
-/// The numbers of the messages that an event sent go to their addressees; one that can't be sent is lost.
+/// Sends the numbers of an event's messages to their addressees; one that can't be sent is lost.
 pub fn send_on<R: Wait>(rt: &R, senders: &Senders, routed: Routed) -> Receipt
     ensures { result ≡ routed.receipt }
 {

@@ -1,4 +1,4 @@
--- Maps that are kept as lists in the order of their keys.
+-- Maps stored as sorted lists of entries.
 use Rattle.std.proofs.Common.{◌≡◌, ℕ, zero, suc, ◌+◌, ◌<◌, ◌≤◌, Bool, true, false, cond, ◌&&◌, T, List, [], ◌∷◌, length, get_or, drop, set, insert, remove, Option, Some, None, Result, Ok, Err, MatchResult, refl, sym, subst, ap, ◌∙◌, IsTrue, arith, Less, Equal, Greater, is_eq, is_lt, suc-le-suc}
 use Rattle.std.proofs.lemmas.Bool.{and_parts, and_from, false≢true}
 use Rattle.std.proofs.lemmas.Result.{MatchResult-at_ok, MatchResult-at_err}
@@ -9,7 +9,7 @@ use Rattle.std.specs.Ordering.{eq_by_cmp, match_ordering}
 use Rattle.std.specs.Cmp.{IsTotalOrder}
 use Rattle.std.specs.FinMap.{FinMap, IsAntisymmetric, entries, entries_sorted, from_sorted, is_sorted, find, put, get, get-entries, get_tied, get-remove, get-from_sorted, len-entries, entries-insert, entries-from_sorted, same_entries_map, same_map, empty_of_len}
 use Rattle.std.specs.FinMap as finite
-use Rattle.zk_table.specs.Places.{place_of, one_later}
+use Rattle.zk_table.specs.Places.{position_of, one_later}
 
 -- ---- a map and the list of its entries
 
@@ -20,11 +20,11 @@ pub to_true : (b : Bool) → T b → IsTrue b
 to_true true h = refl
 to_true false h = absurd h
 
--- the list that a map is kept as has its entries
+-- the stored list has the map's entries
 pub entries_of_kept : {K X : Type 0} (R : K → K → Ordering) (es : List (K × X)) (m : FinMap R X) → IsTrue (is_sorted R es) → from_sorted {R = R} es ≡ m → es ≡ entries m
 entries_of_kept R es m sorted view = sym (entries-from_sorted R es (from_true _ sorted)) ∙ ap entries view
 
--- a list that has a map's entries is in order, and is that map
+-- a list with a map's entries is sorted, and is that map
 pub sorted_from_entries : {K X : Type 0} (R : K → K → Ordering) (es : List (K × X)) (m : FinMap R X) → es ≡ entries m → IsTrue (is_sorted R es)
 sorted_from_entries R es m e = to_true _ (subst (λ l. T (is_sorted R l)) (sym e) (entries_sorted m))
 
@@ -34,9 +34,9 @@ kept_from_entries R es m e = same_entries_map _ m (entries-from_sorted R es (fro
 pub nothing_kept : {K X : Type 0} (R : K → K → Ordering) → from_sorted {R = R} [] ≡ finite.empty {X = X}
 nothing_kept R = empty_of_len _ (len-entries _ ∙ ap length (entries-from_sorted R [] tt))
 
--- ---- what a place says
+-- ---- the meaning of a position
 
--- a place in the rest of a list, in the whole list
+-- a position in the rest of a list, as one in the whole list
 abbrev pub later_by : ℕ → Result ℕ ℕ → Result ℕ ℕ
 later_by n (Ok at) = Ok (n + at)
 later_by n (Err at) = Err (n + at)
@@ -45,23 +45,23 @@ one_further : (n : ℕ) (r : Result ℕ ℕ) → later_by n (one_later r) ≡ la
 one_further n (Ok at) = ap Ok (omega arith)
 one_further n (Err at) = ap Err (omega arith)
 
--- a walk along the list, which has come to a place
+-- a scan of the list, up to a position
 module _ {K X : Type 0} (R : K → K → Ordering) (k : K) (es : List (K × X)) (n at : ℕ) (d : K × X) (same : n ≡ at) (below : at < length es) where
-  stepped : (r : Ordering) → R k (get_or es at d).0 ≡ r → place_of R k es ≡ later_by n (place_of R k (drop n es)) → place_of R k es ≡ later_by n (match_ordering r (Err 0) (Ok 0) (one_later (place_of R k (drop (n + 1) es))))
+  stepped : (r : Ordering) → R k (get_or es at d).0 ≡ r → position_of R k es ≡ later_by n (position_of R k (drop n es)) → position_of R k es ≡ later_by n (match_ordering r (Err 0) (Ok 0) (one_later (position_of R k (drop (n + 1) es))))
   stepped r p h =
       h
-      ∙ at_drop_more (λ l. later_by n (place_of R k l)) es n d (subst (λ i. i < length es) (sym same) below)
-      ∙ ap (λ i. later_by n (match_ordering (R k (get_or es i d).0) (Err 0) (Ok 0) (one_later (place_of R k (drop (n + 1) es))))) same
-      ∙ ap (λ o. later_by n (match_ordering o (Err 0) (Ok 0) (one_later (place_of R k (drop (n + 1) es))))) p
+      ∙ at_drop_more (λ l. later_by n (position_of R k l)) es n d (subst (λ i. i < length es) (sym same) below)
+      ∙ ap (λ i. later_by n (match_ordering (R k (get_or es i d).0) (Err 0) (Ok 0) (one_later (position_of R k (drop (n + 1) es))))) same
+      ∙ ap (λ o. later_by n (match_ordering o (Err 0) (Ok 0) (one_later (position_of R k (drop (n + 1) es))))) p
 
-  pub walked_before : R k (get_or es at d).0 ≡ Less → place_of R k es ≡ later_by n (place_of R k (drop n es)) → place_of R k es ≡ Err n
+  pub walked_before : R k (get_or es at d).0 ≡ Less → position_of R k es ≡ later_by n (position_of R k (drop n es)) → position_of R k es ≡ Err n
   walked_before p h = stepped Less p h ∙ ap Err (omega arith)
 
-  pub walked_to : R k (get_or es at d).0 ≡ Equal → place_of R k es ≡ later_by n (place_of R k (drop n es)) → place_of R k es ≡ Ok n
+  pub walked_to : R k (get_or es at d).0 ≡ Equal → position_of R k es ≡ later_by n (position_of R k (drop n es)) → position_of R k es ≡ Ok n
   walked_to p h = stepped Equal p h ∙ ap Ok (omega arith)
 
-  pub walked_past : R k (get_or es at d).0 ≡ Greater → place_of R k es ≡ later_by n (place_of R k (drop n es)) → place_of R k es ≡ later_by (n + 1) (place_of R k (drop (n + 1) es))
-  walked_past p h = stepped Greater p h ∙ one_further n (place_of R k (drop (n + 1) es))
+  pub walked_past : R k (get_or es at d).0 ≡ Greater → position_of R k es ≡ later_by n (position_of R k (drop n es)) → position_of R k es ≡ later_by (n + 1) (position_of R k (drop (n + 1) es))
+  walked_past p h = stepped Greater p h ∙ one_further n (position_of R k (drop (n + 1) es))
 
 ordered : (r : Ordering) → is_lt r ≡ true → r ≡ Less
 ordered Less e = refl
@@ -73,7 +73,7 @@ tied Less e = absurd (false≢true e)
 tied Equal e = refl
 tied Greater e = absurd (false≢true e)
 
--- two keys that tie with a third tie
+-- two keys that are equal to a third are equal
 joined : {K : Type 0} {R : K → K → Ordering} → IsTotalOrder R → (q x y : K) → eq_by_cmp R q x ≡ true → eq_by_cmp R q y ≡ true → R x y ≡ Equal
 joined o q x y s t = sym (o.congr q x y (tied _ s)) ∙ tied _ t
 
@@ -86,14 +86,14 @@ match_weaker (Ok i) P P' Q Q' p q h = p i h
 match_weaker (Err i) P P' Q Q' p q h = q i h
 
 module _ {K X : Type 0} (R : K → K → Ordering) where
-  -- an entry with this key stands there
+  -- the entry at this position has the key
   pub record StandsAt (k : K) (es : List (K × X)) (i : ℕ) : Type 0 where
     pub within : i < length es
     pub found : (d : K × X) → find R k es ≡ Some (get_or es i d).1
     pub tie : (d : K × X) → R k (get_or es i d).0 ≡ Equal
     pub put_there : (v : X) (d : K × X) → put R k v es ≡ set es i ((get_or es i d).0, v)
 
-  -- no entry has this key, and one with it would stand there
+  -- no entry has the key, and it would be inserted at this position
   pub record GoesAt (k : K) (es : List (K × X)) (i : ℕ) : Type 0 where
     pub within : i ≤ length es
     pub put_there : (v : X) → put R k v es ≡ insert es i (k, v)
@@ -126,25 +126,25 @@ module _ {K X : Type 0} (R : K → K → Ordering) where
     put_there = λ v. ap (λ r. match_ordering r ((k, v) ∷ e ∷ es) ((e.0, v) ∷ es) (e ∷ put R k v es)) p ∙ ap (λ l. e ∷ l) (h.put_there v);
   }
 
-  pub place_means : (k : K) (es : List (K × X)) → MatchResult (place_of R k es) (StandsAt k es) (GoesAt k es)
+  pub place_means : (k : K) (es : List (K × X)) → MatchResult (position_of R k es) (StandsAt k es) (GoesAt k es)
   place_means k [] = record { within = omega arith; put_there = λ v. refl }
   place_means k (e ∷ es) =
       let rest = place_means k es in
-      elim (R k e.0) as (λ r. R k e.0 ≡ r → MatchResult (match_ordering r (Err 0) (Ok 0) (one_later (place_of R k es))) (StandsAt k (e ∷ es)) (GoesAt k (e ∷ es))) [
+      elim (R k e.0) as (λ r. R k e.0 ≡ r → MatchResult (match_ordering r (Err 0) (Ok 0) (one_later (position_of R k es))) (StandsAt k (e ∷ es)) (GoesAt k (e ∷ es))) [
         | Less ↦ λ p. goes_first k e es p
         | Equal ↦ λ p. stands_first k e es p
-        | Greater ↦ λ p. at_later (place_of R k es) (StandsAt k (e ∷ es)) (GoesAt k (e ∷ es)) (match_weaker (place_of R k es) _ _ _ _ (λ i h. stands_later k e es i p h) (λ i h. goes_later k e es i p h) rest)
+        | Greater ↦ λ p. at_later (position_of R k es) (StandsAt k (e ∷ es)) (GoesAt k (e ∷ es)) (match_weaker (position_of R k es) _ _ _ _ (λ i h. stands_later k e es i p h) (λ i h. goes_later k e es i p h) rest)
       ] refl
 
-  pub stands_at : (k : K) (es : List (K × X)) (i : ℕ) → place_of R k es ≡ Ok i → StandsAt k es i
+  pub stands_at : (k : K) (es : List (K × X)) (i : ℕ) → position_of R k es ≡ Ok i → StandsAt k es i
   stands_at k es i e = MatchResult-at_ok (StandsAt k es) (GoesAt k es) i e (place_means k es)
 
-  pub goes_at : (k : K) (es : List (K × X)) (i : ℕ) → place_of R k es ≡ Err i → GoesAt k es i
+  pub goes_at : (k : K) (es : List (K × X)) (i : ℕ) → position_of R k es ≡ Err i → GoesAt k es i
   goes_at k es i e = MatchResult-at_err (StandsAt k es) (GoesAt k es) i e (place_means k es)
 
   -- ---- a list without one of its entries
 
-  -- whether a key is below all keys of a list
+  -- whether a key is less than all keys of a list
   abbrev below_all : K → List (K × X) → Bool
   below_all x [] = true
   below_all x (e ∷ es) = is_lt (R x e.0) && below_all x es
@@ -174,7 +174,7 @@ module _ {K X : Type 0} (R : K → K → Ordering) where
     below_less x y [] t h = refl
     below_less x y (e ∷ es) t h = and_from _ _ (ap is_lt (o.trans x y e.0 t (ordered _ (and_parts _ _ h).0))) (below_less x y es t (and_parts _ _ h).1)
 
-    -- an entry that comes before the one that is looked for
+    -- an entry before the one that is looked for
     passed_over : (q k : K) (e : K × X) (f : Option X) → R k e.0 ≡ Greater → cond (eq_by_cmp R q e.0) (Some e.1) (cond (eq_by_cmp R q k) None f) ≡ cond (eq_by_cmp R q k) None (cond (eq_by_cmp R q e.0) (Some e.1) f)
     passed_over q k e f p =
         elim (eq_by_cmp R q e.0) as (λ b. eq_by_cmp R q e.0 ≡ b → cond b (Some e.1) (cond (eq_by_cmp R q k) None f) ≡ cond (eq_by_cmp R q k) None (cond b (Some e.1) f)) [
@@ -195,53 +195,53 @@ module _ {K X : Type 0} (R : K → K → Ordering) where
           ] refl
         ] refl
 
-    -- the list without the entry of a key finds what it found, but for that key
-    pub find_removed : (k q : K) (es : List (K × X)) → IsTrue (is_sorted R es) → MatchResult (place_of R k es) (λ i. find R q (remove es i) ≡ cond (eq_by_cmp R q k) None (find R q es)) (λ _. Unit {0})
+    -- a look-up in the list without the entry of a key, for any other key
+    pub find_removed : (k q : K) (es : List (K × X)) → IsTrue (is_sorted R es) → MatchResult (position_of R k es) (λ i. find R q (remove es i) ≡ cond (eq_by_cmp R q k) None (find R q es)) (λ _. Unit {0})
     find_removed k q [] h = tt
     find_removed k q (e ∷ es) h =
         let rest = find_removed k q es (and_parts _ _ h).1 in
         let P : ℕ → Type 0 = λ i. find R q (remove (e ∷ es) i) ≡ cond (eq_by_cmp R q k) None (find R q (e ∷ es)) in
-        elim (R k e.0) as (λ r. R k e.0 ≡ r → MatchResult (match_ordering r (Err 0) (Ok 0) (one_later (place_of R k es))) P (λ _. Unit {0})) [
+        elim (R k e.0) as (λ r. R k e.0 ≡ r → MatchResult (match_ordering r (Err 0) (Ok 0) (one_later (position_of R k es))) P (λ _. Unit {0})) [
           | Less ↦ λ p. tt
           | Equal ↦ λ p. find_removed_first q k e es p (and_parts _ _ h).0
-          | Greater ↦ λ p. at_later (place_of R k es) P (λ _. Unit {0}) (match_weaker (place_of R k es) _ _ _ _ (λ i f. ap (cond (eq_by_cmp R q e.0) (Some e.1)) f ∙ passed_over q k e (find R q es) p) (λ i _. tt) rest)
+          | Greater ↦ λ p. at_later (position_of R k es) P (λ _. Unit {0}) (match_weaker (position_of R k es) _ _ _ _ (λ i f. ap (cond (eq_by_cmp R q e.0) (Some e.1)) f ∙ passed_over q k e (find R q es) p) (λ i _. tt) rest)
         ] refl
 
-    -- where a key would go no entry has it
-    pub find_missing : (k : K) (es : List (K × X)) → IsTrue (is_sorted R es) → MatchResult (place_of R k es) (λ _. Unit {0}) (λ _. find R k es ≡ None)
+    -- no entry has a key whose position is one of insertion
+    pub find_missing : (k : K) (es : List (K × X)) → IsTrue (is_sorted R es) → MatchResult (position_of R k es) (λ _. Unit {0}) (λ _. find R k es ≡ None)
     find_missing k [] h = refl
     find_missing k (e ∷ es) h =
         let rest = find_missing k es (and_parts _ _ h).1 in
         let found : Ordering → Option X = λ r. cond (is_eq r) (Some e.1) (find R k es) in
-        elim (R k e.0) as (λ r. R k e.0 ≡ r → MatchResult (match_ordering r (Err 0) (Ok 0) (one_later (place_of R k es))) (λ _. Unit {0}) (λ _. find R k (e ∷ es) ≡ None)) [
+        elim (R k e.0) as (λ r. R k e.0 ≡ r → MatchResult (match_ordering r (Err 0) (Ok 0) (one_later (position_of R k es))) (λ _. Unit {0}) (λ _. find R k (e ∷ es) ≡ None)) [
           | Less ↦ λ p. ap found p ∙ find_below k es (below_less k e.0 es p (and_parts _ _ h).0)
           | Equal ↦ λ p. tt
-          | Greater ↦ λ p. at_later (place_of R k es) _ _ (match_weaker (place_of R k es) _ _ _ _ (λ i _. tt) (λ i f. ap found p ∙ f) rest)
+          | Greater ↦ λ p. at_later (position_of R k es) _ _ (match_weaker (position_of R k es) _ _ _ _ (λ i _. tt) (λ i f. ap found p ∙ f) rest)
         ] refl
 
--- ---- the map after a change at a place
+-- ---- the map after a change at a position
 
--- the place that was looked up in a list that is lent
-pub placed : {K X : Type 0} (R : K → K → Ordering) (k : K) (lent es : List (K × X)) (r place : Result ℕ ℕ) → lent ≡ es → r ≡ place_of R k lent → r ≡ place → place_of R k es ≡ place
-placed R k lent es r place a b c = ap (place_of R k) (sym a) ∙ sym b ∙ c
+-- the position that was looked up in a borrowed list
+pub placed : {K X : Type 0} (R : K → K → Ordering) (k : K) (lent es : List (K × X)) (r place : Result ℕ ℕ) → lent ≡ es → r ≡ position_of R k lent → r ≡ place → position_of R k es ≡ place
+placed R k lent es r place a b c = ap (position_of R k) (sym a) ∙ sym b ∙ c
 
 module _ {K X : Type 0} {R : K → K → Ordering} (o : IsTotalOrder R) where
-  pub found_at_place : (es : List (K × X)) (m : FinMap R X) (k : K) (i : ℕ) (d : K × X) → es ≡ entries m → place_of R k es ≡ Ok i → get m k ≡ Some (get_or es i d).1
+  pub found_at_place : (es : List (K × X)) (m : FinMap R X) (k : K) (i : ℕ) (d : K × X) → es ≡ entries m → position_of R k es ≡ Ok i → get m k ≡ Some (get_or es i d).1
   found_at_place es m k i d e p = get-entries m k ∙ ap (find R k) (sym e) ∙ (stands_at R k es i p).found d
 
-  pub missing_at_place : (es : List (K × X)) (m : FinMap R X) (k : K) (i : ℕ) → es ≡ entries m → place_of R k es ≡ Err i → get m k ≡ None
+  pub missing_at_place : (es : List (K × X)) (m : FinMap R X) (k : K) (i : ℕ) → es ≡ entries m → position_of R k es ≡ Err i → get m k ≡ None
   missing_at_place es m k i e p =
       get-entries m k ∙ ap (find R k) (sym e) ∙ MatchResult-at_err (λ _. Unit {0}) (λ _. find R k es ≡ None) i p (find_missing R o k es (sorted_from_entries R es m e))
 
-  -- a new value at the place of a key
-  pub entries_set : (es : List (K × X)) (m : FinMap R X) (k : K) (v : X) (i : ℕ) (d : K × X) → es ≡ entries m → place_of R k es ≡ Ok i → set es i ((get_or es i d).0, v) ≡ entries (finite.insert m k v)
+  -- a new value at the position of a key
+  pub entries_set : (es : List (K × X)) (m : FinMap R X) (k : K) (v : X) (i : ℕ) (d : K × X) → es ≡ entries m → position_of R k es ≡ Ok i → set es i ((get_or es i d).0, v) ≡ entries (finite.insert m k v)
   entries_set es m k v i d e p = sym ((stands_at R k es i p).put_there v d) ∙ ap (put R k v) e ∙ sym (entries-insert o m k v)
 
-  -- a new entry where its key goes
-  pub entries_inserted : (es : List (K × X)) (m : FinMap R X) (k : K) (v : X) (i : ℕ) → es ≡ entries m → place_of R k es ≡ Err i → insert es i (k, v) ≡ entries (finite.insert m k v)
+  -- a new entry at its position of insertion
+  pub entries_inserted : (es : List (K × X)) (m : FinMap R X) (k : K) (v : X) (i : ℕ) → es ≡ entries m → position_of R k es ≡ Err i → insert es i (k, v) ≡ entries (finite.insert m k v)
   entries_inserted es m k v i e p = sym ((goes_at R k es i p).put_there v) ∙ ap (put R k v) e ∙ sym (entries-insert o m k v)
 
-  pub kept_removed : IsAntisymmetric R → (es : List (K × X)) (m : FinMap R X) (k : K) (i : ℕ) → es ≡ entries m → place_of R k es ≡ Ok i → from_sorted {R = R} (remove es i) ≡ finite.remove m k
+  pub kept_removed : IsAntisymmetric R → (es : List (K × X)) (m : FinMap R X) (k : K) (i : ℕ) → es ≡ entries m → position_of R k es ≡ Ok i → from_sorted {R = R} (remove es i) ≡ finite.remove m k
   kept_removed same es m k i e p =
       let sorted = sorted_from_entries R es m e in
       same_map o same _ _ (λ q. get-from_sorted R (remove es i) q (from_true _ (sorted_removed R es i sorted))
@@ -250,7 +250,7 @@ module _ {K X : Type 0} {R : K → K → Ordering} (o : IsTotalOrder R) where
       ∙ ap (cond (eq_by_cmp R q k) None) (sym (get-entries m q))
       ∙ sym (get-remove o m k q))
 
-  -- to remove a key that isn't there changes nothing
+  -- removing a missing key changes nothing
   pub removed_missing : IsAntisymmetric R → (m : FinMap R X) (k : K) → get m k ≡ None → m ≡ finite.remove m k
   removed_missing same m k none = same_map o same _ _ (λ q. unchanged q ∙ sym (get-remove o m k q))
     where

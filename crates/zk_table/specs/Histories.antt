@@ -1,4 +1,4 @@
--- A list of transactions, applied one after the other.
+-- Histories: lists of transactions, applied in order.
 use Rattle.std.specs.Prelude.{List, [], ◌∷◌}
 use Rattle.zk_txn.specs.declared.result.TxnResult.{TxnResult}
 use Rattle.zk_txn.specs.declared.txn.Txn.{Txn}
@@ -13,10 +13,10 @@ abbrev pub results_after : State → List Txn → List TxnResult
 results_after state [] = []
 results_after state (txn ∷ txns) = (step state txn).1 ∷ results_after (step state txn).0 txns
 
--- the tree that a list of transactions makes
+-- the state after a list of transactions
 abbrev pub tree_of : List Txn → State
 tree_of txns = state_after start_state txns
 
--- what they answered on the way
+-- their results
 abbrev pub results_of : List Txn → List TxnResult
 results_of txns = results_after start_state txns

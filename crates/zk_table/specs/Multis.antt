@@ -1,6 +1,7 @@
--- A transaction of several parts: `zookeeper.jute`, `MultiTxn`. The parts run in turn, and a refused part changes
--- nothing. Where the server refused a part, the log has an error in its place, and then no part is applied. What the
--- parts answer then, and that a refused part doesn't stop the others, is this project's own rule.
+-- A transaction of several parts: `zookeeper.jute`, `MultiTxn`. The parts are applied in order, and
+-- a rejected part changes nothing. If the server rejected a part, the log has an error in its
+-- place, and no part is applied. The results of the parts in that case are this project's own rule,
+-- and so is that a rejected part does not stop the others.
 use Rattle.std.specs.Prelude.{ℤ, pos, List, [], ◌∷◌, None, if◌then◌else◌}
 use Rattle.std.specs.List.{list_any}
 use Rattle.std.specs.Ordering.{int_eq}
@@ -17,7 +18,7 @@ use Rattle.zk_table.specs.States.{NodeMap, State}
 
 -- ---- parts that are applied
 
--- a part by its row; a check passes
+-- a part by the definition of its operation; a check passes
 abbrev pub apply_part : Txn → NodeMap → Sub → Done
 apply_part txn nodes (Create path content acl ephemeral count) = create nodes txn path content acl ephemeral count
 apply_part txn nodes (Delete path) = delete nodes txn path
@@ -35,7 +36,7 @@ answers_of txn nodes (part ∷ parts) = (apply_part txn nodes part).answer ∷ a
 
 -- ---- parts that are not applied
 
--- before the first error a part answers 0, and behind it that the state is not what the part was made for
+-- before the first error the result is 0; after it, runtime inconsistency
 abbrev pub answers_unapplied : ℤ → List Sub → List PartResult
 answers_unapplied code [] = []
 answers_unapplied code (part ∷ parts) =
@@ -43,7 +44,7 @@ answers_unapplied code (part ∷ parts) =
 
 -- ---- the transaction
 
--- the first answer that is a refusal, and 0 where there is none
+-- the code of the first part that was rejected; 0 without one
 abbrev pub first_refusal : List PartResult → ℤ
 first_refusal [] = pos 0
 first_refusal (answer ∷ answers) = if int_eq answer.err (pos 0) then first_refusal answers else answer.err

@@ -1,5 +1,6 @@
--- What the operations do to the nodes, and what they answer: `zookeeper.jute`, module `org.apache.zookeeper.txn`, as
--- the 3.4 server applies its log. A refused operation changes nothing.
+-- The effect of each operation on the nodes, and its result: `zookeeper.jute`, module
+-- `org.apache.zookeeper.txn`, as the 3.4 server applies its log. A rejected operation changes
+-- nothing.
 use Rattle.std.specs.Prelude.{ℕ, ℤ, pos, List, [], ◌∷◌, Bool, Option, Some, None, is_none, length, nat_lt, option_and_then, if◌then◌else◌}
 use Rattle.std.specs.Ordering.{int_eq}
 use Rattle.std.specs.FinMap.{get, insert, remove, contains_key}
@@ -16,17 +17,17 @@ use Rattle.zk_table.specs.States.{NodeMap, SessionMap, State, children_of, stat_
 
 -- ---- one operation on the nodes, alone or as a part of a multi
 
--- the nodes after it, and its answer
+-- the nodes afterwards, and the result
 pub record Done : Type 0 where
   pub nodes : NodeMap
   pub answer : PartResult
 
--- the old nodes where there is a reason to refuse, else the new ones and what is told of them
+-- with an error code, the old nodes; without one, the new nodes and the stat
 abbrev pub done_unless : Option ℤ → NodeMap → List ℕ → NodeMap → Option Stat → Done
 done_unless None old path new stat = record { nodes = new; answer = record { err = pos 0; path = Some path; stat = stat } }
 done_unless (Some code) old path new stat = record { nodes = old; answer = record { err = code; path = Some path; stat = None } }
 
--- why no node can be made below this one
+-- why no child can be created below this node
 abbrev pub parent_fault : Option Node → Option ℤ
 parent_fault None = Some no_node
 parent_fault (Some parent) = if int_eq parent.owner (pos 0) then None else Some no_children_for_ephemerals
@@ -39,7 +40,7 @@ create nodes txn path content acl ephemeral count =
     done_unless (create_fault nodes path) nodes path
     (parent_changed (insert nodes path (created txn content acl ephemeral)) path (with_child txn.zxid count)) None
 
--- a node goes, and its parent learns of it
+-- deletes a node and updates its parent
 abbrev pub without : Txn → NodeMap → List ℕ → NodeMap
 without txn nodes path = parent_changed (remove nodes path) path (without_child txn.zxid)
 
@@ -63,14 +64,14 @@ abbrev pub set_acl : NodeMap → List ℕ → List Acl → ℤ → Done
 set_acl nodes path acl version =
     let new = changed nodes path (guarded acl version) in done_unless (missing_fault nodes path) nodes path new (stat_at new path)
 
--- the nodes without those at these paths, which go in turn
+-- deletes the nodes at these paths in order
 abbrev pub without_all : Txn → NodeMap → List (List ℕ) → NodeMap
 without_all txn nodes [] = nodes
 without_all txn nodes (path ∷ paths) = without_all txn (without txn nodes path) paths
 
--- ---- what a transaction tells
+-- ---- the result of a transaction
 
--- the state after an operation that left these nodes and sessions, and the transaction's result
+-- the state with these nodes and sessions, and the transaction's result
 abbrev pub told : Txn → NodeMap → SessionMap → PartResult → List PartResult → State × TxnResult
 told txn nodes sessions answer parts =
     (record { nodes = nodes; sessions = sessions; last = txn.zxid }, record { zxid = txn.zxid; err = answer.err; path = answer.path; stat = answer.stat; parts = parts })

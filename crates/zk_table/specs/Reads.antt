@@ -1,4 +1,5 @@
--- What a read tells: ZooKeeper Programmer's Guide, "Data Access" and "ACL Permissions". A read changes nothing.
+-- Replies to reads: ZooKeeper Programmer's Guide, "Data Access" and "ACL Permissions". A read
+-- changes nothing.
 use Rattle.std.specs.Prelude.{ℕ, List, Option, Some, None, map}
 use Rattle.std.specs.FinMap.{get}
 use Rattle.zk_acl.specs.declared.acl.Id.{Id}
@@ -17,7 +18,8 @@ use Rattle.zk_table.specs.States.{NodeMap, State, children_of, stat_of}
 abbrev pub names_below : NodeMap → List ℕ → List (List ℕ)
 names_below nodes path = map name_of (children_of nodes path)
 
--- Of a node with this stat. That its access control list is told to everyone is this project's own rule.
+-- The reply for a node with this stat. That every caller may read its access control list is this
+-- project's own rule.
 abbrev pub told_of : NodeMap → List Id → Node → Stat → ReadCall → ReadReply
 told_of nodes auths node stat (GetData path) = if_readable node auths (Content node.content stat)
 told_of nodes auths node stat (Exists path) = Found stat
@@ -31,6 +33,6 @@ reply_found nodes call auths (Some node) = told_of nodes auths node (stat_of nod
 abbrev pub reply_from : NodeMap → ReadCall → List Id → ReadReply
 reply_from nodes call auths = reply_found nodes call auths (get nodes (path_read call))
 
--- the reply of a server in this state
+-- the reply in this state
 abbrev pub reply_to : State → ReadCall → List Id → ReadReply
 reply_to state call auths = reply_from state.nodes call auths

@@ -1,5 +1,6 @@
--- What each transaction does to a state, and what it answers: `zookeeper.jute`, module `org.apache.zookeeper.txn`, as
--- the 3.4 server applies its log. Each refusal changes nothing but the last zxid.
+-- The effect of each transaction on a state, and its result: `zookeeper.jute`, module
+-- `org.apache.zookeeper.txn`, as the 3.4 server applies its log. A rejected transaction changes
+-- nothing but the last zxid.
 use Rattle.std.specs.Prelude.{ℤ, pos, negsuc, []}
 use Rattle.std.specs.Int.{w64, cast_unsigned}
 use Rattle.std.specs.FinMap.{insert, remove}
@@ -13,15 +14,15 @@ use Rattle.zk_table.specs.Operations.{create, delete, set_data, set_acl, without
 use Rattle.zk_table.specs.States.{State, owned_by}
 pub use Rattle.zk_table.specs.Operations.{Done}
 
--- an operation on nodes leaves the sessions
+-- an operation on nodes leaves the sessions unchanged
 abbrev pub on_nodes : State → Txn → Done → State × TxnResult
 on_nodes state txn d = told txn d.nodes state.sessions d.answer []
 
--- a session that is open already gets the new timeout
+-- a session that is already open gets the new timeout
 abbrev pub open_session : State → Txn → ℤ → State × TxnResult
 open_session state txn timeout = told txn state.nodes (insert state.sessions (cast_unsigned w64 txn.session) timeout) (plain_answer (pos 0)) []
 
--- the nodes that the session owns go, and so does the session, if it is open
+-- deletes the nodes that the session owns, and removes the session if it is open
 abbrev pub close_session : State → Txn → State × TxnResult
 close_session state txn =
     told txn (without_all txn state.nodes (owned_by state.nodes txn.session)) (remove state.sessions (cast_unsigned w64 txn.session)) (plain_answer (pos 0)) []

@@ -1,7 +1,8 @@
-//! The tree's table: what each transaction does to the nodes and the sessions, what it answers, and what a read is told.
-//! Its transactions, answers, nodes and reads are those of `zk_txn`.
+//! The table: what each transaction does to the nodes and sessions, its result, and the replies to
+//! reads. The types of transactions, results, nodes and reads are those of `zk_txn`.
 //!
-//! ZooKeeper Programmer's Guide, "The ZooKeeper Data Model"; `zookeeper.jute`, module `org.apache.zookeeper.txn`.
+//! ZooKeeper Programmer's Guide, "The ZooKeeper Data Model"; `zookeeper.jute`, module
+//! `org.apache.zookeeper.txn`.
 #![tactic(auto)]
 
 mod multi;

@@ -1,4 +1,4 @@
-//! What the parts of a multi do, and what they answer.
+//! The parts of a multi: their effects and results.
 
 ghost use Rattle.std.specs.Prelude.{◌≡◌, OnOk, IfOk, pos, if◌then◌else◌};
 ghost use Rattle.std.specs.List.{list_any};
@@ -13,7 +13,7 @@ use zk_txn::codes::RUNTIME_INCONSISTENCY;
 use zk_txn::{PartResult, Sub, Txn};
 
 impl Nodes {
-    /// Applies the parts in turn. After [`NoMemory`] some of them may be applied.
+    /// Applies the parts in order. After [`NoMemory`] some of them may be applied.
     pub(crate) fn apply_parts(
         &mut self,
         txn: &Txn,
@@ -30,7 +30,6 @@ impl Nodes {
         Ok(answers)
     }
 
-    /// Applies one part.
     fn apply_part(&mut self, txn: &Txn, part: &Sub) -> Result<PartResult, NoMemory>
         ensures { IfOk result (λ answer. apply_part txn.now self.old part.now ≡ record { nodes = self.new; answer = answer }) }
     {
@@ -54,14 +53,14 @@ impl Nodes {
     }
 }
 
-/// Whether a part is an error, so that none is applied.
+/// Whether a part is an error, which means that none is applied.
 pub fn hold_error(parts: &[Sub]) -> bool
     ensures { result ≡ list_any is_error parts.now }
 {
     parts.iter().any(|part| part.is_error())
 }
 
-/// What parts answer that are not applied, of which one is an error.
+/// The results of parts of which none is applied, because one is an error.
 pub fn answers_unapplied(alloc: Global, parts: &[Sub]) -> Result<Vec<PartResult>, NoMemory>
     ensures { IfOk result (λ answers. answers.items ≡ answers_unapplied (pos 0) parts.now) }
 {
@@ -74,7 +73,7 @@ pub fn answers_unapplied(alloc: Global, parts: &[Sub]) -> Result<Vec<PartResult>
     Ok(answers)
 }
 
-/// What parts answer behind this one, where those before it answer this code.
+/// The code for the parts after this one, given the code for those before it.
 fn code_behind(part: &Sub, code: i32) -> i32
     ensures { result ≡ (if is_error part.now then runtime_inconsistency else code) }
 {
@@ -85,7 +84,7 @@ fn code_behind(part: &Sub, code: i32) -> i32
     }
 }
 
-/// The first answer that is a refusal, and 0 where there is none.
+/// The code of the first part that was rejected; 0 without one.
 pub fn first_refusal(answers: &[PartResult]) -> i32
     ensures { result ≡ first_refusal answers.now }
 {

@@ -2,7 +2,7 @@ ghost use Rattle.std.specs.Prelude.{◌≡◌, ◌<◌, ◌≤◌, length, Match
 ghost use Rattle.std.specs.FinMap as finite;
 ghost use Rattle.std.specs.Option.{option_copied};
 ghost use Rattle.zk_txn.specs.Nodes.{first_node, with_child, without_child, written, guarded};
-ghost use Rattle.zk_table.specs.Places.{place_of};
+ghost use Rattle.zk_table.specs.Places.{position_of};
 ghost use Rattle.zk_table.specs.States.{path_cmp, is_child_of, children_of, owned_by, changed};
 
 use std::alloc::Global;
@@ -12,7 +12,7 @@ use zk_acl::Acls;
 use zk_path::{NoMemory, Path};
 use zk_txn::{Content, Node, Txn};
 
-/// Nodes by their paths: a list in the paths' order.
+/// Nodes by path: a list sorted by path.
 #[derive(Debug, Drop)]
 pub(crate) struct Nodes {
     entries: Vec<(Path, Node)>,
@@ -34,9 +34,9 @@ impl Model for Nodes {
     ghost invariant = { λ nodes. IsTrue (finite.is_sorted path_cmp nodes.entries.items) };
 }
 
-/// Where a path stands, or else where it would go.
-fn place_of(entries: &[(Path, Node)], path: &str) -> Result<usize, usize>
-    ensures place { result ≡ place_of path_cmp path.now entries.now }
+/// The position of a path, or else the position at which to insert it.
+fn position_of(entries: &[(Path, Node)], path: &str) -> Result<usize, usize>
+    ensures place { result ≡ position_of path_cmp path.now entries.now }
     ensures within { MatchResult result (λ at. at < length entries.now) (λ at. at ≤ length entries.now) }
 {
     let mut at = 0;
@@ -50,14 +50,14 @@ fn place_of(entries: &[(Path, Node)], path: &str) -> Result<usize, usize>
     Err(at)
 }
 
-/// Whether the first path is that of a child of the second.
+/// Whether `path` is a child of `parent`.
 pub(crate) fn is_child_of(path: &Path, parent: &str) -> bool
     ensures { result ≡ is_child_of parent.now path.now }
 {
     path.parent().is_some_and(|above| above == parent)
 }
 
-/// The path of a text that is one, so that it is refused for want of memory alone.
+/// Parses a text that is a path: the only error is an allocation failure.
 fn fixed_path(alloc: Global, text: &str) -> Result<Path, NoMemory>
     ensures { IfOk result (λ path. path ≡ text.now) }
 {
@@ -65,7 +65,6 @@ fn fixed_path(alloc: Global, text: &str) -> Result<Path, NoMemory>
 }
 
 impl Nodes {
-    /// No node.
     pub(crate) fn new(alloc: Global) -> Nodes
         ensures { result ≡ finite.empty }
     {
@@ -74,7 +73,6 @@ impl Nodes {
         }
     }
 
-    /// The same nodes once more.
     pub(crate) fn copy(&self) -> Result<Nodes, NoMemory>
         ensures { IfOk result (λ copy. copy ≡ self.now) }
     {
@@ -87,29 +85,27 @@ impl Nodes {
         Ok(Nodes { entries })
     }
 
-    /// The memory that the nodes stand in.
+    /// The allocator of the nodes.
     pub(crate) fn allocator(&self) -> Global {
         *self.entries.allocator()
     }
 
-    /// The paths and their nodes, in order.
     pub(crate) fn as_slice(&self) -> &[(Path, Node)]
         ensures { result.now ≡ finite.entries self.now }
     {
         self.entries.as_slice()
     }
 
-    /// The node at a path.
     pub(crate) fn get(&self, path: &str) -> Option<&Node>
         ensures { option_copied result ≡ finite.get self.now path.now }
     {
-        match place_of(&self.entries, path) {
+        match position_of(&self.entries, path) {
             Ok(at) => Some(&self.entries[at].1),
             Err(_) => None,
         }
     }
 
-    /// How many children a path has.
+    /// The number of children of the node at a path.
     pub(crate) fn child_count(&self, path: &str) -> usize
         ensures { result ≡ length (children_of self.now path.now) }
     {
@@ -138,19 +134,19 @@ impl Nodes {
         Ok(paths)
     }
 
-    /// Puts a node at a path, in place of the one that stands there. After [`NoMemory`] nothing is changed.
+    /// Puts a node at a path and replaces an existing one. After [`NoMemory`] nothing is changed.
     pub(crate) fn insert(&mut self, path: Path, node: Node) -> Result<(), NoMemory>
         ensures inserted { OnOk result (self.new ≡ finite.insert self.old path node) }
         ensures unchanged { OnErr result (self.new ≡ self.old) }
     {
-        match place_of(&self.entries, path.text()) {
+        match position_of(&self.entries, path.text()) {
             Ok(at) => self.entries[at].1 = node,
             Err(at) => self.entries.insert(at, (path, node))?,
         }
         Ok(())
     }
 
-    /// Puts a node at a path that stands there before any transaction.
+    /// Puts a node that exists before any transaction.
     pub(crate) fn plant(&mut self, text: &str) -> Result<(), NoMemory>
         ensures { OnOk result (self.new ≡ finite.insert self.old text.now first_node) }
     {
@@ -159,30 +155,30 @@ impl Nodes {
         self.insert(path, node)
     }
 
-    /// Takes the node at a path away, where there is one.
+    /// Removes the node at a path, if there is one.
     pub(crate) fn remove(&mut self, path: &str)
         ensures { self.new ≡ finite.remove self.old path.now }
     {
-        if let Ok(at) = place_of(&self.entries, path) {
+        if let Ok(at) = position_of(&self.entries, path) {
             self.entries.remove(at);
         }
     }
 
-    /// Counts a child that the node at a path got.
+    /// Counts a created child of the node at a path.
     pub(crate) fn add_child(&mut self, path: &str, zxid: i64, count: i32)
         ensures { self.new ≡ changed self.old path.now (with_child zxid count) }
     {
-        if let Ok(at) = place_of(&self.entries, path) {
+        if let Ok(at) = position_of(&self.entries, path) {
             let (_, node) = &mut self.entries[at];
             node.add_child(zxid, count);
         }
     }
 
-    /// Notes that the node at a path lost a child.
+    /// Records that a child of the node at a path was deleted.
     pub(crate) fn lose_child(&mut self, path: &str, zxid: i64)
         ensures { self.new ≡ changed self.old path.now (without_child zxid) }
     {
-        if let Ok(at) = place_of(&self.entries, path) {
+        if let Ok(at) = position_of(&self.entries, path) {
             let (_, node) = &mut self.entries[at];
             node.lose_child(zxid);
         }
@@ -192,7 +188,7 @@ impl Nodes {
     pub(crate) fn write(&mut self, path: &str, txn: &Txn, content: Option<Content>, version: i32)
         ensures { self.new ≡ changed self.old path.now (written txn.now content version) }
     {
-        if let Ok(at) = place_of(&self.entries, path) {
+        if let Ok(at) = position_of(&self.entries, path) {
             let (_, node) = &mut self.entries[at];
             node.write(txn, content, version);
         }
@@ -202,7 +198,7 @@ impl Nodes {
     pub(crate) fn guard(&mut self, path: &str, acl: Acls, version: i32)
         ensures { self.new ≡ changed self.old path.now (guarded acl version) }
     {
-        if let Ok(at) = place_of(&self.entries, path) {
+        if let Ok(at) = position_of(&self.entries, path) {
             let (_, node) = &mut self.entries[at];
             node.guard(acl, version);
         }

@@ -1,4 +1,4 @@
-//! What each operation does to the nodes, alone or as a part of a multi.
+//! The effect of each operation on the nodes, alone or as a part of a multi.
 
 ghost use Rattle.std.specs.Prelude.{◌≡◌, IfOk, OnErr, OnOk};
 ghost use Rattle.zk_txn.specs.Nodes.{with_child, without_child};
@@ -12,7 +12,7 @@ use zk_txn::codes::{BAD_ARGUMENTS, NO_CHILDREN_FOR_EPHEMERALS, NO_NODE, NODE_EXI
 use zk_txn::{Content, Node, PartResult, Txn};
 
 impl Nodes {
-    /// Makes a node. After [`NoMemory`] nothing is changed.
+    /// Creates a node. After [`NoMemory`] nothing is changed.
     pub(crate) fn create(
         &mut self,
         txn: &Txn,
@@ -35,7 +35,7 @@ impl Nodes {
         Ok(PartResult::done(told, None))
     }
 
-    /// Removes a node that has no children. After [`NoMemory`] nothing is changed.
+    /// Deletes a node without children. After [`NoMemory`] nothing is changed.
     pub(crate) fn delete(&mut self, txn: &Txn, path: &Path) -> Result<PartResult, NoMemory>
         ensures done { IfOk result (λ answer. delete self.old txn.now path.now ≡ record { nodes = self.new; answer = answer }) }
         ensures unchanged { OnErr result (self.new ≡ self.old) }
@@ -48,7 +48,7 @@ impl Nodes {
         Ok(PartResult::done(told, None))
     }
 
-    /// Removes the nodes at these paths in turn.
+    /// Deletes the nodes at these paths in order.
     pub(crate) fn take_all_away(&mut self, txn: &Txn, paths: &[Path])
         ensures { self.new ≡ without_all txn.now self.old paths.now }
     {
@@ -57,7 +57,7 @@ impl Nodes {
         }
     }
 
-    /// Removes a node, of which its parent learns.
+    /// Deletes a node and updates its parent.
     fn take_away(&mut self, txn: &Txn, path: &Path)
         ensures { self.new ≡ without txn.now self.old path.now }
     {
@@ -86,7 +86,8 @@ impl Nodes {
         Ok(PartResult::done(told, stat))
     }
 
-    /// Sets a node's access control list and the list's version. After [`NoMemory`] nothing is changed.
+    /// Sets a node's access control list and the list's version. After [`NoMemory`] nothing is
+    /// changed.
     pub(crate) fn set_acl(
         &mut self,
         path: &Path,
@@ -106,7 +107,8 @@ impl Nodes {
         Ok(PartResult::done(told, stat))
     }
 
-    /// Sets a node's content and its version, where there is such a node. After [`NoMemory`] nothing is changed.
+    /// Sets a node's content and its version, if the node exists. After [`NoMemory`] nothing is
+    /// changed.
     pub(crate) fn put_data(
         &mut self,
         txn: &Txn,
@@ -125,8 +127,8 @@ impl Nodes {
         Ok(())
     }
 
-    /// Sets a node's access control list and the list's version, where there is such a node. After [`NoMemory`] nothing is
-    /// changed.
+    /// Sets a node's access control list and the list's version, if the node exists. After
+    /// [`NoMemory`] nothing is changed.
     pub(crate) fn put_acl(&mut self, path: &Path, acl: &Acls, version: i32) -> Result<(), NoMemory>
         ensures done { OnOk result (self.new ≡ (set_acl self.old path.now acl.now version).nodes) }
         ensures unchanged { OnErr result (self.new ≡ self.old) }
@@ -139,7 +141,7 @@ impl Nodes {
         Ok(())
     }
 
-    /// Why a node can't be made at a path.
+    /// The error code of a create at a path; `None` if it can be applied.
     fn create_fault(&self, path: &Path) -> Option<i32>
         ensures { result ≡ create_fault self.now path.now }
     {
@@ -159,7 +161,7 @@ impl Nodes {
         }
     }
 
-    /// Why the node at a path can't be removed.
+    /// The error code of a delete of the node at a path; `None` if it can be applied.
     fn delete_fault(&self, path: &Path) -> Option<i32>
         ensures { result ≡ delete_fault self.now path.now }
     {
@@ -176,7 +178,7 @@ impl Nodes {
         }
     }
 
-    /// Why nothing can be set at a path.
+    /// The error code of a change of the node at a path; `None` if the node exists.
     fn missing_fault(&self, path: &Path) -> Option<i32>
         ensures { result ≡ missing_fault self.now path.now }
     {
@@ -187,7 +189,7 @@ impl Nodes {
         }
     }
 
-    /// Counts a new child of the parent of a path.
+    /// Counts a created child of the parent of a path.
     fn parent_gains(&mut self, path: &Path, zxid: i64, count: i32)
         ensures { self.new ≡ parent_changed self.old path.now (with_child zxid count) }
     {
@@ -196,7 +198,7 @@ impl Nodes {
         }
     }
 
-    /// Notes that the parent of a path lost a child.
+    /// Records that a child of the parent of a path was deleted.
     fn parent_loses(&mut self, path: &Path, zxid: i64)
         ensures { self.new ≡ parent_changed self.old path.now (without_child zxid) }
     {
@@ -212,7 +214,7 @@ impl Nodes {
         self.get(path).map(|node| self.stat_of(path, node))
     }
 
-    /// The stat that a node has at a path.
+    /// The stat of `node` at `path`.
     pub(crate) fn stat_of(&self, path: &str, node: &Node) -> Stat
         ensures { result ≡ stat_of self.now path.now node.now }
     {

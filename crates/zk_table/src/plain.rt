@@ -16,7 +16,7 @@ use zk_acl::{Id, Stat};
 use zk_path::{NoMemory, Path};
 use zk_txn::{Node, Op, PartResult, PartResults, ReadCall, ReadReply, Sub, Txn, TxnResult};
 
-/// The table by the plainest means: a list of nodes and a list of sessions.
+/// The reference implementation of the table: a list of nodes and a list of sessions.
 #[derive(Debug)]
 pub struct Plain {
     nodes: Nodes,
@@ -24,7 +24,6 @@ pub struct Plain {
     last: i64,
 }
 
-// (by hand, and so proved once: a derived one is proved wherever a value may be dropped)
 impl Drop for Plain {
     fn drop(self) {
         let Plain {
@@ -47,7 +46,8 @@ impl Model for Plain {
 }
 
 impl Plain {
-    /// The start state: the root, `/zookeeper` and `/zookeeper/quota`, no session, and no transaction.
+    /// The start state: the root, `/zookeeper` and `/zookeeper/quota`, no session, and no
+    /// transaction.
     pub fn new(alloc: Global) -> Result<Plain, NoMemory>
         ensures { IfOk result (λ plain. plain ≡ start_state) }
     {
@@ -66,7 +66,7 @@ impl Plain {
     pub fn apply(&mut self, txn: &Txn) -> Result<TxnResult, NoMemory>
         ensures step { IfOk result (λ answer. (self.new, answer) ≡ step self.old txn.now) }
         ensures unchanged { OnErr result (self.new ≡ self.old) }
-        // An error takes no memory.
+        // An error needs no memory.
         ensures error { (code : ℤ) → txn.now.op ≡ ops.Error code → IsOk result }
     {
         let answer = match &txn.op {
@@ -100,7 +100,7 @@ impl Plain {
         Ok(self.told(txn, answer))
     }
 
-    /// Applies a transaction, and tells no answer: for those who only keep the table. After [`NoMemory`] nothing is changed.
+    /// Applies a transaction without returning its result. After [`NoMemory`] nothing is changed.
     pub fn absorb(&mut self, txn: &Txn) -> Result<(), NoMemory>
         ensures step { OnOk result (self.new ≡ (step self.old txn.now).0) }
         ensures unchanged { OnErr result (self.new ≡ self.old) }
@@ -118,7 +118,7 @@ impl Plain {
         Ok(())
     }
 
-    /// The same of any transaction. After [`NoMemory`] nothing is changed.
+    /// Applies any transaction without returning its result. After [`NoMemory`] nothing is changed.
     fn apply_untold(&mut self, txn: &Txn) -> Result<(), NoMemory>
         ensures step { OnOk result (self.new ≡ (step self.old txn.now).0) }
         ensures unchanged { OnErr result (self.new ≡ self.old) }
@@ -136,7 +136,8 @@ impl Plain {
         Ok(self.told(txn, PartResult::plain(0)))
     }
 
-    /// Closes the session of a transaction; the nodes that it owns go. After [`NoMemory`] nothing is changed.
+    /// Closes the session of a transaction and deletes the nodes that it owns. After [`NoMemory`]
+    /// nothing is changed.
     fn close_session(&mut self, txn: &Txn) -> Result<TxnResult, NoMemory>
         ensures closed { IfOk result (λ answer. (self.new, answer) ≡ close_session self.old txn.now) }
         ensures unchanged { OnErr result (self.new ≡ self.old) }
@@ -147,7 +148,7 @@ impl Plain {
         Ok(self.told(txn, PartResult::plain(0)))
     }
 
-    /// Applies the parts of a transaction in turn, or none. After [`NoMemory`] nothing is changed.
+    /// Applies the parts of a transaction in order, or none. After [`NoMemory`] nothing is changed.
     fn multi(&mut self, txn: &Txn, parts: &[Sub]) -> Result<TxnResult, NoMemory>
         ensures applied { IfOk result (λ answer. (self.new, answer) ≡ multi self.old txn.now parts.now) }
         ensures unchanged { OnErr result (self.new ≡ self.old) }
@@ -157,7 +158,7 @@ impl Plain {
             let err = first_refusal(&answers);
             return Ok(self.told_parts(txn, PartResult::plain(err), answers));
         }
-        // a copy, since memory may be refused when some parts are applied
+        // on a copy: an allocation can fail after some parts are applied
         let mut nodes = self.nodes.copy()?;
         let answers = nodes.apply_parts(txn, parts)?;
         let err = first_refusal(&answers);
@@ -165,7 +166,7 @@ impl Plain {
         Ok(self.told_parts(txn, PartResult::plain(err), answers))
     }
 
-    /// Notes a transaction that changed the nodes and sessions, and tells its answer.
+    /// Records the transaction as the last one, and returns its result.
     fn told(&mut self, txn: &Txn, answer: PartResult) -> TxnResult
         ensures { (self.new, result) ≡ told txn.now self.old.nodes self.old.sessions answer [] }
     {
@@ -173,7 +174,7 @@ impl Plain {
         self.told_parts(txn, answer, parts)
     }
 
-    /// The same of a transaction that has parts.
+    /// Records a multi as the last transaction, and returns its result.
     fn told_parts(&mut self, txn: &Txn, answer: PartResult, parts: Vec<PartResult>) -> TxnResult
         ensures { (self.new, result) ≡ told txn.now self.old.nodes self.old.sessions answer parts.items }
     {
@@ -187,36 +188,35 @@ impl Plain {
         }
     }
 
-    /// What a caller is told who has proved these identities.
+    /// The reply to a read by a caller who has proved `auths`.
     pub fn read(&self, call: &ReadCall, auths: &[Id]) -> Result<ReadReply, NoMemory>
         ensures { IfOk result (λ reply. reply ≡ reply_to self.now call.now auths.now) }
     {
         self.nodes.read(call, auths)
     }
 
-    /// What a client is told of a node at a path.
+    /// The stat of `node` at `path`.
     pub fn stat(&self, path: &Path, node: &Node) -> Stat
         ensures { result ≡ stat_of self.now.nodes path.now node.now }
     {
         self.nodes.stat_of(path.text(), node)
     }
 
-    /// The last transaction, and 0 before the first.
+    /// The zxid of the last transaction; 0 before the first.
     pub fn last(&self) -> i64
         ensures { result ≡ self.now.last }
     {
         self.last
     }
 
-    /// The paths and their nodes, in order.
     pub fn nodes(&self) -> &[(Path, Node)]
         ensures { result.now ≡ finite.entries self.now.nodes }
     {
         self.nodes.as_slice()
     }
 
-    /// The open sessions, by the unsigned number that their sixteen digits spell, and their timeouts in milliseconds,
-    /// in order.
+    /// The open sessions and their timeouts in milliseconds. They are sorted by the unsigned number
+    /// that a session's sixteen hexadecimal digits show.
     pub fn sessions(&self) -> &[(u64, i32)]
         ensures { result.now ≡ finite.entries self.now.sessions }
     {

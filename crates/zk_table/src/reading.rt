@@ -1,4 +1,4 @@
-//! What reads tell.
+//! Replies to reads.
 
 ghost use Rattle.std.specs.Prelude.{◌≡◌, IfOk};
 ghost use Rattle.zk_txn.specs.declared.read.ReadReply.TheVariants as replies;
@@ -12,7 +12,6 @@ use zk_txn::codes::{NO_AUTH, NO_NODE};
 use zk_txn::{Names, Node, ReadCall, ReadReply};
 
 impl Nodes {
-    /// What a read is told.
     pub(crate) fn read(&self, call: &ReadCall, auths: &[Id]) -> Result<ReadReply, NoMemory>
         ensures { IfOk result (λ reply. reply ≡ reply_from self.now call.now auths.now) }
     {
@@ -29,7 +28,7 @@ impl Nodes {
         }
     }
 
-    /// What a read of the names of a node's children is told.
+    /// The reply to a read of the names of a node's children.
     fn children_reply(
         &self,
         path: &Path,

@@ -2,14 +2,14 @@ ghost use Rattle.std.specs.Prelude.{◌≡◌, ◌<◌, ◌≤◌, length, Match
 ghost use Rattle.std.specs.FinMap as finite;
 ghost use Rattle.std.specs.Int.{w64, cast_unsigned};
 ghost use Rattle.std.specs.Ordering.{nat_cmp};
-ghost use Rattle.zk_table.specs.Places.{place_of};
+ghost use Rattle.zk_table.specs.Places.{position_of};
 
 use std::alloc::Global;
 use std::cmp::Ordering;
 use std::marker::Model;
 use zk_path::NoMemory;
 
-/// The open sessions with their timeouts: a list in the order of the sessions' unsigned numbers.
+/// The open sessions with their timeouts: a list sorted by the sessions' unsigned numbers.
 #[derive(Debug, Drop)]
 pub(crate) struct Sessions {
     entries: Vec<(u64, i32)>,
@@ -31,9 +31,9 @@ impl Model for Sessions {
     ghost invariant = { λ sessions. IsTrue (finite.is_sorted nat_cmp sessions.entries.items) };
 }
 
-/// Where a session stands, or else where it would go.
-fn place_of(entries: &[(u64, i32)], number: u64) -> Result<usize, usize>
-    ensures place { result ≡ place_of nat_cmp number entries.now }
+/// The position of a session, or else the position at which to insert it.
+fn position_of(entries: &[(u64, i32)], number: u64) -> Result<usize, usize>
+    ensures place { result ≡ position_of nat_cmp number entries.now }
     ensures within { MatchResult result (λ at. at < length entries.now) (λ at. at ≤ length entries.now) }
 {
     let mut at = 0;
@@ -48,7 +48,6 @@ fn place_of(entries: &[(u64, i32)], number: u64) -> Result<usize, usize>
 }
 
 impl Sessions {
-    /// No session.
     pub(crate) fn new(alloc: Global) -> Sessions
         ensures { result ≡ finite.empty }
     {
@@ -64,24 +63,24 @@ impl Sessions {
         self.entries.as_slice()
     }
 
-    /// Opens a session, or gives one that is open a new timeout. After [`NoMemory`] nothing is changed.
+    /// Opens a session, or sets the timeout of an open one. After [`NoMemory`] nothing is changed.
     pub(crate) fn open(&mut self, session: i64, timeout: i32) -> Result<(), NoMemory>
         ensures opened { OnOk result (self.new ≡ finite.insert self.old (cast_unsigned w64 session) timeout) }
         ensures unchanged { OnErr result (self.new ≡ self.old) }
     {
         let number = session.cast_unsigned();
-        match place_of(&self.entries, number) {
+        match position_of(&self.entries, number) {
             Ok(at) => self.entries[at].1 = timeout,
             Err(at) => self.entries.insert(at, (number, timeout))?,
         }
         Ok(())
     }
 
-    /// Closes a session, if it is open.
+    /// Closes a session if it is open.
     pub(crate) fn close(&mut self, session: i64)
         ensures { self.new ≡ finite.remove self.old (cast_unsigned w64 session) }
     {
-        if let Ok(at) = place_of(&self.entries, session.cast_unsigned()) {
+        if let Ok(at) = position_of(&self.entries, session.cast_unsigned()) {
             self.entries.remove(at);
         }
     }

@@ -1,4 +1,4 @@
--- Nodes below one another: what a change of one slot does to all.
+-- The effect of a change of one slot on all.
 use Rattle.std.proofs.Common.{◌≡◌, ℕ, Bool, true, false, cond, not, ◌||◌, ◌&&◌, List, [], ◌∷◌, map, length, unwrap_or, Option, Some, None, is_some, refl, sym, ap, subst, ◌∙◌}
 use Rattle.std.proofs.lemmas.Bool.{false≢true}
 use Rattle.std.proofs.lemmas.Cmp.{nat_list_cmp_total}
@@ -59,7 +59,7 @@ slot_there m q there = found_slot _ (sym (contains_key-nodes_of m q) ∙ there)
 unlike : (q k : List ℕ) → eq_by_cmp path_cmp q k ≡ false → k ≡ q → ⊥
 unlike q k e is = false≢true (sym e ∙ ap (eq_by_cmp path_cmp q) is ∙ same_itself q)
 
--- a child's parent, by what the test says
+-- a child's parent, by the test
 pub child_parent : (p q : List ℕ) → is_child_of p q ≡ true → parent_of q ≡ Some p
 child_parent p q e = of_parent (parent_of q) e
   where
@@ -120,7 +120,7 @@ module _ (m : SlotMap) (path above : List ℕ) (parent : Slot) (node : Node) (tr
   abbrev put : SlotMap
   put = finite.insert told path (new_slot path node)
 
-  -- what stands above is there, and the path is not
+  -- the parent's path has a node, and the new path does not
   above_there : (q : List ℕ) → q ≡ above → finite.get m q ≡ Some parent
   above_there q e = ap (finite.get m) e ∙ there
 
@@ -210,7 +210,7 @@ module _ (m : SlotMap) (path above : List ℕ) (parent : Slot) (node : Node) (tr
     parents = λ q p k e. keys-put p ∙ or_right (eq_by_cmp path_cmp p path) _ (parents_put q p (sym (keys-put q) ∙ k) e);
   }
 
-  -- ---- the parent that was told, and the node that had no room
+  -- ---- the changed parent, and the node for which an allocation failed
 
   not_yet : finite.contains_key parent.children path ≡ false
   not_yet = tree.children above parent there path ∙ ap (λ b. is_child_of above path && b) (ap is_some free) ∙ and_false _
@@ -241,7 +241,7 @@ module _ (m : SlotMap) (path above : List ℕ) (parent : Slot) (node : Node) (tr
       sym (changed_slot told above (without_child path) (with_child path parent) parent told_there (ap (λ s. record parent { children = s }) (sym same_children)))
       ∙ finite.same_map nat_list_cmp_total path_cmp-IsAntisymmetric _ _ twice
 
--- ---- the steps of putting a node below another
+-- ---- the steps of putting a node below its parent
 
 module _ (m : SlotMap) (path above : List ℕ) (tree : IsBranching m) (free : finite.get (nodes_of m) path ≡ None) (below : Some above ≡ parent_of path) (there : finite.contains_key (nodes_of m) above ≡ true) (child : List ℕ) (same : child ≡ path) (s : SlotMap) (is : s ≡ slot_changed m above (with_child child)) where
   parent_slot : (p : Slot) × (finite.get m above ≡ Some p)
@@ -276,7 +276,7 @@ nobody m tree p none q =
       | false ↦ λ c. refl
     ] refl
 
--- ---- another node in the place of one
+-- ---- replacing a node
 
 module _ (m : SlotMap) (path : List ℕ) (slot : Slot) (node : Node) (tree : IsBranching m) (there : finite.get m path ≡ Some slot) where
   abbrev turned : SlotMap
@@ -304,7 +304,7 @@ module _ (m : SlotMap) (path : List ℕ) (slot : Slot) (node : Node) (tree : IsB
   keys-turned : (q : List ℕ) → finite.contains_key turned q ≡ finite.contains_key m q
   keys-turned q = ap is_some (get-turned q) ∙ some_turned q
 
-  -- what the slots keep beside their nodes is as before
+  -- the rest of each slot is unchanged
   same_turned : {A : Type 0} (part : Slot → A) → part (with_node node slot) ≡ part slot → (p : List ℕ) (s : Slot) → cond (eq_by_cmp path_cmp p path) (Some (with_node node slot)) (finite.get m p) ≡ Some s → (t : Slot) × (finite.get m p ≡ Some t) × (part s ≡ part t)
   same_turned {A} part same p s is =
       elim (eq_by_cmp path_cmp p path) as (λ b. eq_by_cmp path_cmp p path ≡ b → cond b (Some (with_node node slot)) (finite.get m p) ≡ Some s → (t : Slot) × (finite.get m p ≡ Some t) × (part s ≡ part t)) [
@@ -340,7 +340,7 @@ module _ (m : SlotMap) (path : List ℕ) (node : Node) (tree : IsBranching m) (t
   pub nodes_changed : nodes_of t ≡ finite.insert (nodes_of m) path node
   nodes_changed = ap nodes_of is_turned ∙ nodes-turned m path old_slot.0 node tree old_slot.1
 
--- ---- a node that goes
+-- ---- deleting a node
 
 module _ (m : SlotMap) (path above : List ℕ) (slot parent : Slot) (tree : IsBranching m) (here : finite.get m path ≡ Some slot) (below : parent_of path ≡ Some above) (there : finite.get m above ≡ Some parent) (childless : (q : List ℕ) → (is_child_of path q && finite.contains_key m q) ≡ false) where
   abbrev left : SlotMap
@@ -352,7 +352,7 @@ module _ (m : SlotMap) (path above : List ℕ) (slot parent : Slot) (tree : IsBr
   parent_at : (q : List ℕ) → q ≡ above → finite.get m q ≡ Some parent
   parent_at q e = ap (finite.get m) e ∙ there
 
-  -- nobody stands below what goes
+  -- the deleted node has no child
   no_child_there : (q : List ℕ) → parent_of q ≡ Some path → finite.contains_key m q ≡ true → ⊥
   no_child_there q e k = false≢true (sym (childless q) ∙ ap (λ b. b && finite.contains_key m q) (is_child path q e) ∙ k)
 
@@ -369,7 +369,7 @@ module _ (m : SlotMap) (path above : List ℕ) (slot parent : Slot) (tree : IsBr
   get-rest : (q : List ℕ) → finite.get rest q ≡ cond (eq_by_cmp path_cmp q path) None (cond (eq_by_cmp path_cmp q above) (Some (without_child path parent)) (finite.get m q))
   get-rest q = finite.get-remove nat_list_cmp_total left path q ∙ ap (cond (eq_by_cmp path_cmp q path) None) (finite.get-insert nat_list_cmp_total m above (without_child path parent) q)
 
-  -- what is read of a slot beside its children
+  -- a part of a slot besides its children
   read_rest : {A : Type 0} (read : Option Slot → A) → read (Some (without_child path parent)) ≡ read (Some parent) → (q : List ℕ) → read (cond (eq_by_cmp path_cmp q path) None (cond (eq_by_cmp path_cmp q above) (Some (without_child path parent)) (finite.get m q))) ≡ cond (eq_by_cmp path_cmp q path) (read None) (read (finite.get m q))
   read_rest read same q =
       elim (eq_by_cmp path_cmp q path) as (λ b. read (cond b None (cond (eq_by_cmp path_cmp q above) (Some (without_child path parent)) (finite.get m q))) ≡ cond b (read None) (read (finite.get m q))) [
@@ -459,7 +459,7 @@ module _ (m : SlotMap) (path above : List ℕ) (tree : IsBranching m) (here : fi
     pub nodes_taken : nodes_of t ≡ finite.remove (nodes_of m) path
     nodes_taken = ap nodes_of is_rest ∙ nodes-rest m path above own_slot.0 above_slot.0 tree own_slot.1 (sym below) above_slot.1 childless_slot
 
--- ---- one node, which stands below none
+-- ---- a single node without parent
 
 module _ (root : List ℕ) (node : Node) (highest : parent_of root ≡ None) where
   abbrev alone : SlotMap
@@ -479,7 +479,7 @@ module _ (root : List ℕ) (node : Node) (highest : parent_of root ≡ None) whe
       ∙ ap (cond (eq_by_cmp path_cmp q root) (Some node)) (sym (finite.get-empty path_cmp q))
       ∙ sym (finite.get-insert nat_list_cmp_total finite.empty root node q))
 
-  -- what is there is the root
+  -- the only node is the root
   is_alone : (q : List ℕ) (s : Slot) → cond (eq_by_cmp path_cmp q root) (Some (new_slot root node)) None ≡ Some s → (q ≡ root) × (s ≡ new_slot root node)
   is_alone q s is =
       elim (eq_by_cmp path_cmp q root) as (λ b. eq_by_cmp path_cmp q root ≡ b → cond b (Some (new_slot root node)) None ≡ Some s → (q ≡ root) × (s ≡ new_slot root node)) [
@@ -507,7 +507,7 @@ module _ (root : List ℕ) (node : Node) (highest : parent_of root ≡ None) whe
     parents = λ q p k e. let found = found_slot (finite.get alone q) k in absurd (none_not_some (ap parent_of (alone_there q found.0 found.1).0 ∙ highest) e);
   }
 
--- ---- the paths that slots keep
+-- ---- the paths in slots
 
 pub kept_paths : (m : SlotMap) (set : PathKeys) → IsBranching m → ((q : List ℕ) → finite.contains_key set q ≡ true → finite.contains_key m q ≡ true) → AreKept m set
 kept_paths m set tree there = record { kept = λ q k. let found = found_slot (finite.get m q) (there q k) in ap (option_map (λ s. s.path)) found.1 ∙ ap Some (tree.keyed.paths q found.0 found.1) }

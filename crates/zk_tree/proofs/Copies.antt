@@ -1,4 +1,4 @@
--- Containers and their clones stand for the same.
+-- Containers and their clones have the same models.
 use Rattle.std.proofs.Common.{◌≡◌, ℕ, List, [], ◌∷◌, map, String, refl, ap, ap₂}
 use Rattle.std.specs.FinMap as finite
 use Rattle.std.specs.List.{AllZip}
@@ -19,7 +19,7 @@ texts_alike (k ∷ ks) (l ∷ ls) h = ap₂ (λ (bytes : List ℕ) (rest : List 
 pub set_cloned : {Y : Type 0} (ks ls : List (String Y)) → AllZip (λ k l. string_bytes l ≡ string_bytes k) ks ls → set_of ls ≡ set_of ks
 set_cloned ks ls h = ap (finite.from_entries {R = path_cmp}) (texts_alike ks ls h)
 
--- what a map of texts has at a text, by the text's bytes
+-- the entry of a map of texts, by the text's bytes
 abbrev entry_of : {X Y : Type 0} → String Y × X → List ℕ × X
 entry_of e = (string_bytes e.0, e.1)
 

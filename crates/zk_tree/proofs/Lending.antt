@@ -1,4 +1,4 @@
--- What the slots of all nodes lend.
+-- The entries borrowed from the slots of all nodes.
 use Rattle.std.proofs.Common.{◌≡◌, ℕ, true, cond, List, [], ◌∷◌, map, length, is_eq, Less, Some, ◌&&◌, refl, sym, ap, ◌∙◌}
 use Rattle.std.proofs.lemmas.Cmp.{nat_list_cmp_total, eq_by_cmp_equiv}
 use Rattle.std.proofs.lemmas.Simd.{map-map}
@@ -63,7 +63,7 @@ entries-nodes_of m =
     (all_mapped (λ e. find path_cmp e.0 (finite.entries (nodes_of m)) ≡ Some e.1) slot_node (finite.entries m)
     (all_from (λ e. finite.get m e.0 ≡ Some e.1) (λ e. find path_cmp e.0 (finite.entries (nodes_of m)) ≡ Some e.1.node) (λ e there. sym (finite.get-entries (nodes_of m) e.0) ∙ get-nodes_of m e.0 ∙ ap (option_map (λ s. s.node)) there) (finite.entries m) (all_there m)))
 
--- what is lent of a slot
+-- the entry borrowed from a slot
 abbrev pub slot_lent : List ℕ × Slot → List ℕ × (Node × ℕ)
 slot_lent e = (e.1.path, (e.1.node, finite.len e.1.children))
 

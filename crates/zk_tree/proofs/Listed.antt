@@ -1,4 +1,4 @@
--- The paths of the nodes that a session owns, from the set of them.
+-- The paths of the nodes that a session owns, from their set.
 use Rattle.std.proofs.Common.{◌≡◌, ℕ, ℤ, pos, Bool, true, false, cond, not, ◌||◌, ◌&&◌, List, [], ◌∷◌, map, filter, is_some, is_eq, Option, Some, None, Less, refl, sym, ap, ◌∙◌}
 use Rattle.std.proofs.lemmas.Bool.{false≢true}
 use Rattle.std.specs.FinMap as finite
@@ -69,6 +69,6 @@ some_owned : (session : ℤ) (x : Option Node) → is_owner session x ≡ true �
 some_owned session None e = absurd (false≢true e)
 some_owned session (Some node) e = refl
 
--- what is noted of a session is there
+-- each path in a session's set has a node
 pub owned_there : (nodes : NodeMap) (owners : OwnerMap) (session : ℤ) (path : List ℕ) → IsOwned nodes owners → finite.contains_key (set_at owners session) path ≡ true → finite.contains_key nodes path ≡ true
 owned_there nodes owners session path owned noted = some_owned session (finite.get nodes path) (sym (owned.noted session path) ∙ noted)

@@ -1,4 +1,4 @@
--- Lists of paths in order, and the maps that have them as their keys.
+-- Sorted lists of paths, and the maps with these keys.
 use Rattle.std.proofs.Common.{◌≡◌, ℕ, Bool, true, false, cond, ◌||◌, ◌&&◌, List, [], ◌∷◌, ◌++◌, map, filter, length, is_some, String, refl, sym, ap, ◌∙◌, is_eq, is_lt, Less, Equal, Greater, IsTrue, suc, arith}
 use Rattle.std.proofs.lemmas.Bool.{false≢true, and_parts, and_from}
 use Rattle.std.proofs.lemmas.Cmp.{nat_list_cmp_total, eq_by_cmp_equiv}
@@ -22,7 +22,7 @@ same_is q k e = path_cmp-IsAntisymmetric q k (tied _ e)
 pub same_itself : (q : List ℕ) → eq_by_cmp path_cmp q q ≡ true
 same_itself q = (eq_by_cmp_equiv nat_list_cmp_total).refl q
 
--- ---- the keys of a map are in order
+-- ---- the keys of a map are sorted
 
 less : (r : Ordering) → is_lt r ≡ true → r ≡ Less
 less Less e = refl
@@ -45,7 +45,7 @@ rising (e ∷ es) h = (all_below e.0 es (and_parts _ _ h).0, rising es (and_part
 pub rising_keys : {X : Type 0} (m : FinMap path_cmp X) → IsStrictlySortedBy path_cmp (finite.keys m)
 rising_keys m = rising (finite.entries m) (to_true _ (finite.entries_sorted m))
 
--- ---- and a list in order is the keys of a map
+-- ---- a sorted list is the keys of a map
 
 abbrev tagged : List (List ℕ) → List (List ℕ × Unit {0})
 tagged ks = map (λ k. (k, tt)) ks
@@ -73,7 +73,7 @@ keys-key_set ks h = ap (map (λ e. e.0)) (finite.entries-from_sorted path_cmp (t
 contains-key_set : (ks : List (List ℕ)) → IsStrictlySortedBy path_cmp ks → (q : List ℕ) → finite.contains_key (key_set ks) q ≡ list_any (eq_by_cmp path_cmp q) ks
 contains-key_set ks h q = finite.contains_key-keys (key_set ks) q ∙ ap (list_any (eq_by_cmp path_cmp q)) (keys-key_set ks h)
 
--- a map's keys are any list in order that has just these keys
+-- a map's keys are any sorted list with exactly these keys
 pub keys_are : {X : Type 0} (m : FinMap path_cmp X) (ks : List (List ℕ)) → IsStrictlySortedBy path_cmp ks → ((q : List ℕ) → finite.contains_key m q ≡ list_any (eq_by_cmp path_cmp q) ks) → finite.keys m ≡ ks
 keys_are m ks h same =
     sym (keys-key_set (finite.keys m) (rising_keys m))
@@ -87,7 +87,7 @@ length-mapped f (x ∷ xs) = ap (λ n. suc n) (length-mapped f xs)
 pub len-keys : {X : Type 0} (m : FinMap path_cmp X) → finite.len m ≡ length (finite.keys m)
 len-keys m = finite.len-entries m ∙ sym (length-mapped (λ e. e.0) (finite.entries m))
 
--- ---- texts in order
+-- ---- sorted texts
 
 text_below : {Y : Type 0} (k : String Y) (ks : List (String Y)) → AllByRecursion (λ x. string_cmp k x ≡ Less) ks → AllByRecursion (λ y. path_cmp (string_bytes k) y ≡ Less) (map string_bytes ks)
 text_below k [] h = tt
@@ -139,7 +139,7 @@ none_of : (xs : List (List ℕ)) (q : List ℕ) → length xs ≡ 0 → list_any
 none_of [] q e = refl
 none_of (x ∷ xs) q e = absurd (omega arith)
 
--- a path without children is nobody's parent
+-- a path without children is not a parent
 pub no_children : (nodes : NodeMap) (path : List ℕ) → length (children_of nodes path) ≡ 0 → (q : List ℕ) → (is_child_of path q && finite.contains_key nodes q) ≡ false
 no_children nodes path none q = any-children_of nodes path q ∙ none_of (children_of nodes path) q none
 
@@ -150,7 +150,7 @@ nothing_rises = tt
 pub keys-empty : finite.keys (finite.empty {X = Unit {0}} {R = path_cmp}) ≡ []
 keys-empty = keys_are finite.empty [] nothing_rises (λ q. ap is_some (finite.get-empty path_cmp q))
 
--- ---- what stands in the middle of a list
+-- ---- the middle of a list
 
 pub any_middle : (q : List ℕ) (xs ys : List (List ℕ)) → list_any (eq_by_cmp path_cmp q) (xs ++ q ∷ ys) ≡ true
 any_middle q [] ys = ap (λ b. b || list_any (eq_by_cmp path_cmp q) ys) (same_itself q)

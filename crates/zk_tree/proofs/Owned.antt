@@ -1,4 +1,4 @@
--- Trees whose sessions' nodes are noted: what a change of one node does to them.
+-- Trees with the index of sessions' nodes: the effect of a change of one node.
 use Rattle.std.proofs.Common.{◌≡◌, ◌≢◌, ℕ, ℤ, pos, Bool, true, false, cond, not, ◌||◌, ◌&&◌, ◌==◌, List, [], ◌∷◌, length, unwrap_or, codes, is_some, IsSome, Option, Some, None, refl, sym, ap, subst, ◌∙◌}
 use Rattle.std.proofs.lemmas.Bool.{false≢true, and_parts, eqb-true, eqb-false}
 use Rattle.std.proofs.lemmas.Cmp.{nat_list_cmp_total, int_cmp_total, eq_by_cmp_equiv}
@@ -28,9 +28,9 @@ session_itself s = (eq_by_cmp_equiv int_cmp_total).refl s
 flipped : (s t : ℤ) → int_eq s t ≡ int_eq t s
 flipped s t = (eq_by_cmp_equiv int_cmp_total).symm s t
 
--- ---- which paths are noted
+-- ---- the paths in the index
 
--- whether this session and this path are those that come or go
+-- whether this session and this path are those that are added or removed
 abbrev moved : ℤ → List ℕ → ℤ → List ℕ → Bool
 moved session path s q = (not (int_eq session (pos 0)) && int_eq s session) && eq_by_cmp path_cmp q path
 
@@ -76,7 +76,7 @@ noted-without_owned o session path s q =
       ] refl
     ]
 
--- ---- no session is kept that owns nothing
+-- ---- a session without nodes is not in the index
 
 abbrev AreFilled : OwnerMap → Type 0
 AreFilled o = (session : ℤ) (set : PathKeys) → finite.get o session ≡ Some set → finite.len set ≢ 0
@@ -118,7 +118,7 @@ and_false : (a : Bool) → (a && false) ≡ false
 and_false true = refl
 and_false false = refl
 
--- a session that owns a node, told both ways round
+-- a session that owns a node, in both directions
 owner_told : (session s : ℤ) → (not (int_eq session (pos 0)) && int_eq s session) ≡ (not (int_eq s (pos 0)) && int_eq session s)
 owner_told session s =
     elim (int_eq s session) as (λ b. int_eq s session ≡ b → (not (int_eq session (pos 0)) && b) ≡ (not (int_eq s (pos 0)) && int_eq session s)) [
@@ -126,7 +126,7 @@ owner_told session s =
       | false ↦ λ e. and_false (not (int_eq session (pos 0))) ∙ sym (ap (λ b. not (int_eq s (pos 0)) && b) (flipped session s ∙ e) ∙ and_false (not (int_eq s (pos 0))))
     ] refl
 
--- ---- the root, and what stands above
+-- ---- the root, and parents
 
 some_owner : (nodes : NodeMap) (q : List ℕ) (z : ℤ) → owner_at nodes q ≡ Some z → finite.contains_key nodes q ≡ true
 some_owner nodes q z e = from (finite.get nodes q) e
@@ -149,7 +149,7 @@ parent_there path some = from (parent_of path) some
     from None e = absurd (false≢true e)
     from (Some above) e = (above, refl)
 
--- ---- a node more
+-- ---- one more node
 
 module _ (nodes : NodeMap) (owners : OwnerMap) (path : List ℕ) (owned : IsOwned nodes owners) (free : finite.contains_key nodes path ≡ false) where
   unlike_free : (q : List ℕ) (z : ℤ) → owner_at nodes q ≡ Some z → eq_by_cmp path_cmp q path ≡ false
@@ -194,7 +194,7 @@ module _ (nodes : NodeMap) (owners : OwnerMap) (path : List ℕ) (owned : IsOwne
       filled = filled-with_owned owners node.owner path owned.filled;
     }
 
-  -- noted, and not any more
+  -- added to the index, and removed
   back_again : (session s : ℤ) (q : List ℕ) → (not (moved session path s q) && (moved session path s q || is_noted owners s q)) ≡ is_noted owners s q
   back_again session s q =
       elim (eq_by_cmp path_cmp q path) as (λ b. eq_by_cmp path_cmp q path ≡ b → (not ((not (int_eq session (pos 0)) && int_eq s session) && b) && (((not (int_eq session (pos 0)) && int_eq s session) && b) || is_noted owners s q)) ≡ is_noted owners s q) [
@@ -216,7 +216,7 @@ module _ (nodes : NodeMap) (owners : OwnerMap) (path : List ℕ) (owned : IsOwne
     filled = filled-without_owned (with_owned owners session path) session path (filled-with_owned owners session path owned.filled);
   }
 
--- ---- a node less
+-- ---- one node less
 
 module _ (nodes : NodeMap) (owners : OwnerMap) (path above : List ℕ) (node : Node) (owned : IsOwned nodes owners) (here : finite.get nodes path ≡ Some node) (below : parent_of path ≡ Some above) (childless : length (children_of nodes path) ≡ 0) where
   owner_left : (q : List ℕ) (z : ℤ) → eq_by_cmp path_cmp q path ≡ false → owner_at nodes q ≡ Some z → owner_at (finite.remove nodes path) q ≡ Some z
@@ -267,7 +267,7 @@ module _ (nodes : NodeMap) (owners : OwnerMap) (path above : List ℕ) (node : N
     filled = filled-without_owned owners node.owner path owned.filled;
   }
 
--- ---- another node of the same owner
+-- ---- a replacement with the same owner
 
 module _ (nodes : NodeMap) (owners : OwnerMap) (path : List ℕ) (node : Node) (owned : IsOwned nodes owners) (same : owner_at nodes path ≡ Some node.owner) where
   owner_turned : (q : List ℕ) → owner_at (finite.insert nodes path node) q ≡ owner_at nodes q
@@ -341,7 +341,7 @@ module _ (root : List ℕ) (node : Node) (is : root ≡ codes "/") (free : node.
     filled = λ s set there. absurd (none_not_some (finite.get-empty int_cmp s) there);
   }
 
--- ---- what has an owner has no children
+-- ---- a node with an owner has no children
 
 pub owned_childless : (nodes : NodeMap) (path : List ℕ) → IsTree nodes → (owner_at nodes path ≡ Some (pos 0) → ⊥) → length (children_of nodes path) ≡ 0
 owned_childless nodes path tree owned = from (children_of nodes path) (any-children_of nodes path)

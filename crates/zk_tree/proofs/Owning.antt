@@ -1,4 +1,4 @@
--- The paths that sessions own, after one came or went.
+-- The paths that sessions own, after one was added or removed.
 use Rattle.std.proofs.Common.{◌≡◌, ◌≢◌, ℕ, ℤ, pos, Bool, true, false, cond, not, w64, of_z, ◌&&◌, ◌==◌, List, is_some, Option, Some, None, refl, sym, ap, ◌∙◌}
 use Rattle.std.proofs.lemmas.Bool.{cond-false, ne_eqb}
 use Rattle.std.proofs.lemmas.Cmp.{nat_list_cmp_total, int_cmp_total, eq_by_cmp_equiv}
@@ -12,7 +12,7 @@ use Rattle.zk_tree.specs.Owners.{set_at, set_found, with_owned, with_set, withou
 use Rattle.zk_tree.specs.Views.{PathKeys, OwnerMap}
 use Rattle.zk_tree.proofs.Kept.{same_members, contains_key-remove, tied}
 
--- ---- removals that change nothing, and of what came last
+-- ---- removals that change nothing, and those of the last insertion
 
 module _ {K X : Type 0} {R : K → K → Ordering} (o : IsTotalOrder R) (same : IsAntisymmetric R) (m : FinMap R X) (k : K) where
   gone_twice : (v : X) (q : K) (b : Bool) → cond b None (cond b (Some v) (finite.get m q)) ≡ cond b None (finite.get m q)

@@ -24,7 +24,7 @@ use Rattle.zk_tree.specs.Views.{map_of}
 use Rattle.zk_tree.proofs.Kept.{get-map_of}
 use Rattle.zk_tree.proofs.Lists.{keys_are, rising_keys, same_itself}
 
--- ---- what is sorted and has nothing twice
+-- ---- sorted lists without duplicates
 
 dedup_nothing : (k : List ℕ) (ks : List (List ℕ)) → IsDistinct (eq_by_cmp path_cmp) (k ∷ ks) → dedup_from (eq_by_cmp path_cmp) k ks ≡ k ∷ ks
 unfolding IsDistinct
@@ -61,14 +61,14 @@ contains-map_of es q =
     ∙ is_some-find path_cmp q (map (λ e. (string_bytes e.0, e.1)) es)
     ∙ ap (list_any (eq_by_cmp path_cmp q)) (keys_spelled es)
 
--- the texts of a map, sorted, are its keys
+-- the sorted texts of a map are its keys
 sorted_keys : {X Y S : Type 0} (m : HashMap (String Y) X S) (ks : List (List ℕ)) → hash.IsUnique string_eq m → IsPermutation (map string_bytes (hash.keys m)) ks → IsSorted path_cmp ks → ks ≡ finite.keys (map_of m.entries)
 sorted_keys m ks unique moved sorted =
     sym (keys_are (map_of m.entries) ks
     (strictly_sorted ks sorted (IsDistinct-IsPermutation (eq_by_cmp path_cmp) (eq_by_cmp_equiv nat_list_cmp_total).symm (map string_bytes (hash.keys m)) ks moved (distinct_texts (hash.keys m) unique)))
     (λ q. contains-map_of m.entries q ∙ list_any-IsPermutation (eq_by_cmp path_cmp q) (map string_bytes (hash.keys m)) ks moved))
 
--- ---- what stands at the keys
+-- ---- the values at the keys
 
 abbrev head_or : {X : Type 0} → X → List X → X
 head_or x [] = x
@@ -78,14 +78,14 @@ abbrev rest_of : {X : Type 0} → List X → List X
 rest_of [] = []
 rest_of (y ∷ ys) = ys
 
--- what stands behind the first entry is found behind it
+-- what is after the first entry is found after it
 found_behind : {X : Type 0} (x : List ℕ × X) (xs es : List (List ℕ × X)) → AllByRecursion (λ k. path_cmp x.0 k ≡ Less) (map (λ e. e.0) es) → AllByRecursion (λ e. find path_cmp e.0 (x ∷ xs) ≡ Some e.1) es → AllByRecursion (λ e. find path_cmp e.0 xs ≡ Some e.1) es
 found_behind x xs [] h a = tt
 found_behind x xs (e ∷ es) h a =
     let other : eq_by_cmp path_cmp e.0 x.0 ≡ false = (eq_by_cmp_equiv nat_list_cmp_total).symm e.0 x.0 ∙ ap is_eq h.0 in
     (sym (ap (λ b. cond b (Some x.1) (find path_cmp e.0 xs)) other) ∙ a.0, found_behind x xs es h.1 a.1)
 
--- a list that has the keys of another, each with what is found there, is the other
+-- a list with the keys of another, each with the value found there, is the other
 pub same_entries : {X : Type 0} (es xs : List (List ℕ × X)) → IsStrictlySortedBy path_cmp (map (λ e. e.0) xs) → map (λ e. e.0) es ≡ map (λ e. e.0) xs → AllByRecursion (λ e. find path_cmp e.0 xs ≡ Some e.1) es → es ≡ xs
 unfolding IsStrictlySortedBy
 same_entries [] [] h keys a = refl
@@ -103,7 +103,7 @@ found_here : {X : Type 0} (m : finite.FinMap path_cmp X) (es : List (List ℕ ×
 found_here m [] h = tt
 found_here m (e ∷ es) h = (sym (finite.get-entries m e.0) ∙ h 0 e (omega arith), found_here m es (All-tail (λ e. finite.get m e.0 ≡ Some e.1) e es h))
 
--- a list that has a map's keys, each with what stands there, is the map's entries
+-- a list with a map's keys, each with its value, is the map's entries
 entries_are : {X : Type 0} (m : finite.FinMap path_cmp X) (es : List (List ℕ × X)) → map (λ e. e.0) es ≡ finite.keys m → All (λ e. finite.get m e.0 ≡ Some e.1) es → es ≡ finite.entries m
 entries_are m es keys found = same_entries es (finite.entries m) (rising_keys m) keys (found_here m es found)
 

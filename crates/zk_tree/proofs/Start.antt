@@ -16,7 +16,7 @@ first_nodes = finite.insert finite.empty (codes "/") first_node
 abbrev pub second_nodes : NodeMap
 second_nodes = finite.insert first_nodes (codes "/zookeeper") first_node
 
--- a map that a node was put into
+-- a map with one more node
 pub put_into : (old before new : NodeMap) (path text : List ℕ) (node : Node) → new ≡ finite.insert old path node → old ≡ before → path ≡ text → node ≡ first_node → new ≡ finite.insert before text first_node
 put_into old before new path text node is same path_is node_is = is ∙ ap (λ m. finite.insert m path node) same ∙ ap (λ k. finite.insert before k node) path_is ∙ ap (finite.insert before text) node_is
 

@@ -5,10 +5,10 @@ use Rattle.zk_txn.specs.declared.node.Node.{Node}
 use Rattle.zk_table.specs.States.{NodeMap, children_of}
 use Rattle.zk_tree.specs.declared.entry.Entry.{Entry}
 
--- what an entry lends: a path, its node and the number of its children
+-- what an entry borrows: a path, its node and the number of its children
 abbrev pub lent : Entry → List ℕ × (Node × ℕ)
 lent entry = (entry.path.now, (entry.node.now, entry.child_count))
 
--- each node with its path and the number of its children, in the order of the paths
+-- each node with its path and the number of its children, sorted by path
 abbrev pub entries_of : NodeMap → List (List ℕ × (Node × ℕ))
 entries_of nodes = map (λ e. (e.0, (e.1, length (children_of nodes e.0)))) (finite.entries nodes)

@@ -14,13 +14,12 @@ use std::marker::Model;
 use zk_path::{NoMemory, Path};
 use zk_table::Node;
 
-/// Nodes below one another: each knows its children.
+/// Nodes, each with the paths of its children.
 pub(crate) struct Branches {
     alloc: Global,
     slots: Slots,
 }
 
-// (by hand, and so proved once: a derived one is proved wherever a value may be dropped)
 impl Drop for Branches {
     fn drop(self) {
         let Branches { alloc: _, slots: _ } = self;
@@ -44,7 +43,7 @@ impl Model for Branches {
 }
 
 impl Branches {
-    /// One node, which stands below none.
+    /// A single node, which has no parent.
     pub(crate) fn new(alloc: Global, root: Path, node: Node) -> Result<Branches, NoMemory>
         requires { parent_of root ≡ None }
         ensures { IfOk result (λ branches. branches ≡ finite.insert finite.empty root node) }
@@ -62,7 +61,6 @@ impl Branches {
         Ok(Branches { alloc, slots })
     }
 
-    /// The same nodes once more.
     pub(crate) fn copy(&self) -> Result<Branches, NoMemory>
         ensures { IfOk result (λ copy. copy ≡ self.now) }
     {
@@ -72,7 +70,6 @@ impl Branches {
         })
     }
 
-    /// The node at a path.
     pub(crate) fn get(&self, path: &str) -> Option<&Node>
         ensures { option_copied result ≡ finite.get self.now path.now }
     {
@@ -93,7 +90,6 @@ impl Branches {
         }
     }
 
-    /// How many children the node at a path has.
     pub(crate) fn child_count(&self, path: &str) -> usize
         ensures { result ≡ length (children_of self.now path.now) }
     {
@@ -103,7 +99,7 @@ impl Branches {
         }
     }
 
-    /// The node at a path, and how many children it has.
+    /// The node at a path, and the number of its children.
     pub(crate) fn counted(&self, path: &str) -> Option<(&Node, usize)>
         ensures node { option_map (λ found. found.0.now) result ≡ finite.get self.now path.now }
         ensures count { IfSome result (λ found. found.1 ≡ length (children_of self.now path.now)) }
@@ -114,7 +110,6 @@ impl Branches {
         }
     }
 
-    /// The paths of the children of the node at a path, in order.
     pub(crate) fn children(&self, path: &str) -> Result<Vec<Path>, NoMemory>
         ensures { IfOk result (λ paths. paths.items ≡ children_of self.now path.now) }
     {
@@ -124,7 +119,7 @@ impl Branches {
         }
     }
 
-    /// The nodes, each with its path and the number of its children, in the order of the paths.
+    /// The nodes, each with its path and the number of its children, sorted by path.
     pub(crate) fn entries(&self) -> Result<Vec<Entry<'_>>, NoMemory>
         ensures { IfOk result (λ entries. map lent entries.items ≡ entries_of self.now) }
     {
@@ -153,7 +148,7 @@ impl Branches {
         Ok(paths)
     }
 
-    /// The paths of a set, in order. Each has a node.
+    /// The paths of a set, in order. Each must have a node.
     pub(crate) fn paths_of(&self, set: &PathSet) -> Result<Vec<Path>, NoMemory>
         requires { (path : List ℕ) → finite.contains_key set.now path ≡ true → finite.contains_key self.now path ≡ true }
         ensures { IfOk result (λ paths. paths.items ≡ finite.keys set.now) }
@@ -161,8 +156,8 @@ impl Branches {
         self.slots.paths_of(self.alloc, set)
     }
 
-    /// Puts a node at a path that is free, and whose parent is there. After want of memory nothing is changed, and
-    /// both come back.
+    /// Puts a node at a free path whose parent exists. If an allocation fails, nothing is changed
+    /// and the error returns both.
     pub(crate) fn put(&mut self, path: Path, node: Node) -> Result<(), Refused>
         requires free { finite.get self.old path ≡ None }
         requires below { ForSome (parent_of path) (λ parent. finite.contains_key self.old parent ≡ true) }
@@ -199,7 +194,7 @@ impl Branches {
         Err(Refused { path, node })
     }
 
-    /// Takes the node at a path out, which has no children and stands below another.
+    /// Removes and returns the node at a path. It must have no children, and a parent.
     pub(crate) fn take(&mut self, path: &Path) -> Node
         requires there { finite.contains_key self.old path.now ≡ true }
         requires childless { length (children_of self.old path.now) ≡ 0 }
@@ -218,7 +213,7 @@ impl Branches {
         node
     }
 
-    /// Puts another node in the place of the one at a path, which comes back.
+    /// Replaces the node at a path and returns the old one.
     pub(crate) fn change(&mut self, path: &str, node: Node) -> Node
         requires { finite.contains_key self.old path.now ≡ true }
         ensures was { finite.get self.old path.now ≡ Some result }

@@ -1,7 +1,7 @@
 use zk_path::Path;
 use zk_table::Node;
 
-/// A node as it stands in a tree: its path, itself, and how many children it has.
+/// A node of a tree: its path, the node, and the number of its children.
 #[derive(Clone, Copy, Debug)]
 pub struct Entry<'a> {
     pub path: &'a Path,

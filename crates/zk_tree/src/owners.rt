@@ -30,7 +30,6 @@ impl Model for Owners {
 }
 
 impl Owners {
-    /// No session.
     pub(crate) fn new(alloc: Global) -> Owners
         ensures { result ≡ finite.empty }
     {
@@ -40,7 +39,6 @@ impl Owners {
         }
     }
 
-    /// The same sessions once more.
     pub(crate) fn copy(&self) -> Result<Owners, NoMemory>
         ensures { IfOk result (λ copy. copy ≡ self.now) }
     {
@@ -57,7 +55,7 @@ impl Owners {
         self.sets.get(&session)
     }
 
-    /// Notes a node of a session; 0 owns nothing. After [`NoMemory`] nothing is changed.
+    /// Adds a node to a session; 0 owns none. After [`NoMemory`] nothing is changed.
     pub(crate) fn add(&mut self, session: i64, path: &str) -> Result<(), NoMemory>
         ensures noted { OnOk result (self.new ≡ with_owned self.old session path.now) }
         ensures unchanged { OnErr result (self.new ≡ self.old) }
@@ -76,7 +74,7 @@ impl Owners {
         Ok(())
     }
 
-    /// Notes that a session lost a node. A session without nodes is not kept.
+    /// Removes a node from a session. A session without nodes is removed.
     pub(crate) fn lose(&mut self, session: i64, path: &str)
         ensures { self.new ≡ without_owned self.old session path.now }
     {

@@ -2,7 +2,7 @@ use thiserror::Error;
 use zk_path::{NoMemory, Path};
 use zk_table::Node;
 
-/// A path and a node that were not put, since memory was refused.
+/// A path and a node that were not put, because an allocation failed.
 #[derive(Debug, Drop, Error)]
 #[error("no memory")]
 pub struct Refused {

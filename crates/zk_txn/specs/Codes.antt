@@ -1,4 +1,4 @@
--- The codes of refusals, as the 3.4 server and its clients number them.
+-- Error codes, as the 3.4 server and its clients number them.
 use Rattle.std.specs.Prelude.{ℤ, negsuc}
 
 -- -2

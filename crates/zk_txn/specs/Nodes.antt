@@ -1,4 +1,5 @@
--- Nodes, and how they change: ZooKeeper Programmer's Guide, "ZNodes", "Time in ZooKeeper", "ZooKeeper Stat Structure".
+-- Nodes, and how they change: ZooKeeper Programmer's Guide, "ZNodes", "Time in ZooKeeper",
+-- "ZooKeeper Stat Structure".
 use Rattle.std.specs.Prelude.{ℕ, ℤ, pos, negsuc, ◌+ℤ◌, ◌-ℤ◌, ◌*ℤ◌, List, [], ◌∷◌, Bool, Option, Some, None, length, if◌then◌else◌, codes}
 use Rattle.std.specs.Ordering.{int_eq}
 use Rattle.std.specs.Int.{w32, int_wrap}
@@ -11,23 +12,23 @@ use Rattle.zk_txn.specs.declared.txn.Txn.{Txn}
 abbrev pub open_to_all : List Acl
 open_to_all = record { perms = pos 31; id = record { scheme = codes "world"; id = codes "anyone" } } ∷ []
 
--- a node that stood there before any transaction
+-- a node that exists before any transaction
 abbrev pub first_node : Node
 first_node = record { content = Some []; acl = open_to_all; czxid = pos 0; mzxid = pos 0; pzxid = pos 0; ctime = pos 0; mtime = pos 0; version = pos 0; creates = pos 0; aversion = pos 0; owner = pos 0 }
 
--- a node that a transaction makes
+-- the node that a transaction creates
 abbrev pub created : Txn → Option (List ℕ) → List Acl → Bool → Node
 created txn content acl ephemeral = record { content = content; acl = acl; czxid = txn.zxid; mzxid = txn.zxid; pzxid = txn.zxid; ctime = txn.time; mtime = txn.time; version = pos 0; creates = pos 0; aversion = pos 0; owner = (if ephemeral then txn.session else pos 0) }
 
--- the count that a create brings, where -1 stands for one more than before
+-- the parent's count of creates; -1 in the log means one more than before
 abbrev pub next_creates : ℤ → ℤ → ℤ
 next_creates before count = if int_eq count (negsuc 0) then int_wrap w32 (before +ℤ pos 1) else count
 
--- a parent that got a child
+-- a parent after a child was created
 abbrev pub with_child : ℤ → ℤ → Node → Node
 with_child zxid count parent = record parent { creates = next_creates parent.creates count; pzxid = zxid }
 
--- a parent that lost a child
+-- a parent after a child was deleted
 abbrev pub without_child : ℤ → Node → Node
 without_child zxid parent = record parent { pzxid = zxid }
 
@@ -44,8 +45,8 @@ abbrev pub content_length : Option (List ℕ) → ℕ
 content_length None = 0
 content_length (Some bytes) = length bytes
 
--- The stat of a node with so many children. The version of the children counts creates and deletes: each create
--- is one, and of the children that are gone each is one more.
+-- The stat of a node with this number of children. The version of the children counts creates and
+-- deletes: one for each create, and one for each child that was deleted.
 abbrev pub stat_with : Node → ℕ → Stat
 stat_with node children = record {
   czxid = node.czxid;

@@ -1,5 +1,5 @@
--- Parts of a multi: `zookeeper.jute`, `MultiTxn`. Where the server refused a part, the log has an error in its place. What
--- a part answers that is not applied is this project's own rule.
+-- Parts of a multi: `zookeeper.jute`, `MultiTxn`. If the server rejected a part, the log has an
+-- error in its place. The result of a part that is not applied is this project's own rule.
 use Rattle.std.specs.Prelude.{ℕ, ℤ, List, Bool, true, false, Option, Some, None}
 use Rattle.zk_txn.specs.declared.sub.Sub.{Sub}
 use Rattle.zk_txn.specs.declared.sub.Sub.TheVariants.{Create, Delete, SetData, Check, Error}
@@ -19,7 +19,7 @@ path_of (SetData path content version) = Some path
 path_of (Check path version) = Some path
 path_of (Error code) = None
 
--- an error answers its own code, any other part the one that is given
+-- the code of an error; for any other part, the given code
 abbrev pub code_of : ℤ → Sub → ℤ
 code_of code (Create path content acl ephemeral count) = code
 code_of code (Delete path) = code

@@ -1,4 +1,4 @@
-//! The codes of refusals, as the 3.4 server and its clients number them.
+//! Error codes, as the 3.4 server and its clients number them.
 
 pub const RUNTIME_INCONSISTENCY: i32 = -2;
 

@@ -5,7 +5,7 @@ use std::marker::Model;
 use std::sync::Arc;
 use zk_path::NoMemory;
 
-/// The bytes that a node holds, which the standard calls its data. Copies share the bytes.
+/// The bytes of a node, which the standard calls its data. Copies share the bytes.
 #[derive(Debug, Drop)]
 pub struct Content {
     bytes: Arc<Vec<u8>>,
@@ -21,7 +21,6 @@ impl Model for Content {
 }
 
 impl Content {
-    /// The content of these bytes.
     pub fn new(alloc: Global, bytes: Vec<u8>) -> Result<Content, NoMemory>
         ensures { IfOk result (λ content. content ≡ bytes.items) }
     {
@@ -30,22 +29,21 @@ impl Content {
         })
     }
 
-    /// Content of a copy of these bytes.
+    /// Copies `bytes`.
     pub fn read(alloc: Global, bytes: &[u8]) -> Result<Content, NoMemory>
         ensures { IfOk result (λ content. content ≡ bytes.now) }
     {
         Content::new(alloc, Vec::from_slice(alloc, bytes)?)
     }
 
-    /// The bytes, lent.
     pub fn as_slice(&self) -> &[u8]
         ensures { result.now ≡ self.now }
     {
         self.bytes.as_slice()
     }
 
-    /// The same content once more, over the same bytes: no memory is taken. [`NoMemory`] says that the count of the
-    /// bytes' owners is full.
+    /// A copy that shares the bytes, without allocating. Fails with [`NoMemory`] if the bytes'
+    /// owner count is full.
     pub fn copy(&self) -> Result<Content, NoMemory>
         ensures { IfOk result (λ copy. copy ≡ self.now) }
     {
@@ -54,7 +52,8 @@ impl Content {
         })
     }
 
-    /// A copy of what a node holds, where null content is none; as at [`Content::copy`] no memory is taken.
+    /// A copy of a node's content, where `None` is null content. Does not allocate, like
+    /// [`Content::copy`].
     pub fn copy_of(content: &Option<Content>) -> Result<Option<Content>, NoMemory>
         ensures { IfOk result (λ copy. copy ≡ content.now) }
     {

@@ -1,6 +1,10 @@
-//! Transactions and what they answer, nodes, and reads: the types that records, listings and tables share.
+//! Part of `zk_table`, split off for the prover's time alone.
 //!
-//! ZooKeeper Programmer's Guide, "The ZooKeeper Data Model"; `zookeeper.jute`, module `org.apache.zookeeper.txn`.
+//! Transactions and their results, nodes, and reads: the types that records, listings and tables
+//! share.
+//!
+//! ZooKeeper Programmer's Guide, "The ZooKeeper Data Model"; `zookeeper.jute`, module
+//! `org.apache.zookeeper.txn`.
 #![tactic(auto)]
 
 pub mod codes;

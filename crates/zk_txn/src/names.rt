@@ -6,7 +6,7 @@ use std::marker::Model;
 use zk_acl::Text;
 use zk_path::{NoMemory, Path};
 
-/// Names of nodes, seen as their list.
+/// Names of nodes, modelled as a list.
 #[derive(Debug, Drop)]
 pub struct Names {
     texts: Vec<Text>,
@@ -21,14 +21,14 @@ impl Model for Names {
 }
 
 impl Names {
-    /// These names, without memory.
+    /// Wraps `texts` without allocating.
     pub fn new(texts: Vec<Text>) -> Names
         ensures { result ≡ texts.items }
     {
         Names { texts }
     }
 
-    /// The last names of these paths, in their order.
+    /// The last names of `paths`, in their order.
     pub fn of(alloc: Global, paths: &[Path]) -> Result<Names, NoMemory>
         ensures { IfOk result (λ names. names ≡ map name_of paths.now) }
     {
@@ -39,7 +39,6 @@ impl Names {
         Ok(Names { texts })
     }
 
-    /// The names, without memory.
     pub fn into_vec(self) -> Vec<Text>
         ensures { result.items ≡ self }
     {
@@ -47,14 +46,12 @@ impl Names {
         texts
     }
 
-    /// The names, lent.
     pub fn as_slice(&self) -> &[Text]
         ensures { result.now ≡ self.now }
     {
         self.texts.as_slice()
     }
 
-    /// The same names once more.
     pub fn copy(&self) -> Result<Names, NoMemory>
         ensures { IfOk result (λ copy. copy ≡ self.now) }
     {

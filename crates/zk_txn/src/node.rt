@@ -18,7 +18,7 @@ use zk_path::NoMemory;
 /// ZooKeeper Programmer's Guide, "ZNodes" and "ZooKeeper Stat Structure".
 #[derive(Debug)]
 pub struct Node {
-    /// What the node holds; null content is none.
+    /// `None` is null content.
     pub content: Option<Content>,
     pub acl: Acls,
     /// The transaction that created the node.
@@ -29,17 +29,16 @@ pub struct Node {
     pub pzxid: i64,
     pub ctime: i64,
     pub mtime: i64,
-    /// Of the content.
+    /// The version of the content.
     pub version: i32,
-    /// How many children were ever created, as the log counts them.
+    /// The number of children ever created, as the log counts them.
     pub creates: i32,
-    /// Of the access control list.
+    /// The version of the access control list.
     pub aversion: i32,
-    /// The session that owns the node, and 0 for a persistent one.
+    /// The session that owns the node; 0 for a persistent node.
     pub owner: i64,
 }
 
-// (by hand, and so proved once: a derived one is proved wherever a value may be dropped)
 impl Drop for Node {
     fn drop(self) {
         let Node {
@@ -59,7 +58,7 @@ impl Drop for Node {
 }
 
 impl Node {
-    /// A node that stands there before any transaction: empty, and open to all.
+    /// A node that exists before any transaction: empty, and open to all.
     pub fn first(alloc: Global) -> Result<Node, NoMemory>
         ensures { IfOk result (λ node. node ≡ first_node) }
     {
@@ -105,7 +104,7 @@ impl Node {
         })
     }
 
-    /// The same node once more, over the same content and access control list: no memory is taken, as at
+    /// A copy that shares content and access control list, without allocating, like
     /// [`Content::copy`].
     pub fn copy(&self) -> Result<Node, NoMemory>
         ensures { IfOk result (λ copy. copy ≡ self.now) }
@@ -117,7 +116,7 @@ impl Node {
         })
     }
 
-    /// Counts a child that the node got.
+    /// Counts a child that was created.
     pub fn add_child(&mut self, zxid: i64, count: i32)
         ensures { self.new ≡ with_child zxid count self.old }
     {
@@ -125,14 +124,14 @@ impl Node {
         self.pzxid = zxid;
     }
 
-    /// Notes that the node lost a child.
+    /// Records that a child was deleted.
     pub fn lose_child(&mut self, zxid: i64)
         ensures { self.new ≡ without_child zxid self.old }
     {
         self.pzxid = zxid;
     }
 
-    /// Sets the node's content.
+    /// Sets the content and its version.
     pub fn write(&mut self, txn: &Txn, content: Option<Content>, version: i32)
         ensures { self.new ≡ written txn.now content version self.old }
     {
@@ -142,7 +141,7 @@ impl Node {
         self.mtime = txn.time;
     }
 
-    /// Sets the node's access control list.
+    /// Sets the access control list and its version.
     pub fn guard(&mut self, acl: Acls, version: i32)
         ensures { self.new ≡ guarded acl version self.old }
     {
@@ -150,7 +149,7 @@ impl Node {
         self.aversion = version;
     }
 
-    /// What a client is told of the node, which has so many children.
+    /// The stat of the node, given its number of children.
     pub fn stat(&self, children: usize) -> Stat
         ensures { result ≡ stat_with self.now children }
     {
@@ -169,14 +168,14 @@ impl Node {
         }
     }
 
-    /// Whether a caller may read the node who has proved these identities.
+    /// Whether a caller who has proved `auths` may read the node.
     pub fn is_readable(&self, auths: &[Id]) -> bool
         ensures { result ≡ allows self.now.acl read_perm auths.now }
     {
         allows(self.acl.as_slice(), READ, auths)
     }
 
-    /// What a read of the node's content is told, where the node has this stat.
+    /// The reply to a read of the node's content. `stat` is the node's.
     pub fn content_reply(&self, stat: Stat, auths: &[Id]) -> Result<ReadReply, NoMemory>
         ensures { IfOk result (λ reply. reply ≡ if_readable self.now auths.now (replies.Content self.now.content stat)) }
     {
@@ -187,7 +186,7 @@ impl Node {
         Ok(ReadReply::Content { content, stat })
     }
 
-    /// What a read of the node's access control list is told, where the node has this stat.
+    /// The reply to a read of the node's access control list. `stat` is the node's.
     pub fn acl_reply(&self, stat: Stat) -> Result<ReadReply, NoMemory>
         ensures { IfOk result (λ reply. reply ≡ replies.AclIs self.now.acl stat) }
     {
@@ -196,7 +195,7 @@ impl Node {
     }
 }
 
-/// The access control list by which everyone may do everything.
+/// The access control list that grants everything to everyone.
 fn open_to_all(alloc: Global) -> Result<Acls, NoMemory>
     ensures { IfOk result (λ acl. acl ≡ open_to_all) }
 {
@@ -210,7 +209,7 @@ fn open_to_all(alloc: Global) -> Result<Acls, NoMemory>
     Acls::new(alloc, entries)
 }
 
-/// The count of creates that a create brings.
+/// The parent's count of creates after a create; -1 counts one more.
 fn next_creates(before: i32, count: i32) -> i32
     ensures { result ≡ next_creates before count }
 {
@@ -221,7 +220,7 @@ fn next_creates(before: i32, count: i32) -> i32
     }
 }
 
-/// How many bytes a node holds.
+/// In bytes; 0 for null content.
 fn content_length(content: &Option<Content>) -> usize
     ensures { result ≡ content_length content.now }
 {
@@ -230,14 +229,14 @@ fn content_length(content: &Option<Content>) -> usize
         .map_or(0, |content| content.as_slice().len())
 }
 
-/// A number as the 32 bits of a stat keep it.
+/// A number modulo 2^32, as a stat stores it.
 fn wrapped(number: usize) -> i32
     ensures { result ≡ int_wrap w32 (pos number) }
 {
     ((number % (1 << 32)) as u32).cast_signed()
 }
 
-/// The version of the children: twice the creates, without the children that are there.
+/// The version of the children: twice the creates, minus the number of children.
 fn child_version(creates: i32, children: usize) -> i32
     ensures { result ≡ int_wrap w32 ((pos 2 *ℤ creates) -ℤ pos children) }
 {

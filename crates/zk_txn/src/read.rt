@@ -7,22 +7,18 @@ use crate::names::Names;
 use zk_acl::{Acls, Stat};
 use zk_path::{NoMemory, Path};
 
-/// What is asked of a tree without changing it.
+/// A read of the tree.
 ///
 /// ZooKeeper Programmer's Guide, "Data Access".
 #[derive(Debug)]
 pub enum ReadCall {
-    /// A node's content.
     GetData { path: Path },
-    /// Whether there is a node.
+    /// Whether a node exists.
     Exists { path: Path },
-    /// The names of a node's children.
     GetChildren { path: Path },
-    /// A node's access control list.
     GetAcl { path: Path },
 }
 
-// (by hand, and so proved once: a derived one is proved wherever a value may be dropped)
 impl Drop for ReadCall {
     fn drop(self) {
         match self {
@@ -35,7 +31,7 @@ impl Drop for ReadCall {
 }
 
 impl ReadCall {
-    /// The path of the node that is asked for.
+    /// The path of the node that is read.
     pub fn path(&self) -> &Path
         ensures { result.now ≡ path_read self.now }
     {
@@ -47,7 +43,6 @@ impl ReadCall {
         }
     }
 
-    /// The same question once more.
     pub fn copy(&self) -> Result<ReadCall, NoMemory>
         ensures { IfOk result (λ copy. copy ≡ self.now) }
     {
@@ -61,17 +56,17 @@ impl ReadCall {
     }
 }
 
-/// What a read is told: each answer with the node's stat.
+/// The reply to a read, with the node's stat.
 ///
 /// ZooKeeper Programmer's Guide, "Data Access" and "ZooKeeper Stat Structure".
 #[derive(Debug)]
 pub enum ReadReply {
-    /// What the node holds; null content is none.
+    /// `None` is null content.
     Content {
         content: Option<Content>,
         stat: Stat,
     },
-    /// There is such a node.
+    /// The node exists.
     Found(Stat),
     /// The names of the node's children, in order.
     Children {
@@ -83,11 +78,10 @@ pub enum ReadReply {
         acl: Acls,
         stat: Stat,
     },
-    /// The code of a refusal.
+    /// An error code.
     Refused(i32),
 }
 
-// (by hand, and so proved once: a derived one is proved wherever a value may be dropped)
 impl Drop for ReadReply {
     fn drop(self) {
         match self {
@@ -104,7 +98,6 @@ impl Drop for ReadReply {
 }
 
 impl ReadReply {
-    /// The same answer once more.
     pub fn copy(&self) -> Result<ReadReply, NoMemory>
         ensures { IfOk result (λ copy. copy ≡ self.now) }
     {

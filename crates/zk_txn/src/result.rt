@@ -5,22 +5,21 @@ use std::marker::Model;
 use zk_acl::Stat;
 use zk_path::{NoMemory, Path};
 
-/// What a transaction answered.
+/// The result of a transaction.
 #[derive(Debug, Drop)]
 pub struct TxnResult {
     pub zxid: i64,
-    /// 0, or the code of the refusal.
+    /// 0, or the error code.
     pub err: i32,
-    /// The path that the operation names, refused or not.
+    /// The path that the operation names, applied or not.
     pub path: Option<Path>,
     /// The stat after an operation that was applied and has one.
     pub stat: Option<Stat>,
-    /// What the parts of a multi answered, in order.
+    /// The results of a multi's parts, in order.
     pub parts: PartResults,
 }
 
 impl TxnResult {
-    /// The same result once more.
     pub fn copy(&self) -> Result<TxnResult, NoMemory>
         ensures { IfOk result (λ copy. copy ≡ self.now) }
     {
@@ -32,19 +31,19 @@ impl TxnResult {
     }
 }
 
-/// What one part of a multi answered.
+/// The result of one part of a multi.
 #[derive(Debug, Drop)]
 pub struct PartResult {
-    /// 0, or the code of the refusal.
+    /// 0, or the error code.
     pub err: i32,
-    /// The path that the part names, refused or not.
+    /// The path that the part names, applied or not.
     pub path: Option<Path>,
     /// The stat right after a part that was applied and has one.
     pub stat: Option<Stat>,
 }
 
 impl PartResult {
-    /// The answer of an operation that names no path, applied or refused.
+    /// The result of an operation that names no path, applied or rejected.
     pub fn plain(err: i32) -> PartResult
         ensures { result ≡ plain_answer err }
     {
@@ -55,7 +54,7 @@ impl PartResult {
         }
     }
 
-    /// The answer of an operation that was refused.
+    /// The result of an operation that was rejected.
     pub fn refused(path: Path, err: i32) -> PartResult
         ensures { result ≡ record { err = err; path = Some path; stat = None } }
     {
@@ -66,7 +65,7 @@ impl PartResult {
         }
     }
 
-    /// The answer of an operation that was applied.
+    /// The result of an operation that was applied.
     pub fn done(path: Path, stat: Option<Stat>) -> PartResult
         ensures { result ≡ record { err = pos 0; path = Some path; stat = stat } }
     {
@@ -77,7 +76,6 @@ impl PartResult {
         }
     }
 
-    /// The same answer once more.
     pub fn copy(&self) -> Result<PartResult, NoMemory>
         ensures { IfOk result (λ copy. copy ≡ self.now) }
     {
@@ -86,7 +84,7 @@ impl PartResult {
     }
 }
 
-/// The answers of a multi's parts, seen as their list.
+/// The results of a multi's parts, modelled as a list.
 #[derive(Debug, Drop)]
 pub struct PartResults {
     parts: Vec<PartResult>,
@@ -102,14 +100,13 @@ impl Model for PartResults {
 }
 
 impl PartResults {
-    /// These answers, without memory.
+    /// Wraps `parts` without allocating.
     pub fn new(parts: Vec<PartResult>) -> PartResults
         ensures { result ≡ parts.items }
     {
         PartResults { parts }
     }
 
-    /// The answers, without memory.
     pub fn into_vec(self) -> Vec<PartResult>
         ensures { result.items ≡ self }
     {
@@ -117,14 +114,12 @@ impl PartResults {
         parts
     }
 
-    /// The answers, lent.
     pub fn as_slice(&self) -> &[PartResult]
         ensures { result.now ≡ self.now }
     {
         self.parts.as_slice()
     }
 
-    /// The same answers once more.
     pub fn copy(&self) -> Result<PartResults, NoMemory>
         ensures { IfOk result (λ copy. copy ≡ self.now) }
     {
@@ -136,7 +131,7 @@ impl PartResults {
     }
 }
 
-/// A copy of the path that an answer tells.
+/// A copy of the path in a result.
 fn copy_of(path: &Option<Path>) -> Result<Option<Path>, NoMemory>
     ensures { IfOk result (λ copy. copy ≡ path.now) }
 {

@@ -13,7 +13,7 @@ use zk_path::{NoMemory, Path};
 /// `zookeeper.jute`, `MultiTxn` and `Txn`; the fields are those of [`Op`](crate::Op).
 #[derive(Debug, Drop)]
 pub enum Sub {
-    /// Makes a node.
+    /// Creates a node.
     Create {
         path: Path,
         content: Option<Content>,
@@ -21,7 +21,7 @@ pub enum Sub {
         ephemeral: bool,
         count: i32,
     },
-    /// Removes a node that has no children.
+    /// Deletes a node without children.
     Delete {
         path: Path,
     },
@@ -31,22 +31,21 @@ pub enum Sub {
         content: Option<Content>,
         version: i32,
     },
-    /// Was a test of a version, which had passed when the transaction was made.
+    /// A version check that had passed when the transaction was logged.
     Check {
         path: Path,
         version: i32,
     },
-    /// A part that the server refused with this code. With it the multi changes nothing.
+    /// A part that the server rejected with this code. A multi that has one changes nothing.
     Error {
         code: i32,
     },
 }
 
 impl Sub {
-    /// The same part once more.
     pub fn copy(&self) -> Result<Sub, NoMemory>
         ensures same { IfOk result (λ copy. copy ≡ self.now) }
-        // An error takes no memory.
+        // An error needs no memory.
         ensures error { IsTrue (is_error self.now) → IsOk result }
     {
         match self {
@@ -75,8 +74,8 @@ impl Sub {
         matches!(self, Sub::Error { .. })
     }
 
-    /// What the part answers if it is not applied: an error its own code, and any other this one, with the path that it
-    /// names.
+    /// The result of the part if it is not applied: an error's own code, or else `code`, with the
+    /// path that the part names.
     pub fn answer_unapplied(&self, code: i32) -> Result<PartResult, NoMemory>
         ensures { IfOk result (λ answer. answer ≡ record { err = code_of code self.now; path = path_of self.now; stat = None }) }
     {
@@ -88,7 +87,7 @@ impl Sub {
         })
     }
 
-    /// The code of that answer.
+    /// The code of that result.
     fn code_of(&self, code: i32) -> i32
         ensures { result ≡ code_of code self.now }
     {
@@ -159,7 +158,7 @@ fn copy_of_check(path: &Path, version: i32) -> Result<Sub, NoMemory>
     Ok(Sub::Check { path, version })
 }
 
-/// The parts of a multi, seen as their list.
+/// The parts of a multi, modelled as a list.
 #[derive(Debug, Drop)]
 pub struct Subs {
     parts: Vec<Sub>,
@@ -175,14 +174,13 @@ impl Model for Subs {
 }
 
 impl Subs {
-    /// These parts, without memory.
+    /// Wraps `parts` without allocating.
     pub fn new(parts: Vec<Sub>) -> Subs
         ensures { result ≡ parts.items }
     {
         Subs { parts }
     }
 
-    /// The parts, without memory.
     pub fn into_vec(self) -> Vec<Sub>
         ensures { result.items ≡ self }
     {
@@ -190,14 +188,12 @@ impl Subs {
         parts
     }
 
-    /// The parts, lent.
     pub fn as_slice(&self) -> &[Sub]
         ensures { result.now ≡ self.now }
     {
         self.parts.as_slice()
     }
 
-    /// The same parts once more.
     pub fn copy(&self) -> Result<Subs, NoMemory>
         ensures { IfOk result (λ copy. copy ≡ self.now) }
     {

@@ -6,23 +6,22 @@ use crate::sub::Subs;
 use zk_acl::Acls;
 use zk_path::{NoMemory, Path};
 
-/// A transaction: its header, and what it does.
+/// A transaction: its header, and its operation.
 ///
 /// `zookeeper.jute`, `TxnHeader`; `session` is its `clientId`.
 #[derive(Debug, Drop)]
 pub struct Txn {
-    /// The session that asked for it.
+    /// The session of the request.
     pub session: i64,
-    /// Which request of that session it was.
+    /// The number of the request within the session.
     pub cxid: i32,
     pub zxid: i64,
-    /// Milliseconds.
+    /// Milliseconds since 1970.
     pub time: i64,
     pub op: Op,
 }
 
 impl Txn {
-    /// The same transaction once more.
     pub fn copy(&self) -> Result<Txn, NoMemory>
         ensures same { IfOk result (λ copy. copy ≡ self.now) }
         ensures error { (code : ℤ) → self.now.op ≡ ops.Error code → IsOk result }
@@ -32,12 +31,12 @@ impl Txn {
     }
 }
 
-/// What a transaction does.
+/// The operation of a transaction.
 ///
 /// `zookeeper.jute`, module `org.apache.zookeeper.txn`.
 #[derive(Debug)]
 pub enum Op {
-    /// Makes a node. `count` is what the parent's count of creates becomes; -1 counts one more.
+    /// Creates a node. `count` is the parent's count of creates afterwards; -1 adds one.
     Create {
         path: Path,
         content: Option<Content>,
@@ -45,7 +44,7 @@ pub enum Op {
         ephemeral: bool,
         count: i32,
     },
-    /// Makes a node, as the servers of 3.3 logged it: one create more is counted.
+    /// Creates a node, as 3.3 servers logged it: the parent's count of creates grows by one.
     ///
     /// `zookeeper.jute`, `CreateTxnV0`.
     CreateOld {
@@ -54,7 +53,7 @@ pub enum Op {
         acl: Acls,
         ephemeral: bool,
     },
-    /// Removes a node that has no children.
+    /// Deletes a node without children.
     Delete {
         path: Path,
     },
@@ -74,19 +73,18 @@ pub enum Op {
     OpenSession {
         timeout: i32,
     },
-    /// Closes the header's session; the nodes that it owns go.
+    /// Closes the header's session and deletes the nodes that it owns.
     CloseSession,
-    /// Several operations on the nodes, which are applied in turn; with an error among them nothing is applied.
+    /// Several operations on nodes, applied in order; if one of them is an error, none is applied.
     Multi {
         parts: Subs,
     },
-    /// A request that the server refused with this code.
+    /// A request that the server rejected with this code.
     Error {
         code: i32,
     },
 }
 
-// (by hand, and so proved once: a derived one is proved wherever a value may be dropped)
 impl Drop for Op {
     fn drop(self) {
         match self {
@@ -123,10 +121,9 @@ impl Drop for Op {
 }
 
 impl Op {
-    /// The same operation once more.
     pub fn copy(&self) -> Result<Op, NoMemory>
         ensures same { IfOk result (λ copy. copy ≡ self.now) }
-        // An error takes no memory.
+        // An error needs no memory.
         ensures error { (code : ℤ) → self.now ≡ ops.Error code → IsOk result }
     {
         match self {

@@ -24,6 +24,6 @@ refusal nothing asked knows passed same (Behind seen zxid) told = (told.0, told.
 refusal nothing asked knows passed same NoMemory told = subst (λ (l : List Txn). passed ≤ℤ (tree_of l).last) (sym same) told
 refusal nothing asked knows passed same Gone told = absurd told
 
--- a list that is asked refuses as one that a reader knows then
+-- a list fails as one that a reader then knows
 pub refused_by : (nothing : Type 0) (asked knows : List Txn) (passed : ℤ) (answer : Result Seen ViewFault) → knows ≡ asked → IfErr answer (IsRefused ⊥ asked passed) → IfErr answer (IsRefused nothing knows passed)
 refused_by nothing asked knows passed answer same told = IfErr-weaker answer (IsRefused ⊥ asked passed) (IsRefused nothing knows passed) (refusal nothing asked knows passed same) told

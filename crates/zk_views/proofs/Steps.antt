@@ -17,7 +17,7 @@ admits published tokens kept seat known at =
 pub starts : (published : List Txn) → BeginsWithAll published ([] ∷ [])
 starts published = admits published [] (λ seat known at. absurd (some-ne-none known (sym at)))
 
--- what is published goes on from what it was, and one token knows it
+-- what is published continues what it was, and one token knows it
 grown : (seat : ℕ) (before after : List Txn) (tokens : List (List Txn)) → IsPrefix before after → BeginsWithAll before tokens → BeginsWithAll after (set tokens seat after)
 grown seat before after tokens more kept other known at =
     ⊎_elim

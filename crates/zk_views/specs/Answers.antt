@@ -1,4 +1,4 @@
--- What a client is told of a published list.
+-- A client's reply from a published list.
 use Rattle.std.specs.Prelude.{◌≡◌, ℤ, ◌<ℤ◌, ◌≤ℤ◌, List}
 use Rattle.zk_acl.specs.declared.acl.Id.{Id}
 use Rattle.zk_txn.specs.declared.read.ReadCall.{ReadCall}
@@ -9,15 +9,16 @@ use Rattle.zk_views.specs.declared.fault.ViewFault.{ViewFault}
 use Rattle.zk_views.specs.declared.fault.ViewFault.TheVariants.{Behind, NoMemory, Gone}
 use Rattle.zk_views.specs.declared.seen.Seen.{Seen}
 
--- A read that is answered from a list: what the tree of the list tells, and its last transaction. The client's pass had
--- seen none later, and then has seen that one.
+-- A read of a list: the reply of the list's tree, and its last zxid. The client's
+-- pass had seen no later transaction, and then has seen that one.
 pub record IsAnswered (txns : List Txn) (call : ReadCall) (auths : List Id) (before after : ℤ) (told : Seen) : Type 0 where
   pub reply : told.reply ≡ reply_to (tree_of txns) call auths
   pub zxid : told.zxid ≡ (tree_of txns).last
   pub not_back : before ≤ℤ told.zxid
   pub passed : after ≡ told.zxid
 
--- A read of a list that is refused, to a client whose pass has seen a transaction; or there is no list to read.
+-- A read of a list fails for a client whose pass has seen a transaction; or there is no list to
+-- read.
 abbrev pub IsRefused : Type 0 → List Txn → ℤ → ViewFault → Type 0
 IsRefused nothing txns passed (Behind seen zxid) = (seen ≡ passed) × (zxid ≡ (tree_of txns).last) × (zxid <ℤ seen)
 IsRefused nothing txns passed NoMemory = passed ≤ℤ (tree_of txns).last

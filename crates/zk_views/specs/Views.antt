@@ -1,32 +1,33 @@
--- A view: a list of transactions that is published, and grows. Its state is the tree of the list.
+-- A view: a published list of transactions, which grows. Its state is the list's tree.
 use Rattle.std.specs.Prelude.{◌≡◌, ℕ, List, [], ◌++◌, Option, Some}
 use mathlib.Core.Option.{some}
 use lib.ListN.{get_elem?}
 use Rattle.atomic_table.specs.Seated.{TableId}
 use Rattle.zk_txn.specs.declared.txn.Txn.{Txn}
 
--- the second list begins with the first
+-- the first list is a prefix of the second
 pub record IsPrefix (front whole : List Txn) : Type 0 where
   pub rest : List Txn
   pub is : front ++ rest ≡ whole
 
 -- ---- the rule
 
--- what is published begins with the list that each token knows
+-- the list that each token knows is a prefix of what is published
 abbrev pub BeginsWithAll : List Txn → List (List Txn) → Type 0
 BeginsWithAll published tokens = (seat : ℕ) (known : List Txn) → get_elem? tokens seat ≡ some known → IsPrefix known published
 
--- a token publishes: what is published goes on from what it was, and the token then knows it
+-- a token publishes: what is published continues what it was, and the token then knows it
 abbrev pub Publishes : List Txn → List Txn → List Txn → List Txn → Type 0
 Publishes known before after knows = IsPrefix before after × (knows ≡ after)
 
--- a token enters: what is published begins with what the token knew, and the token then knows it
+-- a token enters: what it knew is a prefix of what is published, which it then knows
 abbrev pub Enters : List Txn → List Txn → List Txn → List Txn → Type 0
 Enters known before after knows = IsPrefix known after × (knows ≡ after)
 
 -- ---- the publisher
 
--- what a publisher has published, and what it was offered, which begins with that; and the table under its view
+-- what a publisher has published; what it was offered, of which that is a prefix; and the table
+-- under its view
 pub record Publishing : Type 0 where
   pub table : TableId
   pub published : List Txn

@@ -4,16 +4,16 @@ ghost use Rattle.zk_views.specs.declared.fault.ViewFault.TheVariants as faults;
 use thiserror::Error;
 use zk_path::NoMemory;
 
-/// Why a read of a view is not answered. The client's pass stays as it is.
+/// Why a read of a view fails. The client's pass is unchanged.
 #[derive(Clone, Copy, Debug, PartialEq, Eq, Error)]
 pub enum ViewFault {
     /// The client has seen a later transaction than the last one that this view has published.
     #[error("V1")]
     Behind { seen: i64, zxid: i64 },
-    /// Memory was refused.
+    /// An allocation failed.
     #[error("V2")]
     NoMemory,
-    /// The view can't be entered, since its publisher has closed it.
+    /// The publisher has closed the view.
     #[error("V3")]
     Gone,
 }

@@ -1,16 +1,18 @@
-//! Views: the list of transactions that a server has published, and the threads that read its tree without waiting.
+//! Views: the list of transactions that a server has published, and threads that read its tree
+//! without waiting.
 //!
-//! One [`Publisher`] holds a view. Each [`Reader`] enters it at its own time, and is answered from a list that was
-//! published, which begins with all that this reader met before. A client carries a [`Pass`] from reader to reader, so
-//! that no view answers it which is behind what it has seen.
+//! One [`Publisher`] owns a view. Each [`Reader`] enters it at its own time and reads from a
+//! published list, which begins with all that this reader met before. A client carries a [`Pass`]
+//! from reader to reader: no view that has published less than the client has seen replies to it.
 //!
-//! A [`Kept`] is the view of one of several servers: whether it is late, and how it catches up with what the server has delivered.
+//! A [`PublishedView`] is the view of one of several servers: it knows if it is late, and catches
+//! up with what the server has delivered.
 #![tactic(auto)]
 
 mod fault;
-mod kept;
 mod machines;
 mod pass;
+mod published_view;
 mod publisher;
 mod reader;
 mod rule;
@@ -18,8 +20,8 @@ mod seen;
 mod view;
 
 pub use fault::ViewFault;
-pub use kept::{Kept, Viewed, catch_up_at, close_all, views_of};
 pub use pass::Pass;
+pub use published_view::{PublishedView, Viewed, catch_up_at, close_all, views_of};
 pub use publisher::Publisher;
 pub use reader::Reader;
 pub use seen::Seen;

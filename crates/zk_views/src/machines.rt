@@ -1,4 +1,4 @@
-//! The machine of a list of transactions, which answers reads without looking through all nodes.
+//! The machine of a list of transactions, for reads that do not search all nodes.
 ghost use Rattle.std.specs.Prelude.{◌≡◌, ◌<◌, ◌++◌, ◌∷◌, [], false, IfOk, IfSome, OnOk};
 ghost use Rattle.zk_table.specs.Histories.{tree_of};
 ghost use Rattle.zk_table.specs.Reads.{reply_to};
@@ -11,7 +11,7 @@ use zk_machine::Machine;
 use zk_path::NoMemory;
 use zk_table::{ReadCall, ReadReply, Txn};
 
-/// The machine of a list, made from the start.
+/// Builds the machine of a list from the start.
 pub(crate) fn machine_of(alloc: Global, txns: &[Txn]) -> Result<Machine, NoMemory>
     ensures { IfOk result (IsMachineOf txns.now) }
 {
@@ -22,7 +22,8 @@ pub(crate) fn machine_of(alloc: Global, txns: &[Txn]) -> Result<Machine, NoMemor
     Ok(machine)
 }
 
-/// The machine of a list with a transaction more: the list's own one, or one from the start where there is none.
+/// Returns the machine of a list with one more transaction, from the list's own or, without one,
+/// from the start.
 pub(crate) fn machine_after(
     alloc: Global,
     machine: Option<Machine>,
@@ -37,7 +38,7 @@ pub(crate) fn machine_after(
     Ok(machine)
 }
 
-/// The machine of a list, made from the start where there is none.
+/// Returns the machine of a list, built from the start if there is none.
 fn machine_or_anew(
     alloc: Global,
     machine: Option<Machine>,
@@ -52,7 +53,7 @@ fn machine_or_anew(
     }
 }
 
-/// Applies a transaction, which is never taken back. After [`NoMemory`] the machine may have failed for good.
+/// Applies a transaction without undo. After [`NoMemory`] the machine may have failed for good.
 fn advance(machine: &mut Machine, txn: &Txn) -> Result<(), NoMemory>
     requires { machine.old.failed ≡ false }
     ensures state { OnOk result (machine.new.state ≡ (step machine.old.state txn.now).0) }
@@ -65,7 +66,7 @@ fn advance(machine: &mut Machine, txn: &Txn) -> Result<(), NoMemory>
     Ok(())
 }
 
-/// The last transaction of a machine that goes on, and 0 before the first.
+/// Returns the last zxid of a machine that has not failed; 0 before the first.
 pub(crate) fn last_of(machine: &Machine) -> i64
     requires { machine.now.failed ≡ false }
     ensures { result ≡ machine.now.state.last }
@@ -76,7 +77,7 @@ pub(crate) fn last_of(machine: &Machine) -> i64
     last
 }
 
-/// What a machine tells a caller who has proved these identities.
+/// Returns a machine's reply to a caller who has proved these identities.
 pub(crate) fn read_from(
     machine: &Machine,
     call: &ReadCall,

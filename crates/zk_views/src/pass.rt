@@ -3,13 +3,12 @@ ghost use Rattle.std.specs.Int.{int_max};
 
 use std::marker::Model;
 
-/// What a client has seen: the zxid of a transaction, and 0 at first. It only rises.
+/// What a client has seen: the zxid of a transaction, 0 at first. It only rises.
 #[derive(Debug)]
 pub struct Pass {
     seen: i64,
 }
 
-// (by hand, and so proved once: a derived one is proved wherever a value may be dropped)
 impl Drop for Pass {
     fn drop(self) {
         let Pass { seen: _ } = self;
@@ -32,14 +31,14 @@ impl Pass {
         Pass { seen: 0 }
     }
 
-    /// The zxid of the last transaction that the client has seen.
+    /// Returns the zxid of the last transaction that the client has seen.
     pub fn seen(&self) -> i64
         ensures { result ≡ self.now }
     {
         self.seen
     }
 
-    /// Notes that the client has seen a transaction. What it has seen never falls.
+    /// Records that the client has seen a transaction. Never falls.
     pub fn take(&mut self, zxid: i64)
         ensures { self.new ≡ int_max self.old zxid }
     {

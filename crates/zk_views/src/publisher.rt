@@ -11,14 +11,15 @@ use std::sync::Wait;
 use zk_path::NoMemory;
 use zk_table::Txn;
 
-/// The end of a view that publishes. It is not `Drop`: end it by [`Publisher::close`].
+/// The publishing end of a view. It is not `Drop`: end it by [`Publisher::close`].
 pub struct Publisher {
     writer: ViewWriter,
-    // How many transactions were offered.
+    // The number of transactions offered.
     offered: usize,
 }
 
-/// A publisher is seen as the list that is published, and the longer one that it was offered; and as the table of its view.
+/// Contracts see the published list, the longer list that it was offered, and the table of its
+/// view.
 impl Model for Publisher {
     ghost use Rattle.std.specs.Prelude.{◌≡◌, ◌++◌, drop, length};
     ghost use Rattle.zk_views.specs.Views.{Publishing};
@@ -31,7 +32,8 @@ impl Model for Publisher {
 }
 
 impl Publisher {
-    /// A view with nothing published, and so many readers of it, which stand over its table. [`NoMemory`] also where there can't be that many.
+    /// Creates a view with nothing published, and `count` readers over its table. [`NoMemory`] also
+    /// if there can't be that many.
     pub fn start<R: Wait>(
         rt: &R,
         alloc: Global,
@@ -52,14 +54,13 @@ impl Publisher {
         }
     }
 
-    /// What is published.
     pub fn published(&self) -> &[Txn]
         ensures { result.now ≡ self.now.published }
     {
         self.writer.published().txns()
     }
 
-    /// How many transactions were offered. The next ones go behind them.
+    /// Returns the number of transactions offered. The next ones go after them.
     pub fn offered(&self) -> usize
         ensures count { result ≡ length self.now.offered }
         ensures begins { IsPrefix self.now.published self.now.offered }
@@ -67,11 +68,11 @@ impl Publisher {
         self.offered
     }
 
-    /// Offers transactions behind those that were offered before, and publishes all, at once. It waits for readers that
-    /// are still in an older copy.
+    /// Appends transactions to those offered before, and publishes all of them at once. Waits for
+    /// readers that are still in an older copy.
     ///
-    /// After [`NoMemory`] what is published is as it was. The first of these transactions may have been offered, as
-    /// [`Publisher::offered`] tells; the next call that succeeds publishes them.
+    /// After [`NoMemory`] what is published is unchanged. The first of these transactions may have
+    /// been offered, as [`Publisher::offered`] shows; the next call that succeeds publishes them.
     pub fn publish<R: Wait>(&mut self, rt: &R, more: &[Txn]) -> Result<(), NoMemory>
         requires room { length self.old.offered + length more.now < 2 ^ 64 }
         ensures published { OnOk result (self.new.published ≡ self.old.offered ++ more.now) }
@@ -80,13 +81,14 @@ impl Publisher {
         ensures refused { OnErr result (self.new.published ≡ self.old.published) }
         ensures partly { OnErr result (LiesBetween self.old.offered self.new.offered (self.old.offered ++ more.now)) }
     {
-        // once a part is looked at, what the type keeps of it is known
+        // Reading a part gives the prover what its type keeps.
         let _ = &self.writer;
         self.offer(more)?;
         self.show(rt)
     }
 
-    /// Offers transactions behind those that were offered before. After [`NoMemory`] the first of them may have been.
+    /// Appends transactions to those offered before. After [`NoMemory`] the first of them may have
+    /// been offered.
     fn offer(&mut self, more: &[Txn]) -> Result<(), NoMemory>
         requires room { length self.old.offered + length more.now < 2 ^ 64 }
         ensures published { self.new.published ≡ self.old.published }
@@ -99,7 +101,7 @@ impl Publisher {
         Ok(())
     }
 
-    /// Offers one transaction more. After [`NoMemory`] nothing is changed.
+    /// Offers one more transaction. After [`NoMemory`] nothing has changed.
     fn offer_one(&mut self, txn: &Txn) -> Result<(), NoMemory>
         requires room { length self.old.offered < 2 ^ 64 - 1 }
         ensures published { self.new.published ≡ self.old.published }
@@ -114,7 +116,7 @@ impl Publisher {
         Ok(())
     }
 
-    /// Publishes all that was offered. After [`NoMemory`] nothing is changed.
+    /// Publishes all that was offered. After [`NoMemory`] nothing has changed.
     fn show<R: Wait>(&mut self, rt: &R) -> Result<(), NoMemory>
         ensures published { OnOk result (self.new.published ≡ self.old.offered) }
         ensures offered { self.new.offered ≡ self.old.offered }
@@ -127,8 +129,8 @@ impl Publisher {
         Ok(())
     }
 
-    /// Gives up the view, and hands back what was published last. It waits for readers that are still in. From then on
-    /// no reader enters it.
+    /// Closes the view, and returns what was published last. Waits for readers that are still in.
+    /// No reader enters it any more.
     pub fn close<R: Wait>(self, rt: &R) -> Vec<Txn>
         ensures { result.items ≡ self.published }
     {
@@ -137,7 +139,7 @@ impl Publisher {
     }
 }
 
-/// Shows all that is pending, or nothing where memory is refused.
+/// Publishes all that is pending, or nothing if an allocation fails.
 fn show_all<R: Wait>(writer: ViewWriter, rt: &R) -> (ViewWriter, Result<(), AllocError>)
     ensures shown { OnOk result.1 ((result.0.desk.shown.value ≡ writer.desk.shown.value ++ drop writer.behind writer.log.items) × (drop result.0.behind result.0.log.items ≡ [])) }
     ensures refused { OnErr result.1 ((result.0.desk.shown.value ≡ writer.desk.shown.value) × (drop result.0.behind result.0.log.items ≡ drop writer.behind writer.log.items)) }
@@ -145,7 +147,7 @@ fn show_all<R: Wait>(writer: ViewWriter, rt: &R) -> (ViewWriter, Result<(), Allo
     writer.publish_as::<Publish, R>(rt)
 }
 
-/// So many readers of a view.
+/// Creates `count` readers of a view.
 fn readers_of(alloc: Global, writer: &ViewWriter, count: usize) -> Result<Vec<Reader>, NoMemory>
     ensures { IfOk result (λ readers. readers.items ≡ replicate count (unentered writer.now.desk.place.table_id)) }
 {

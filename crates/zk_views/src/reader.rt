@@ -13,18 +13,17 @@ use zk_table::ReadCall;
 
 /// One thread's end of a view. It never waits.
 pub struct Reader {
-    // There, but for the time of a read.
+    // Present except during a read.
     end: Option<ViewReader>,
 }
 
-// (by hand, and so proved once: a derived one is proved wherever a value may be dropped)
 impl Drop for Reader {
     fn drop(self) {
         let Reader { end: _ } = self;
     }
 }
 
-/// A reader is seen as the list that it entered last, and as none at first; and as the table of its view.
+/// Contracts see the list that it entered last, at first the empty list, and the table of its view.
 impl Model for Reader {
     ghost use Rattle.std.specs.Prelude.{[], IsSome, option_map, unwrap_or};
     ghost use Rattle.left_right.specs.Sides as sides;
@@ -45,11 +44,13 @@ impl Reader {
         Reader { end: Some(end) }
     }
 
-    /// Answers a client from a list that is published now, where the client has seen no later transaction; its pass
-    /// then has seen the last one of that list. A refusal leaves the pass.
+    /// Replies to a client from a list that is published now, if the client has seen no later
+    /// transaction. Its pass then has seen that list's last one. An error leaves the pass
+    /// unchanged.
     ///
-    /// The list begins with the one that this reader entered before, and takes its place, also where the client is
-    /// ahead of it or memory is refused. Once the publisher has closed the view, the reader enters nothing more.
+    /// The list begins with the one that this reader entered before, and replaces it, even if the
+    /// client is ahead of it or an allocation fails. After the publisher has closed the view, the
+    /// reader enters nothing more.
     pub fn read(
         &mut self,
         pass: &mut Pass,
@@ -68,7 +69,7 @@ impl Reader {
     }
 }
 
-/// Enters the view, asks what it holds then, and leaves it.
+/// Enters the view, reads what it holds then, and leaves it.
 fn read_by(
     reader: ViewReader,
     pass: &mut Pass,

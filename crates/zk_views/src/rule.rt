@@ -1,14 +1,14 @@
-//! The rule of a view: what its readers have met is always a beginning of what is published.
+//! The rule of a view: what its readers have met is always a prefix of what is published.
 //!
-//! A token is what a reader or the publisher carries; it knows a list. There are two kinds of step, to publish and to
-//! enter, and after either the token knows what is published then.
+//! A token is carried by a reader or the publisher, and knows a list. There are two kinds of step,
+//! to publish and to enter; after either, the token knows what is published.
 
 use crate::view::View;
 use crossbeam_utils::rule::{Outcome, Protocol};
 use left_right::{reader, writer};
 use zk_table::Txn;
 
-/// The list that a token knows. No value of it is made; a clause reads an array as a list, of any length.
+/// The list that a token knows. It has no values; a clause reads an array as a list of any length.
 pub(crate) type Known = [Txn; 0];
 
 /// The rule.

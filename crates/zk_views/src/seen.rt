@@ -1,6 +1,6 @@
 use zk_table::ReadReply;
 
-/// What a read of a view is told, and the last transaction of the list that it is told from.
+/// The reply to a read of a view, and the last zxid of the list that it was read from.
 #[derive(Debug, Drop)]
 pub struct Seen {
     pub zxid: i64,

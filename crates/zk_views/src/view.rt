@@ -15,18 +15,19 @@ use zk_machine::Machine;
 use zk_path::NoMemory;
 use zk_table::{ReadCall, ReadReply, Txn};
 
-/// One of the two copies of what is published: a list of transactions, and the tree that they make.
+/// One of the two copies of what is published: a list of transactions, and their tree.
 #[derive(Drop)]
 pub struct View {
     alloc: Global,
     txns: Vec<Txn>,
-    /// The zxid of the last transaction, and 0 before the first.
+    /// The zxid of the last transaction; 0 before the first.
     last: i64,
-    /// None where memory was refused in the middle of a transaction: the next one makes it anew, from the list.
+    /// `None` after an allocation failed within a transaction: the next one builds it anew from the
+    /// list.
     machine: Option<Machine>,
 }
 
-/// A view is seen as its list.
+/// Contracts see the list.
 impl Model for View {
     ghost use Rattle.std.specs.Prelude.{◌≡◌, List};
     ghost use Rattle.zk_txn.specs.declared.txn.Txn.{Txn};
@@ -40,7 +41,7 @@ impl Model for View {
 }
 
 impl View {
-    /// No transaction, and the start tree.
+    /// An empty list, and the start tree.
     pub fn new(alloc: Global) -> Result<View, NoMemory>
         ensures { IfOk result (λ view. view ≡ []) }
     {
@@ -53,14 +54,13 @@ impl View {
         })
     }
 
-    /// The transactions, lent.
     pub fn txns(&self) -> &[Txn]
         ensures { result.now ≡ self.now }
     {
         self.txns.as_slice()
     }
 
-    /// The transactions, handed out.
+    /// Returns the transactions.
     pub fn into_txns(self) -> Vec<Txn>
         ensures { result.items ≡ self }
     {
@@ -68,7 +68,8 @@ impl View {
         txns
     }
 
-    /// Answers a client's read, where the client has seen no later transaction; its pass then has seen the last one.
+    /// Replies to a client, if it has seen no later transaction. Its pass then has seen the last
+    /// one.
     pub fn tell(&self, pass: &mut Pass, call: &ReadCall, auths: &[Id]) -> Result<Seen, ViewFault>
         ensures answered { IfOk result (IsAnswered self.now call.now auths.now pass.old pass.new) }
         ensures refused { IfErr result (IsRefused ⊥ self.now pass.old) }
@@ -84,7 +85,7 @@ impl View {
         Ok(Seen { zxid, reply })
     }
 
-    /// What the tree tells a caller who has proved these identities.
+    /// Returns the tree's reply to a caller who has proved these identities.
     fn reply(&self, call: &ReadCall, auths: &[Id]) -> Result<ReadReply, NoMemory>
         ensures { IfOk result (λ reply. reply ≡ reply_to (tree_of self.now) call.now auths.now) }
     {
@@ -95,9 +96,9 @@ impl View {
     }
 }
 
-/// A transaction is appended to the list, and applied to the tree.
+/// Appends a transaction to the list, and applies it to the tree.
 impl Absorb<Txn> for View {
-    // A clause reads an array as a list, of any length.
+    // A clause reads an array as a list of any length.
     type State = [Txn; 0];
 
     ghost use Rattle.std.specs.Prelude.{[], ◌∷◌, ◌++◌};
@@ -116,7 +117,7 @@ impl Absorb<Txn> for View {
         }
     }
 
-    /// The room in the list comes first, so that a refusal leaves the list.
+    /// Room in the list is reserved first: a failed allocation leaves the list unchanged.
     fn absorb_second(&mut self, operation: Txn, _other: &View) -> Result<(), Txn> {
         if self.txns.reserve(1).is_err() {
             return Err(operation);

@@ -1,4 +1,4 @@
--- A session that was dropped is told of no change.
+-- No change fires a watch of a dropped session.
 use Rattle.std.proofs.Common.{◌≡◌, ℕ, Bool, true, false, cond, not, ◌&&◌, ◌||◌, ◌==◌, if◌then◌else◌, List, [], ◌∷◌, ◌++◌, filter, refl, sym, ap, ◌∙◌}
 use Rattle.std.specs.List.{list_any}
 use Rattle.zk_machine.specs.declared.change.Change.{Change}
@@ -15,7 +15,7 @@ or_parts false b e = (refl, e)
 is_of : ℕ → Watch → Bool
 is_of session w = w.session == session
 
--- none of the watches is the session's
+-- no watch is the session's
 HasNone : ℕ → List Watch → Type 0
 HasNone session ws = list_any (λ w. w.session == session) ws ≡ false
 

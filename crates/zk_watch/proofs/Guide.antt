@@ -20,7 +20,7 @@ use Rattle.zk_watch.specs.declared.watch.WatchKind.TheVariants.{Content, Childre
 use Rattle.zk_watch.specs.WatchLaws.{is_told, WatchesAreToldOnce, SetWatchesAreTold, OthersStay, TwiceIsOnce, DroppedAreToldNothing, EventsRise, event_cmp}
 use Rattle.zk_watch.specs.Watching.{hears, waits_for, spent, spent_by, is_live, is_at, is_hit, told, told_by, after_change, fired_by, first_watch, joined, put, watch_cmp, without_session}
 
--- ---- told once
+-- ---- fires once
 
 spent_waits : (content children hears_content hears_children : Bool) → ((content && not hears_content) && hears_content || (children && not hears_children) && hears_children) ≡ false
 spent_waits true true true true = refl
@@ -48,7 +48,7 @@ told_once c (w ∷ ws) = by_life (is_live (spent_by c w)) (told_once c ws)
     by_life true rest = ap (λ b. map (told c) (cond b (spent_by c w ∷ filter (is_hit c) (after_change c ws)) (filter (is_hit c) (after_change c ws)))) (spent_not_hit c w) ∙ rest
     by_life false rest = rest
 
--- ---- who sets a watch is told
+-- ---- a watch that is set fires
 
 -- of the watches v ∷ ws
 pub told_first : (c : Change) (session : ℕ) (v : Watch) (ws : List Watch) → is_told session (told_by c (v ∷ ws)) ≡ ((is_hit c v && v.session == session) || is_told session (told_by c ws))
@@ -156,7 +156,7 @@ twice_is_once session kind path ws = again (first_watch session kind path) ws
         (λ e. found new (joined new w) ws e ∙ ap (λ v. v ∷ ws) (joined_again new w))
         (λ e. behind new w (put new ws) e ∙ ap (λ l. w ∷ l) (again new ws))
 
--- ---- who is dropped is told nothing
+-- ---- a dropped session gets no event
 
 pub dropped_told : DroppedAreToldNothing
 dropped_told session c [] = refl

@@ -1,4 +1,4 @@
--- Watches that wait for nothing may stay while changes are told: nobody hears of them.
+-- Entries without a watch may stay while changes fire: they fire nothing.
 use Rattle.std.proofs.Common.{◌≡◌, ℕ, ◌++◌, length, take, drop, append-nil, arith, Bool, true, false, cond, ◌&&◌, ◌||◌, if◌then◌else◌, List, [], ◌∷◌, map, filter, refl, sym, ap, ◌∙◌}
 use Rattle.std.proofs.lemmas.Bool.{false≢true, and_parts}
 use Rattle.std.proofs.lemmas.List.{drop_all, take_all}
@@ -55,7 +55,7 @@ all_live (w ∷ ws) live =
     ap (λ b. cond b (w ∷ filter is_live ws) (filter is_live ws)) (and_parts _ _ live).0
     ∙ ap (λ l. w ∷ l) (all_live ws (and_parts _ _ live).1)
 
--- ---- a vector whose items were lent as a slice has what was written there
+-- ---- a vector whose items were borrowed as a slice has what was written there
 
 pub lent_back : {X : Type 0} (n : ℕ) (ws xs : List X) → length ws ≡ length xs → n ≡ length xs → take n (ws ++ drop (length ws) xs) ≡ ws
 lent_back n ws xs same long =

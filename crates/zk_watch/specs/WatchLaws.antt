@@ -1,4 +1,5 @@
--- What the guide says of watches, told of every list of them: ZooKeeper Programmer's Guide, "ZooKeeper Watches".
+-- What the guide says about watches, of every list of watches: ZooKeeper Programmer's Guide,
+-- "ZooKeeper Watches".
 use Rattle.std.specs.Prelude.{◌≡◌, ℕ, Bool, true, false, not, ◌==◌, List, [], ◌∷◌, map, filter}
 use Rattle.std.specs.List.{AllByRecursion, list_any, flat_map}
 use Rattle.std.specs.List.Sorted.{IsStrictlySortedBy}
@@ -17,26 +18,26 @@ use Rattle.zk_watch.specs.Watching.{IsWatchList, hears, told_by, after_change, f
 abbrev pub is_told : ℕ → List Fired → Bool
 is_told session events = list_any (λ e. e.session == session) events
 
--- a watch is told once: after a change nobody waits for another like it
+-- a watch fires once: after a change no session waits for another like it
 abbrev pub WatchesAreToldOnce : Type 0
 WatchesAreToldOnce = (change : Change) (ws : List Watch) → told_by change (after_change change ws) ≡ []
 
--- a session that has set a watch is told of the next change that such a watch hears of
+-- a session that has set a watch gets the next change that fires such a watch
 abbrev pub SetWatchesAreTold : Type 0
 SetWatchesAreTold = (session : ℕ) (kind : WatchKind) (change : Change) (ws : List Watch) → hears kind change.kind ≡ true → is_told session (told_by change (with_watch session kind change.path ws)) ≡ true
 
--- and every other session is told what it would have been told
+-- and every other session gets the events that it would have had
 abbrev pub OthersStay : Type 0
 OthersStay = (session other : ℕ) (kind : WatchKind) (path : List ℕ) (change : Change) (ws : List Watch) → (session == other) ≡ false → is_told other (told_by change (with_watch session kind path ws)) ≡ is_told other (told_by change ws)
 
 abbrev pub TwiceIsOnce : Type 0
 TwiceIsOnce = (session : ℕ) (kind : WatchKind) (path : List ℕ) (ws : List Watch) → with_watch session kind path (with_watch session kind path ws) ≡ with_watch session kind path ws
 
--- of a change are told, once a session is dropped, the others alone
+-- once a session is dropped, a change fires only the others' watches
 abbrev pub DroppedAreToldNothing : Type 0
 DroppedAreToldNothing = (session : ℕ) (change : Change) (ws : List Watch) → told_by change (without_session session ws) ≡ filter (λ e. not (e.session == session)) (told_by change ws)
 
--- and it is told of no later change either
+-- and no later change fires one of its watches, either
 abbrev pub DroppedStayUntold : Type 0
 DroppedStayUntold = (session : ℕ) (changes : List Change) (ws : List Watch) → is_told session (fired_by changes (without_session session ws)) ≡ false
 

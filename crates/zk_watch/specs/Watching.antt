@@ -1,8 +1,8 @@
 -- Watches and the events that they fire: ZooKeeper Programmer's Guide, "ZooKeeper Watches".
 --
--- Watches are a list in the order of their paths and then of their sessions' digits. It has one entry for each path and
--- session, which says what of the node the session waits for: its content (the guide's data watches), its children
--- (child watches), or both.
+-- Watches are a list in the order of paths, then of sessions' digits. It has one entry for each
+-- path and session, which says what the session waits for at the node: its content (the guide's
+-- data watches), its children (child watches), or both.
 use Rattle.std.specs.Prelude.{ℕ, Bool, true, false, not, ◌&&◌, ◌||◌, ◌==◌, List, [], ◌∷◌, ◌++◌, map, filter, IsTrue, if◌then◌else◌}
 use Rattle.std.specs.List.{list_all, list_any}
 use Rattle.std.specs.List.Sorted.{IsStrictlySortedBy}
@@ -23,7 +23,7 @@ use Rattle.zk_watch.specs.declared.watch.WatchKind.TheVariants.{Content, Childre
 abbrev pub is_at : List ℕ → Watch → Bool
 is_at path w = bytes_eq w.path path
 
--- which changes of its node a watch of a kind is told of
+-- the changes of its node that fire a watch of a kind
 abbrev pub hears : WatchKind → ChangeKind → Bool
 hears Content Created = true
 hears Content Deleted = true
@@ -37,7 +37,7 @@ hears Children ChildrenChanged = true
 abbrev pub waits_for : ChangeKind → Watch → Bool
 waits_for kind w = w.content && hears Content kind || w.children && hears Children kind
 
--- what has heard is gone
+-- what has fired is removed
 abbrev pub spent : ChangeKind → Watch → Watch
 spent kind w = record w { content = w.content && not (hears Content kind); children = w.children && not (hears Children kind) }
 
@@ -64,8 +64,9 @@ after_change c ws = filter is_live (map (spent_by c) ws)
 
 -- ---- changes in turn
 
--- Changes are those of instructions in turn, and an instruction's are in the order of their paths, one at each. So events
--- are in the order of instruction, path and session, and an instruction tells a session once of a path.
+-- Changes are those of instructions in turn, and an instruction's are in the order of their paths,
+-- one at each. Events are therefore in the order of instruction, path and session, one per
+-- instruction, path and session.
 abbrev pub fired_by : List Change → List Watch → List Fired
 fired_by [] ws = []
 fired_by (c ∷ cs) ws = told_by c ws ++ fired_by cs (after_change c ws)
@@ -87,14 +88,15 @@ abbrev pub is_children : WatchKind → Bool
 is_children Content = false
 is_children Children = true
 
--- what a session has at a path where it has set one watch
+-- what a session has at a path after setting one watch
 abbrev pub first_watch : ℕ → WatchKind → List ℕ → Watch
 first_watch session kind path = record { path = path; session = session; content = is_content kind; children = is_children kind }
 
 abbrev pub joined : Watch → Watch → Watch
 joined new w = record w { content = new.content || w.content; children = new.children || w.children }
 
--- A watch goes to its place in the order. Where its session has one at its path, the two become one: twice is once.
+-- A watch is inserted in order. If its session has one at its path, the two become one: twice is
+-- once.
 abbrev pub put : Watch → List Watch → List Watch
 put new [] = new ∷ []
 put new (w ∷ ws) = match_ordering (watch_cmp new w) (new ∷ w ∷ ws) (joined new w ∷ ws) (w ∷ put new ws)
@@ -102,7 +104,7 @@ put new (w ∷ ws) = match_ordering (watch_cmp new w) (new ∷ w ∷ ws) (joined
 abbrev pub with_watch : ℕ → WatchKind → List ℕ → List Watch → List Watch
 with_watch session kind path ws = put (first_watch session kind path) ws
 
--- whether a session waits for something at a path
+-- a session waits for something at a path
 abbrev pub waits_at : ℕ → List ℕ → List Watch → Bool
 waits_at session path ws = list_any (λ w. is_at path w && w.session == session) ws
 
@@ -112,7 +114,7 @@ without_session session ws = filter (λ w. not (w.session == session)) ws
 -- ---- what is true of all watches
 
 pub record IsWatchList (ws : List Watch) : Type 0 where
-  -- each stands behind those before it, so a path and a session stand together once
+  -- each comes after those before it: a path and a session occur together once
   pub ordered : IsStrictlySortedBy watch_cmp ws
   -- each waits for something
   pub live : IsTrue (list_all is_live ws)

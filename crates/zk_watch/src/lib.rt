@@ -1,4 +1,4 @@
-//! Watches: what sessions wait for at paths, and what they are told when it happens.
+//! Watches: what sessions wait for at paths, and the events that changes fire.
 //!
 //! ZooKeeper Programmer's Guide, "ZooKeeper Watches".
 #![tactic(auto)]

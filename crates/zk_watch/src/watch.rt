@@ -4,38 +4,39 @@ ghost use Rattle.zk_watch.specs.Watching.{hears, waits_for, spent, is_live, firs
 use zk_machine::ChangeKind;
 use zk_path::{NoMemory, Path};
 
-/// What of a node a watch waits for.
+/// The part of a node that a watch waits for.
 ///
-/// ZooKeeper Programmer's Guide, "ZooKeeper Watches", whose data watches and child watches these are.
+/// ZooKeeper Programmer's Guide, "ZooKeeper Watches": data watches and child watches.
 #[derive(Clone, Copy, Debug, PartialEq, Eq)]
 pub enum WatchKind {
-    /// The node comes or goes, or gets other content: set by the calls that read content or ask whether a node exists.
+    /// Fires when the node is created, deleted, or gets new content; set by reads of content and by
+    /// Exists.
     Content,
-    /// The node goes, or a child of it comes or goes: set by the call that lists children.
+    /// Fires when the node is deleted, or a child is created or deleted; set by GetChildren.
     Children,
 }
 
-/// What a session waits for at a path; at least one of the two.
+/// A session's watches at a path; at least one of the two kinds.
 #[derive(Debug, Drop)]
 pub struct Watch {
     pub path: Path,
-    /// The unsigned number that the session's sixteen digits spell.
+    /// The unsigned number that the session's sixteen digits write.
     pub session: u64,
     pub content: bool,
     pub children: bool,
 }
 
-/// What a session is told: what happened, and where.
+/// A fired event: its session, kind and path.
 #[derive(Debug, Drop)]
 pub struct Fired {
-    /// The unsigned number that the session's sixteen digits spell.
+    /// The unsigned number that the session's sixteen digits write.
     pub session: u64,
     pub kind: ChangeKind,
     pub path: Path,
 }
 
 impl WatchKind {
-    /// Whether a watch of this kind is told of such a change of its node.
+    /// Whether such a change of its node fires a watch of this kind.
     fn hears(self, kind: ChangeKind) -> bool
         ensures { result ≡ hears self kind }
     {
@@ -53,7 +54,7 @@ impl WatchKind {
 }
 
 impl Watch {
-    /// What a session has at a path where it has set one watch.
+    /// A session's watches at a path after setting one.
     pub(crate) fn first(session: u64, kind: WatchKind, path: Path) -> Watch
         ensures { result ≡ first_watch session kind path }
     {
@@ -65,7 +66,7 @@ impl Watch {
         }
     }
 
-    /// Waits from now on for what a watch of this kind is told of, too.
+    /// Adds a watch of this kind.
     pub(crate) fn join(&mut self, kind: WatchKind)
         ensures { self.new ≡ joined (first_watch self.old.session kind self.old.path) self.old }
     {
@@ -75,7 +76,6 @@ impl Watch {
         }
     }
 
-    /// The same watch once more.
     pub(crate) fn copy(&self) -> Result<Watch, NoMemory>
         ensures { IfOk result (λ copy. copy ≡ self.now) }
     {
@@ -87,7 +87,7 @@ impl Watch {
         })
     }
 
-    /// Whether the session waits for such a change of the node.
+    /// Whether such a change of the node fires a watch here.
     pub(crate) fn waits_for(&self, kind: ChangeKind) -> bool
         ensures { result ≡ waits_for kind self.now }
     {
@@ -95,7 +95,7 @@ impl Watch {
             || self.children && WatchKind::Children.hears(kind)
     }
 
-    /// What has heard of such a change is gone.
+    /// Removes what such a change fires.
     pub(crate) fn spend(&mut self, kind: ChangeKind)
         ensures { self.new ≡ spent kind self.old }
     {
@@ -103,7 +103,7 @@ impl Watch {
         self.children = self.children && !WatchKind::Children.hears(kind);
     }
 
-    /// Whether the session waits for anything.
+    /// Whether any watch is left.
     pub(crate) fn is_live(&self) -> bool
         ensures { result ≡ is_live self.now }
     {

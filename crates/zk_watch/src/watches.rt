@@ -11,7 +11,7 @@ use std::marker::Model;
 use zk_machine::{Change, ChangeKind};
 use zk_path::{NoMemory, Path};
 
-/// The watches of a server's sessions, in the order of their paths and then of their sessions' digits.
+/// The watches of a server's sessions, in the order of paths, then of sessions' digits.
 ///
 /// ZooKeeper Programmer's Guide, "ZooKeeper Watches".
 #[derive(Debug)]
@@ -19,7 +19,6 @@ pub struct Watches {
     entries: Vec<Watch>,
 }
 
-// (by hand, and so proved once: a derived one is proved wherever a value may be dropped)
 impl Drop for Watches {
     fn drop(self) {
         let Watches { entries: _ } = self;
@@ -39,8 +38,8 @@ impl Model for Watches {
     ghost invariant = { λ watches. IsWatchList watches.entries.items };
 }
 
-/// Where a session's watch at a path stands, or else where it would go.
-fn place_of(watches: &[Watch], session: u64, path: &Path) -> Result<usize, usize>
+/// Finds a session's watch at a path, or the position where it would be inserted.
+fn position_of(watches: &[Watch], session: u64, path: &Path) -> Result<usize, usize>
     requires { IsStrictlySortedBy watch_cmp watches.now }
     ensures within { MatchResult result (λ at. at < length watches.now) (λ at. at ≤ length watches.now) }
     ensures place { IsPlace session path.now watches.now result }
@@ -58,7 +57,6 @@ fn place_of(watches: &[Watch], session: u64, path: &Path) -> Result<usize, usize
     )
 }
 
-/// The same watches once more.
 fn copy_of(watches: &Vec<Watch>) -> Result<Vec<Watch>, NoMemory>
     ensures { IfOk result (λ copy. copy.items ≡ watches.now.items) }
 {
@@ -69,7 +67,7 @@ fn copy_of(watches: &Vec<Watch>) -> Result<Vec<Watch>, NoMemory>
     Ok(copy)
 }
 
-/// How many watches have lesser paths.
+/// Counts the watches with lesser paths.
 fn count_below(watches: &[Watch], path: &Path) -> usize
     requires { IsStrictlySortedBy watch_cmp watches.now }
     ensures within { result ≤ length watches.now }
@@ -78,7 +76,7 @@ fn count_below(watches: &[Watch], path: &Path) -> usize
     watches.partition_point(|watch| watch.path.text().cmp(path.text()).is_lt())
 }
 
-/// How many have no greater ones.
+/// Counts the watches with no greater path.
 fn count_upto(watches: &[Watch], path: &Path) -> usize
     requires { IsStrictlySortedBy watch_cmp watches.now }
     ensures within { result ≤ length watches.now }
@@ -87,7 +85,7 @@ fn count_upto(watches: &[Watch], path: &Path) -> usize
     watches.partition_point(|watch| watch.path.text().cmp(path.text()).is_le())
 }
 
-/// The watches at a path, which stand side by side.
+/// Borrows the watches at a path, which are adjacent.
 fn watches_at<'a>(watches: &'a [Watch], path: &Path) -> &'a [Watch]
     requires { IsStrictlySortedBy watch_cmp watches.now }
     ensures { result.now ≡ filter (is_at path.now) watches.now }
@@ -104,7 +102,7 @@ fn is_awaited(watches: &[Watch], kind: ChangeKind) -> bool
     watches.iter().any(|watch| watch.waits_for(kind))
 }
 
-/// Whether anybody is told of this change.
+/// Whether a watch fires at this change.
 fn is_hit(watches: &[Watch], change: &Change) -> bool
     requires { IsStrictlySortedBy watch_cmp watches.now }
     ensures { result ≡ list_any (is_hit change.now) watches.now }
@@ -112,7 +110,7 @@ fn is_hit(watches: &[Watch], change: &Change) -> bool
     is_awaited(watches_at(watches, &change.path), change.kind)
 }
 
-/// Whether anybody is told of any of these changes.
+/// Whether a watch fires at any of these changes.
 fn are_hit(watches: &[Watch], changes: &[Change]) -> bool
     requires { IsStrictlySortedBy watch_cmp watches.now }
     ensures { result ≡ list_any (λ change. list_any (is_hit change) watches.now) changes.now }
@@ -120,7 +118,7 @@ fn are_hit(watches: &[Watch], changes: &[Change]) -> bool
     changes.iter().any(|change| is_hit(watches, change))
 }
 
-/// Tells a change to those who wait for it, in order.
+/// Fires a change's events, in order.
 fn tell(watches: &[Watch], change: &Change, told: &mut Vec<Fired>) -> Result<(), NoMemory>
     requires { IsStrictlySortedBy watch_cmp watches.now }
     ensures { OnOk result (told.new.items ≡ told.old.items ++ told_by change.now watches.now) }
@@ -138,7 +136,7 @@ fn tell(watches: &[Watch], change: &Change, told: &mut Vec<Fired>) -> Result<(),
     Ok(())
 }
 
-/// Takes away what has heard of a change, and leaves watches that wait for nothing any more.
+/// Removes the watches that a change has fired.
 fn spend(watches: &mut [Watch], change: &Change)
     requires { IsStrictlySortedBy watch_cmp watches.old }
     ensures { watches.new ≡ map (spent_by change.now) watches.old }
@@ -151,7 +149,6 @@ fn spend(watches: &mut [Watch], change: &Change)
 }
 
 impl Watches {
-    /// No watch.
     pub fn new(alloc: Global) -> Watches
         ensures { result ≡ [] }
     {
@@ -160,7 +157,7 @@ impl Watches {
         }
     }
 
-    /// The watches, in order.
+    /// Borrows the watches, in order.
     pub fn as_slice(&self) -> &[Watch]
         ensures watches { result.now ≡ self.now }
         ensures in_order { IsWatchList self.now }
@@ -168,15 +165,15 @@ impl Watches {
         self.entries.as_slice()
     }
 
-    /// A session waits from now on for what a watch of this kind is told of at a path, until it is told once. A watch
-    /// that is set twice is one watch. After [`NoMemory`] nothing is changed.
+    /// Sets a session's watch of this kind at a path: it fires once. A watch that is set twice is
+    /// one watch. After [`NoMemory`] nothing has changed.
     pub fn set(&mut self, session: u64, kind: WatchKind, path: &Path) -> Result<(), NoMemory>
         ensures set { OnOk result (self.new ≡ with_watch session kind path.now self.old) }
-        // Where the session waits for something at the path already, no memory is taken.
+        // If the session already has a watch at the path, nothing is allocated.
         ensures joined { IsTrue (waits_at session path.now self.old) → IsOk result }
         ensures unchanged { OnErr result (self.new ≡ self.old) }
     {
-        match place_of(&self.entries, session, path) {
+        match position_of(&self.entries, session, path) {
             Ok(at) => self.entries[at].join(kind),
             Err(at) => {
                 let path = path.copy()?;
@@ -186,13 +183,13 @@ impl Watches {
         Ok(())
     }
 
-    /// Tells each change in turn to the sessions that still wait for it, and gives the events: in the order of the
-    /// changes, and of one change in the order of the sessions' digits. What has heard of a change is gone. After
-    /// [`NoMemory`] nothing is changed.
+    /// Fires each change in turn at the sessions that still wait for it, and returns the events: in
+    /// the order of changes, and for each change in the order of the sessions' digits. A fired
+    /// watch is removed. After [`NoMemory`] nothing has changed.
     pub fn fire(&mut self, changes: &[Change]) -> Result<Vec<Fired>, NoMemory>
         ensures told { IfOk result (λ told. told.items ≡ fired_by changes.now self.old) }
         ensures left { OnOk result (self.new ≡ left_after changes.now self.old) }
-        // Where nobody is told of anything, no memory is taken.
+        // If no watch fires, nothing is allocated.
         ensures quiet { fired_by changes.now self.old ≡ [] → IsOk result }
         ensures unchanged { OnErr result (self.new ≡ self.old) }
     {
@@ -210,7 +207,7 @@ impl Watches {
         Ok(told)
     }
 
-    /// Drops all that a session waits for.
+    /// Removes a session's watches.
     pub fn drop_session(&mut self, session: u64)
         ensures { self.new ≡ without_session session self.old }
     {

@@ -1,4 +1,4 @@
-use Rattle.zab_runs.specs.Worlds.{profile_of}
+use Rattle.zab_model.specs.Worlds.{profile_of}
 use Rattle.zab_agreement_laws.proofs.OneOrder.{facts_give_one_order}
 use Rattle.zab_agreement_laws.proofs.laws.four_facts_give_one_order.Goals as goal
 

@@ -1,4 +1,4 @@
-use Rattle.zab_runs.specs.Worlds.{profile_of}
+use Rattle.zab_model.specs.Worlds.{profile_of}
 use Rattle.zab_agreement_laws.proofs.Promises.{new_leaders_mean}
 use Rattle.zab_agreement_laws.proofs.laws.new_leaders_mean_their_leaders_history.Goals as goal
 

@@ -1,4 +1,4 @@
-use Rattle.zab_runs.specs.Worlds.{profile_of}
+use Rattle.zab_model.specs.Worlds.{profile_of}
 use Rattle.zab_agreement_laws.proofs.AgreeRuns.{runs_agree}
 use Rattle.zab_agreement_laws.proofs.laws.runs_agree.Goals as goal
 

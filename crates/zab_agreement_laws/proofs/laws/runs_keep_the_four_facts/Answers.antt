@@ -1,4 +1,4 @@
-use Rattle.zab_runs.specs.Worlds.{profile_of}
+use Rattle.zab_model.specs.Worlds.{profile_of}
 use Rattle.zab_agreement_laws.proofs.FactRuns.{one_leader, acknowledged_lasts, begins_with_its_epoch, delivered_was_acknowledged}
 use Rattle.zab_agreement_laws.proofs.laws.runs_keep_the_four_facts.Goals as goal
 

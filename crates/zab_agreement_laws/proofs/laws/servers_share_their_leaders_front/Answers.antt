@@ -1,4 +1,4 @@
-use Rattle.zab_runs.specs.Worlds.{profile_of}
+use Rattle.zab_model.specs.Worlds.{profile_of}
 use Rattle.zab_agreement_laws.proofs.Promises.{servers_share, leaders_end_below}
 use Rattle.zab_agreement_laws.proofs.laws.servers_share_their_leaders_front.Goals as goal
 

@@ -1,4 +1,4 @@
-use Rattle.zab_runs.proofs.ServerLists.{stable_after_crash, stable_after_restart}
+use Rattle.zab_model.proofs.ServerLists.{stable_after_crash, stable_after_restart}
 use Rattle.zab_agreement_laws.proofs.laws.stable_part_outlasts_crashes.Goals as goal
 
 pub returns-clause-crash : goal.returns-clause-crash

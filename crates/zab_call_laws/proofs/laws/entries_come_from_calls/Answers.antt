@@ -1,4 +1,4 @@
-use Rattle.zab_runs.specs.Worlds.{profile_of}
+use Rattle.zab_model.specs.Worlds.{profile_of}
 use Rattle.zab_call_laws.proofs.Origins.{come_from_calls}
 use Rattle.zab_call_laws.proofs.laws.entries_come_from_calls.Goals as goal
 

@@ -1,4 +1,4 @@
-use Rattle.zab_runs.specs.Worlds.{profile_of}
+use Rattle.zab_model.specs.Worlds.{profile_of}
 use Rattle.zab_call_laws.proofs.Origins.{tagged_once}
 use Rattle.zab_call_laws.proofs.laws.one_entry_for_a_tag.Goals as goal
 

@@ -1,4 +1,4 @@
-use Rattle.zab_runs.specs.Worlds.{profile_of}
+use Rattle.zab_model.specs.Worlds.{profile_of}
 use Rattle.zab_call_laws.proofs.SyncRuns.{are_caught}
 use Rattle.zab_call_laws.proofs.laws.syncs_catch_up.Goals as goal
 

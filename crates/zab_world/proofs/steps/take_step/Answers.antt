@@ -1,10 +1,10 @@
 use Rattle.std.proofs.Common.{rules, ◌≡◌, Ok, Some, sym, ap, ◌∙◌}
-use Rattle.zab_runs.specs.declared.event.Event.TheVariants.{Crash}
-use Rattle.zab_runs.specs.Worlds.{World, Answer, profile_of, world, happens}
-use Rattle.zab_runs.specs.Movers.{mover}
-use Rattle.zab_runs.specs.Running.{is_running}
-use Rattle.zab_places.specs.Notes.{note_of}
-use Rattle.zab_world.specs.Sayings.{sent}
+use Rattle.zab_model.specs.declared.event.Event.TheVariants.{Crash}
+use Rattle.zab_model.specs.Worlds.{World, Answer, profile_of, world, happens}
+use Rattle.zab_model.specs.Movers.{mover}
+use Rattle.zab_model.specs.Running.{is_running}
+use Rattle.zab_process.specs.Rollbacks.{note_of}
+use Rattle.zab_world.specs.Outputs.{sent}
 use Rattle.zab_world.proofs.Back.{leads_back, noted, is_it}
 use Rattle.zab_world.proofs.Living.{acted_by, happened, no_restart}
 use Rattle.zab_world.proofs.steps.take_step.Goals as goal

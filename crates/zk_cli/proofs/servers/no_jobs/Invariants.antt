@@ -1,4 +1,4 @@
--- So many lists so far, and room for all.
+-- The lists so far, and capacity for all.
 use Rattle.std.proofs.Common.{◌≡◌, ◌≤◌, vec_len}
 use Rattle.zk_cli.proofs.servers.no_jobs.Given as goal
 

@@ -1,5 +1,8 @@
 -- The ledger is the blank's.
 use Rattle.zk_cli.proofs.servers.serve_clients.Given as goal
 
-abbrev pub ghosts-serve_over : goal.ghosts-serve_over
-ghosts-serve_over g a = record { name = a.blank.name; parts = a.blank.parts }
+abbrev pub ghosts-serve_over-L-CallLedger : goal.ghosts-serve_over-L-CallLedger
+ghosts-serve_over-L-CallLedger g a = record { servers = a.servers }
+
+abbrev pub ghosts-serve_over-L-Ledger : goal.ghosts-serve_over-L-Ledger
+ghosts-serve_over-L-Ledger g a = record { name = a.blank.name; parts = a.blank.parts }

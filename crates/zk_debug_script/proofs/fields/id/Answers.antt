@@ -4,7 +4,7 @@ use Rattle.std.proofs.lemmas.Result.{err_from_is_err_and}
 use Rattle.std.specs.Prelude.{FitsSigned}
 use Rattle.std.specs.Int.{w64}
 use Rattle.zk_listing.specs.Reading.{id_at}
-use Rattle.zk_spelling.specs.Spelling.{id_digits}
+use Rattle.zk_format.specs.Spelling.{id_digits}
 use Rattle.zk_listing.proofs.LineLaws.{id_exact}
 use Rattle.zk_reports.proofs.LineLaws.{is_filled, is_ended}
 use Rattle.zk_debug_script.proofs.Words.{reads_whole, leaves_a_rest, refuses_field}

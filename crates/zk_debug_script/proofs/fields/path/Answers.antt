@@ -1,8 +1,8 @@
 use Rattle.std.proofs.Common.{◌≡◌, ◌≢◌, List, ℕ, [], sym, ◌∙◌}
 use Rattle.std.proofs.lemmas.Result.{err_from_is_err_and}
-use Rattle.zk_spelling.specs.Listings.{IsListedPath}
+use Rattle.zk_format.specs.Listings.{IsListedPath}
 use Rattle.zk_listing.specs.Reading.{path_at}
-use Rattle.zk_spelling.specs.Spelling.{quoted}
+use Rattle.zk_format.specs.Spelling.{quoted}
 use Rattle.zk_listing.proofs.QuotedLaws.{path_exact}
 use Rattle.zk_reports.proofs.LineLaws.{is_filled, is_ended}
 use Rattle.zk_debug_script.proofs.Words.{reads_whole, leaves_a_rest, refuses_field}

@@ -1,4 +1,4 @@
--- The lines so far were answered, and each turn takes one.
+-- The lines so far were executed, and each iteration consumes one.
 use Rattle.std.proofs.Common.{length}
 use Rattle.std.specs.Str.{IsUtf8}
 use Rattle.std.specs.String.{string_bytes}

@@ -1,4 +1,4 @@
--- What was taken so far, and what is told of the events from this one on, are all.
+-- The events selected so far, and those selected from this one on, are all.
 use Rattle.std.proofs.Common.{◌≡◌, ◌==◌, ◌++◌, drop, map}
 use Rattle.std.specs.List.{filter}
 use Rattle.zk_ensemble.specs.Outcomes.{change_in}

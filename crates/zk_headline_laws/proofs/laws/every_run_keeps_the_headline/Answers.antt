@@ -1,6 +1,6 @@
 use Rattle.std.proofs.Common.{refl}
-use Rattle.zk_runs.specs.Entries.{entry_zxid}
-use Rattle.zk_runs.specs.Ensembles.{profile_by}
+use Rattle.zk_model.specs.Entries.{entry_zxid}
+use Rattle.zk_model.specs.Ensembles.{profile_by}
 use Rattle.zk_headline_laws.proofs.Headlines.{headline}
 use Rattle.zk_headline_laws.proofs.laws.every_run_keeps_the_headline.Goals as goal
 

@@ -1,4 +1,4 @@
--- The text begins with the listing of the transactions so far, and each turn takes a line.
+-- The text starts with the listing of the transactions so far, and each iteration consumes a line.
 use Rattle.std.proofs.Common.{length}
 use Rattle.zk_listing.specs.Promises.{BeginsWithListing}
 use Rattle.zk_listing.proofs.assembling.all_lines.Given as goal

@@ -1,4 +1,4 @@
--- The parts so far stand in front of those that are still read, and each turn takes something.
+-- The parts so far precede those still to be read, and each iteration consumes some bytes.
 use Rattle.std.proofs.Common.{◌≡◌, length}
 use Rattle.zk_listing.specs.Reading.{parts_in, behind}
 use Rattle.zk_listing.proofs.ops.parts.Given as goal

@@ -1,4 +1,4 @@
--- The entries so far stand in front of those that are still read.
+-- The entries so far precede those still to be read.
 use Rattle.std.proofs.Common.{◌≡◌, ◌-◌}
 use Rattle.zk_listing.specs.Reading.{many_at, entry_at, behind}
 use Rattle.zk_listing.proofs.parts.entries.Given as goal

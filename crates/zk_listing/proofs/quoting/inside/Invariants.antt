@@ -1,4 +1,4 @@
--- What was read stands in front of what is still read, and each turn takes something.
+-- The characters so far precede those still to be read, and each iteration consumes some bytes.
 use Rattle.std.proofs.Common.{◌≡◌, length}
 use Rattle.std.specs.String.{string_bytes}
 use Rattle.zk_listing.specs.Reading.{inside, behind}

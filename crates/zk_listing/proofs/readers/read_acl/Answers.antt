@@ -1,5 +1,5 @@
-use Rattle.zk_spelling.specs.Listings.{AreListedAcls}
-use Rattle.zk_spelling.specs.Spelling.{acl_text}
+use Rattle.zk_format.specs.Listings.{AreListedAcls}
+use Rattle.zk_format.specs.Spelling.{acl_text}
 use Rattle.zk_listing.specs.Reading.{acl_at}
 use Rattle.zk_listing.proofs.AclLaws.{acl_exact}
 use Rattle.zk_listing.proofs.ReaderLaws.{by_view, moved_found, moved_only}

@@ -1,5 +1,5 @@
-use Rattle.zk_spelling.specs.Listings.{IsListedContent}
-use Rattle.zk_spelling.specs.Spelling.{content_text}
+use Rattle.zk_format.specs.Listings.{IsListedContent}
+use Rattle.zk_format.specs.Spelling.{content_text}
 use Rattle.zk_listing.specs.Reading.{content_at}
 use Rattle.zk_listing.proofs.PartLaws.{content_exact}
 use Rattle.zk_listing.proofs.ReaderLaws.{by_view, moved_found, moved_only}

@@ -1,6 +1,6 @@
 use Rattle.std.specs.Prelude.{FitsSigned}
 use Rattle.std.specs.Int.{w64}
-use Rattle.zk_spelling.specs.Spelling.{id_digits}
+use Rattle.zk_format.specs.Spelling.{id_digits}
 use Rattle.zk_listing.specs.Reading.{id_at}
 use Rattle.zk_listing.proofs.LineLaws.{id_exact}
 use Rattle.zk_listing.proofs.ReaderLaws.{by_view, moved_found, moved_only}

@@ -1,5 +1,5 @@
-use Rattle.zk_spelling.specs.Listings.{IsListedPath}
-use Rattle.zk_spelling.specs.Spelling.{quoted}
+use Rattle.zk_format.specs.Listings.{IsListedPath}
+use Rattle.zk_format.specs.Spelling.{quoted}
 use Rattle.zk_listing.specs.Reading.{path_at}
 use Rattle.zk_listing.proofs.QuotedLaws.{path_exact}
 use Rattle.zk_listing.proofs.ReaderLaws.{by_view, moved_found, moved_only}

@@ -1,6 +1,6 @@
 use Rattle.std.specs.Str.{IsUtf8}
 use Rattle.std.specs.String.{string_bytes}
-use Rattle.zk_spelling.specs.Spelling.{quoted}
+use Rattle.zk_format.specs.Spelling.{quoted}
 use Rattle.zk_listing.specs.Reading.{quoted_at}
 use Rattle.zk_listing.proofs.QuotedLaws.{quoted_exact}
 use Rattle.zk_listing.proofs.ReaderLaws.{moved_found, moved_only}

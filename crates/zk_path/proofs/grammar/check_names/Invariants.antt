@@ -3,7 +3,7 @@ use Rattle.std.specs.List.{slice_split}
 use Rattle.zk_path.specs.Paths.{is_slash, first_fault}
 use Rattle.zk_path.proofs.grammar.check_names.Given as goal
 
--- the names that are left tell the fault of them all
+-- the fault of the remaining names is that of all
 abbrev pub invariant-loop-name : goal.invariant-loop-name
 invariant-loop-name l =
     first_fault (drop (length l.yielded) (slice_split is_slash l.names)) ≡ first_fault (slice_split is_slash l.names)

@@ -1,4 +1,4 @@
--- The bytes so far and what is left, behind the byte before it, are plain just where the whole is.
+-- The bytes so far and the rest, given the byte before it, are plain if and only if the whole is.
 use Rattle.std.proofs.Common.{◌≡◌, ◌&&◌, true, drop}
 use Rattle.zk_path.specs.Plain.{is_plain_behind}
 use Rattle.zk_path.proofs.grammar.is_plain.Given as goal

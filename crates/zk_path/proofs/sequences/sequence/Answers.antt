@@ -7,7 +7,7 @@ use Rattle.zk_path.proofs.sequences.sequence.Goals as goal
 zeros_between : (sign digits : List ℕ) (m n : ℕ) → m ≡ n → sign ++ replicate m 48 ++ (digits ++ []) ≡ sign ++ replicate n 48 ++ digits
 zeros_between sign digits m n same = ap₂ (λ zeros shown. sign ++ replicate zeros 48 ++ shown) same (append-nil digits)
 
--- what `{:010}` writes
+-- the output of `{:010}`
 padded : (number : ℤ) → styled_signed_decimal (format_spec 32 0 4 10 (2 ^ 64 - 1)) number ≡ sequence number
 unfolding padded_integral char_count
 padded (pos n) =

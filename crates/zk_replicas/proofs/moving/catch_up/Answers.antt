@@ -1,7 +1,7 @@
 use Rattle.std.proofs.Common.{◌-◌, ◌<◌, length}
 use Rattle.std.proofs.lemmas.Option.{slice_get-get_or}
 use Rattle.std.proofs.lemmas.Result.{on_ok_weaker, on_err_weaker}
-use Rattle.zk_runs.specs.Ensembles.{fresh, shown_then}
+use Rattle.zk_model.specs.Ensembles.{fresh, shown_then}
 use Rattle.zk_replicas.proofs.Keeping.{below_it, kept_then}
 use Rattle.zk_replicas.proofs.Replicas.{is_place, replaced}
 use Rattle.zk_replicas.proofs.moving.catch_up.Goals as goal

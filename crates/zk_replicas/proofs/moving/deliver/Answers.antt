@@ -1,6 +1,6 @@
 use Rattle.std.proofs.Common.{rules, ap, ◌∙◌}
 use Rattle.std.proofs.lemmas.Result.{on_ok_weaker}
-use Rattle.zk_runs.specs.Ensembles.{take_all}
+use Rattle.zk_model.specs.Ensembles.{take_all}
 use Rattle.zk_replicas.proofs.Keeping.{goes_on_so}
 use Rattle.zk_replicas.proofs.moving.deliver.Goals as goal
 

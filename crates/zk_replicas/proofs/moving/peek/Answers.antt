@@ -1,5 +1,5 @@
 use Rattle.std.proofs.Common.{refl, sym, ap, ◌∙◌}
-use Rattle.zk_runs.specs.Ensembles.{Ensemble, Told, watching}
+use Rattle.zk_model.specs.Ensembles.{Ensemble, Told, watching}
 use Rattle.zk_replicas.proofs.Replicas.{is_here, behind, answers}
 use Rattle.zk_replicas.proofs.moving.peek.Goals as goal
 

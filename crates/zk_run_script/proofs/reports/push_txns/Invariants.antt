@@ -2,7 +2,7 @@
 use Rattle.std.proofs.Common.{◌≡◌, ◌++◌, take}
 use Rattle.std.specs.List.{flat_map}
 use Rattle.std.specs.String.{string_bytes}
-use Rattle.zk_spelling.specs.Listings.{line_of}
+use Rattle.zk_format.specs.Listings.{line_of}
 use Rattle.zk_run_script.proofs.reports.push_txns.Given as goal
 
 abbrev pub invariant-loop-txn : goal.invariant-loop-txn

@@ -1,7 +1,7 @@
 use Rattle.std.proofs.Common.{rules, ◌≡◌, ◌++◌, ◌∷◌, [], true, false, ℕ, List, take, ◌+◌, sym, ap, subst, ◌∙◌, arith}
 use Rattle.std.specs.Vec.Iter.{into_iter_items}
 use Rattle.zk_servers.proofs.Turning.{length_zero}
-use Rattle.zk_runs.specs.declared.event.Event.{Event}
+use Rattle.zk_model.specs.declared.event.Event.{Event}
 use Rattle.zk_chronicle.specs.declared.record.Receipt.{Receipt}
 use Rattle.zk_chronicle.specs.declared.calls.Made.{Made}
 use Rattle.zk_chronicle.specs.Calls.{made}

@@ -1,17 +1,15 @@
 use Rattle.std.proofs.Common.{rules, ◌≡◌, [], ◌∷◌, ◌++◌, sym, subst, ap}
 use Rattle.zab_agreement_laws.specs.Promises.{EachEndsBelow}
-use Rattle.zab_runs.specs.Counting.{counted}
-use Rattle.zab_runs.specs.Movers.{mover}
-use Rattle.zab_runs.specs.Running.{is_running}
-use Rattle.zab_runs.specs.Runs.{run, after}
-use Rattle.zab_runs.specs.Worlds.{World, profile_of, new_world, world}
-use Rattle.zab_agreement_laws.proofs.AgreeRuns.{runs_agree}
+use Rattle.zab_model.specs.Counting.{counted}
+use Rattle.zab_model.specs.Movers.{mover}
+use Rattle.zab_model.specs.Running.{is_running}
+use Rattle.zab_model.specs.Runs.{run, after}
+use Rattle.zab_model.specs.Worlds.{World, profile_of, new_world, world}
 use Rattle.zab_agreement_laws.proofs.Promises.{leaders_end_below}
-use Rattle.zab_runs.proofs.RunLaws.{goes_on}
-use Rattle.zab_call_laws.proofs.Origins.{tagged_once, come_from_calls}
-use Rattle.zab_call_laws.proofs.SyncRuns.{are_caught}
-use Rattle.zab_places.specs.Notes.{fallen_by, moved_in}
-use Rattle.zab_world.proofs.Joinings.{fell_or_not}
+use Rattle.zab_model.proofs.RunLaws.{goes_on}
+use Rattle.zab_call_laws.proofs.Following.{follows}
+use Rattle.zab_process.specs.Rollbacks.{fallen_by, moved_in}
+use Rattle.zab_world.proofs.Adoptions.{fell_or_not}
 use Rattle.zab_world.proofs.world.World.advance.Goals as goal
 
 pub advance-requires : goal.advance-requires
@@ -47,32 +45,12 @@ invariant_of-self-2 g c =
 pub returns-clause-run : goal.returns-clause-run
 returns-clause-run g c = rw (← c.self.view_is)
     (let profile = profile_of (g.Q.Quorums.passes c.self.inside.quorums) g.P.Primary.made_of g.P.Primary.tag_of g.P.Primary.closing_of in
-    let servers = c.self.inside.servers in
-    let reached = c.self.invariant.now in
     let is : world c.advance.new.self c.advance.new.messages c.advance.new.tags ≡ after profile (world c.self.inside.places c.self.inside.messages c.self.inside.tags) (c.args.event ∷ []) = search rules in
-    record {
-      events = reached.0;
-      reached = reached.1;
-      goes_on = goes_on profile (new_world servers) _ _ reached.0 (c.args.event ∷ []) reached.1 is;
-      tagged = tagged_once profile g.met.P.Primary.made_tag servers (reached.0 ++ c.args.event ∷ []);
-      agrees = runs_agree profile g.met.P.Primary.made_zxid (g.met.Q.Quorums.share c.self.inside.quorums) servers (reached.0 ++ c.args.event ∷ []);
-      origins = come_from_calls profile g.met.P.Primary.made_tag g.met.P.Primary.made_zxid (g.met.Q.Quorums.share c.self.inside.quorums) servers (reached.0 ++ c.args.event ∷ []);
-      syncs = are_caught profile g.met.P.Primary.made_zxid (g.met.Q.Quorums.share c.self.inside.quorums) servers (reached.0 ++ c.args.event ∷ []);
-    })
+    follows profile g.met.P.Primary.made_tag g.met.P.Primary.made_zxid (g.met.Q.Quorums.share c.self.inside.quorums) c.self.inside.servers _ (c.args.event ∷ []) _ c.self.invariant.now is)
 
 pub returns-in_err-note-clause-run : goal.returns-in_err-note-clause-run
 returns-in_err-note-clause-run g c = rw (← c.self.view_is)
     (let profile = profile_of (g.Q.Quorums.passes c.self.inside.quorums) g.P.Primary.made_of g.P.Primary.tag_of g.P.Primary.closing_of in
-    let servers = c.self.inside.servers in
-    let reached = c.self.invariant.now in
     let more = counted c.args.event c.from_residual.result in
     let is : world c.advance.new.self c.advance.new.messages c.advance.new.tags ≡ after profile (world c.self.inside.places c.self.inside.messages c.self.inside.tags) more = search rules in
-    record {
-      events = reached.0;
-      reached = reached.1;
-      goes_on = goes_on profile (new_world servers) _ _ reached.0 more reached.1 is;
-      tagged = tagged_once profile g.met.P.Primary.made_tag servers (reached.0 ++ more);
-      agrees = runs_agree profile g.met.P.Primary.made_zxid (g.met.Q.Quorums.share c.self.inside.quorums) servers (reached.0 ++ more);
-      origins = come_from_calls profile g.met.P.Primary.made_tag g.met.P.Primary.made_zxid (g.met.Q.Quorums.share c.self.inside.quorums) servers (reached.0 ++ more);
-      syncs = are_caught profile g.met.P.Primary.made_zxid (g.met.Q.Quorums.share c.self.inside.quorums) servers (reached.0 ++ more);
-    })
+    follows profile g.met.P.Primary.made_tag g.met.P.Primary.made_zxid (g.met.Q.Quorums.share c.self.inside.quorums) c.self.inside.servers _ more _ c.self.invariant.now is)

@@ -1,6 +1,6 @@
 use Rattle.std.proofs.Common.{sym, ap, ◌∙◌}
 use Rattle.std.specs.Option.{option_copied}
-use Rattle.zk_runs.specs.Ensembles.{shown_at}
+use Rattle.zk_model.specs.Ensembles.{replica_at}
 use Rattle.zk_ensemble.specs.Views.{below_by, answers_in}
 use Rattle.zk_ensemble.proofs.Runs.{answers_of_table}
 use Rattle.zk_ensemble.proofs.ensemble.Ensemble.answers.Goals as goal
@@ -9,11 +9,11 @@ pub returns-in-Some-clause-table : goal.returns-in-Some-clause-table
 returns-in-Some-clause-table c = rw (← c.self.view_is) (λ one.
     c.answers.ensures
     ∙ ap (λ o. answers_in (option_copied o)) (sym c.in-Some.is)
-    ∙ ap answers_in (c.find.ensures ∙ ap (λ rs. shown_at rs c.args.number) c.deref.ensures.value)
+    ∙ ap answers_in (c.find.ensures ∙ ap (λ rs. replica_at rs c.args.number) c.deref.ensures.value)
     ∙ answers_of_table (below_by c.self.inside.world) c.self.inside.replicas.items c.args.number c.self.invariant.run one)
 
 pub returns-in-None-clause-table : goal.returns-in-None-clause-table
 returns-in-None-clause-table c = rw (← c.self.view_is) (λ one.
     ap (λ o. answers_in (option_copied o)) (sym c.in-None.is)
-    ∙ ap answers_in (c.find.ensures ∙ ap (λ rs. shown_at rs c.args.number) c.deref.ensures.value)
+    ∙ ap answers_in (c.find.ensures ∙ ap (λ rs. replica_at rs c.args.number) c.deref.ensures.value)
     ∙ answers_of_table (below_by c.self.inside.world) c.self.inside.replicas.items c.args.number c.self.invariant.run one)

@@ -1,6 +1,6 @@
 use Rattle.std.proofs.Common.{sym, ap, subst, ◌∙◌}
 use Rattle.std.proofs.lemmas.List.{with_items_is}
-use Rattle.zk_runs.specs.Ensembles.{ensemble}
+use Rattle.zk_model.specs.Ensembles.{ensemble}
 use Rattle.zk_ensemble.specs.Keeping.{IsStanding}
 use Rattle.zk_ensemble.specs.Views.{below_by}
 use Rattle.zk_ensemble.proofs.Keeping.{read_stands}

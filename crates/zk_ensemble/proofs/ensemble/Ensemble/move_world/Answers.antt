@@ -1,10 +1,10 @@
 use Rattle.std.proofs.Common.{◌≡◌, ◌≤◌, ◌++◌, length, Err, refl, sym, ap, subst, ◌∙◌}
 use Rattle.std.proofs.lemmas.List.{with_items_is}
-use Rattle.zab_runs.specs.Runs.{delivered_of}
-use Rattle.zk_runs.specs.declared.event.Event.TheVariants as events
-use Rattle.zk_runs.specs.declared.fault.EnsembleFault.TheVariants as faults
-use Rattle.zk_runs.specs.Counting.{counted, IsAnswered}
-use Rattle.zk_runs.specs.Ensembles.{Told, ensemble, of_world}
+use Rattle.zab_model.specs.Runs.{delivered_of}
+use Rattle.zk_model.specs.declared.event.Event.TheVariants as events
+use Rattle.zk_model.specs.declared.fault.EnsembleFault.TheVariants as faults
+use Rattle.zk_model.specs.Counting.{counted, IsAnswered}
+use Rattle.zk_model.specs.Ensembles.{Told, ensemble, of_world}
 use Rattle.zk_ensemble.specs.Views.{below_by, profile_in}
 use Rattle.zk_ensemble.proofs.Keeping.{may_serve_then, each_then, stand_again, held_then}
 use Rattle.zk_ensemble.proofs.Runs.{IsStepped, no_shorter, ok_of, err_of, went_on, acted, fallen_is, is_some, fell, has_died, answered_on, fit_counted}

@@ -1,9 +1,9 @@
 use Rattle.std.proofs.Common.{◌≡◌, sym, ap, subst}
-use Rattle.zk_runs.specs.declared.event.Event.{Event}
-use Rattle.zk_runs.specs.declared.event.Event.TheVariants as events
+use Rattle.zk_model.specs.declared.event.Event.{Event}
+use Rattle.zk_model.specs.declared.event.Event.TheVariants as events
 use Rattle.zk_headline_laws.specs.Headline.{IsNextInRun}
-use Rattle.zk_runs.specs.Counting.{counted, IsAnswered}
-use Rattle.zk_runs.specs.Runs.{after}
+use Rattle.zk_model.specs.Counting.{counted, IsAnswered}
+use Rattle.zk_model.specs.Runs.{after}
 use Rattle.zk_ensemble.specs.Views.{state_of, profile_in, below_by}
 use Rattle.zk_ensemble.proofs.Runs.{IsViewOfRun, view_of_run, next_in_run, fit_counted, read_counts, read_answers}
 use Rattle.zk_ensemble.proofs.ensemble.Ensemble.step.Goals as goal

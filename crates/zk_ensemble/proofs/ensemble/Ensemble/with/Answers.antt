@@ -1,10 +1,10 @@
 use Rattle.std.proofs.Common.{◌≡◌, ℕ, List, length, replicate, None, sym, ap, ◌∙◌, arith}
-use Rattle.zab_runs.specs.Runs.{Sight}
-use Rattle.zab_runs.specs.Worlds.{new_world}
+use Rattle.zab_model.specs.Runs.{Sight}
+use Rattle.zab_model.specs.Worlds.{new_world}
 use Rattle.zk_requests.specs.declared.call.Call.{Call}
-use Rattle.zk_runs.specs.Ensembles.{fresh, ensemble, new_ensemble}
+use Rattle.zk_model.specs.Ensembles.{fresh, ensemble, new_ensemble}
 use Rattle.zk_ensemble.specs.Views.{below_by}
-use Rattle.zk_runs.proofs.Lists.{length_replicate}
+use Rattle.zk_model.proofs.Lists.{length_replicate}
 use Rattle.zk_ensemble.proofs.Keeping.{none_aside}
 use Rattle.zk_ensemble.proofs.Runs.{new_of_run}
 use Rattle.zk_ensemble.proofs.ensemble.Ensemble.with.Goals as goal

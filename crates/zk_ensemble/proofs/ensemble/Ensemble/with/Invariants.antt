@@ -1,5 +1,5 @@
 use Rattle.std.proofs.Common.{◌≡◌, replicate, None}
-use Rattle.zk_runs.specs.Ensembles.{fresh}
+use Rattle.zk_model.specs.Ensembles.{fresh}
 use Rattle.zk_ensemble.proofs.ensemble.Ensemble.with.Given as goal
 
 abbrev pub invariant-loop : goal.invariant-loop

@@ -4,7 +4,7 @@ use Rattle.zk_txn.specs.Answers.{plain_answer}
 use Rattle.zk_table.specs.Multis.{answers_of, first_refusal}
 use Rattle.zk_machine.specs.Changes.{part_changes}
 use Rattle.zk_machine.specs.Undoing.{nodes_before}
-use Rattle.zk_machine.proofs.Notes.{before_nothing}
+use Rattle.zk_machine.proofs.PreimageLaws.{before_nothing}
 use Rattle.zk_machine.proofs.Parts.{nodes_next, answers_next, changes_next, notes_next}
 use Rattle.zk_machine.proofs.noted_tree.NotedTree.apply_parts.Goals as goal
 

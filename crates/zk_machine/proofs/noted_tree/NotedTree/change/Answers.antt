@@ -1,6 +1,6 @@
 use Rattle.std.proofs.Common.{sym, ap, ◌∙◌}
-use Rattle.zk_machine.specs.Notes.{noted}
-use Rattle.zk_machine.proofs.Notes.{put_before}
+use Rattle.zk_machine.specs.Preimages.{noted}
+use Rattle.zk_machine.proofs.PreimageLaws.{put_before}
 use Rattle.zk_machine.proofs.noted_tree.NotedTree.change.Goals as goal
 
 pub returns-clause-before : goal.returns-clause-before

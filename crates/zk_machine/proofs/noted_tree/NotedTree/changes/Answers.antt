@@ -5,7 +5,7 @@ use Rattle.zk_machine.specs.declared.change.Change.{Change}
 use Rattle.std.specs.FinMap as finite
 use Rattle.std.specs.List.{flat_map}
 use Rattle.zk_machine.specs.Changes.{compared}
-use Rattle.zk_machine.proofs.Notes.{changes_noted}
+use Rattle.zk_machine.proofs.PreimageLaws.{changes_noted}
 use Rattle.zk_machine.proofs.noted_tree.NotedTree.changes.Goals as goal
 
 pub returns : goal.returns

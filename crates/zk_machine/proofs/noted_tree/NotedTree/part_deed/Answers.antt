@@ -1,5 +1,5 @@
 use Rattle.std.proofs.Common.{refl}
-use Rattle.zk_machine.proofs.Notes.{begun_changes, begun_undone}
+use Rattle.zk_machine.proofs.PreimageLaws.{begun_changes, begun_undone}
 use Rattle.zk_machine.proofs.noted_tree.NotedTree.part_deed.Goals as goal
 
 pub returns-clause-changes : goal.returns-clause-changes

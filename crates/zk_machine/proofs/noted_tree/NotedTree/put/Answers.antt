@@ -1,7 +1,7 @@
 use Rattle.std.proofs.Common.{ap, sym, ◌∙◌}
 use Rattle.std.specs.FinMap as finite
-use Rattle.zk_machine.specs.Notes.{noted}
-use Rattle.zk_machine.proofs.Notes.{put_before}
+use Rattle.zk_machine.specs.Preimages.{noted}
+use Rattle.zk_machine.proofs.PreimageLaws.{put_before}
 use Rattle.zk_machine.proofs.noted_tree.NotedTree.put.Goals as goal
 
 pub returns-clause-before : goal.returns-clause-before

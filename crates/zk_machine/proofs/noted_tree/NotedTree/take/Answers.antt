@@ -1,6 +1,6 @@
 use Rattle.std.proofs.Common.{sym, ◌∙◌}
-use Rattle.zk_machine.specs.Notes.{noted}
-use Rattle.zk_machine.proofs.Notes.{take_before}
+use Rattle.zk_machine.specs.Preimages.{noted}
+use Rattle.zk_machine.proofs.PreimageLaws.{take_before}
 use Rattle.zk_machine.proofs.noted_tree.NotedTree.take.Goals as goal
 
 pub returns-clause-before : goal.returns-clause-before

@@ -12,16 +12,16 @@ pub returns-in-Ok-clause-before : goal.returns-in-Ok-clause-before
 returns-in-Ok-clause-before c =
     let read : to_z w32 (of_z w32 c.remove-before.result.1) ≡ c.remove-before.result.1 = search rules in
     ap Some read
-    ∙ sym (get_found nat_cmp_total c.self.inside.entries.items c.args.self.now c.args.session c.self.invariant c.self.view_is _ c.deref.ensures.value _ _ c.place_of.ensures.place c.in-Ok.is c.in-Ok.at refl c.remove-before.result c.remove-before.ensures.value)
+    ∙ sym (get_found nat_cmp_total c.self.inside.entries.items c.args.self.now c.args.session c.self.invariant c.self.view_is _ c.deref.ensures.value _ _ c.position_of.ensures.place c.in-Ok.is c.in-Ok.at refl c.remove-before.result c.remove-before.ensures.value)
 
 pub returns-in-Ok-clause-closed : goal.returns-in-Ok-clause-closed
 returns-in-Ok-clause-closed c =
-    removed_there nat_cmp_total c.self.inside.entries.items c.args.self.now c.args.session c.self.invariant c.self.view_is _ c.deref.ensures.value _ _ c.place_of.ensures.place c.in-Ok.is c.in-Ok.at nat_cmp-IsAntisymmetric refl _ c.remove-before.ensures.items
+    removed_there nat_cmp_total c.self.inside.entries.items c.args.self.now c.args.session c.self.invariant c.self.view_is _ c.deref.ensures.value _ _ c.position_of.ensures.place c.in-Ok.is c.in-Ok.at nat_cmp-IsAntisymmetric refl _ c.remove-before.ensures.items
 
 pub returns-in-Err-clause-before : goal.returns-in-Err-clause-before
 returns-in-Err-clause-before c =
-    sym (get_missing nat_cmp_total c.self.inside.entries.items c.args.self.now c.args.session c.self.invariant c.self.view_is _ c.deref.ensures.value _ _ c.place_of.ensures.place c.in-Err.is c.in-Err.field-0 refl)
+    sym (get_missing nat_cmp_total c.self.inside.entries.items c.args.self.now c.args.session c.self.invariant c.self.view_is _ c.deref.ensures.value _ _ c.position_of.ensures.place c.in-Err.is c.in-Err.field-0 refl)
 
 pub returns-in-Err-clause-closed : goal.returns-in-Err-clause-closed
 returns-in-Err-clause-closed c =
-    removed_none nat_cmp_total c.self.inside.entries.items c.args.self.now c.args.session c.self.invariant c.self.view_is _ c.deref.ensures.value _ _ c.place_of.ensures.place c.in-Err.is c.in-Err.field-0 nat_cmp-IsAntisymmetric refl
+    removed_none nat_cmp_total c.self.inside.entries.items c.args.self.now c.args.session c.self.invariant c.self.view_is _ c.deref.ensures.value _ _ c.position_of.ensures.place c.in-Err.is c.in-Err.field-0 nat_cmp-IsAntisymmetric refl

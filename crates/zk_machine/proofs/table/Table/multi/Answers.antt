@@ -1,6 +1,6 @@
 use Rattle.std.proofs.Common.{ap, ◌∙◌}
 use Rattle.zk_machine.specs.Undoing.{nodes_before}
-use Rattle.zk_machine.proofs.Notes.{before_nothing}
+use Rattle.zk_machine.proofs.PreimageLaws.{before_nothing}
 use Rattle.zk_machine.proofs.table.Table.multi.Goals as goal
 
 pub returns-then-hold_error-clause-nodes : goal.returns-then-hold_error-clause-nodes

@@ -1,6 +1,6 @@
 use Rattle.std.proofs.Common.{refl, ap, ◌∙◌}
 use Rattle.zk_machine.specs.Undoing.{sessions_before}
-use Rattle.zk_machine.proofs.Notes.{begun_changes, begun_undone}
+use Rattle.zk_machine.proofs.PreimageLaws.{begun_changes, begun_undone}
 use Rattle.zk_machine.proofs.Timeouts.{opened_back}
 use Rattle.zk_machine.proofs.table.Table.open_session.Goals as goal
 

@@ -2,7 +2,7 @@ use Rattle.std.proofs.Common.{◌≡◌, refl, sym, ◌∙◌, rules}
 use Rattle.zk_machine.specs.Changes.{changes_between, changes_of}
 use Rattle.zk_machine.specs.Tables.{state_of}
 use Rattle.zk_machine.specs.Undoing.{nodes_before}
-use Rattle.zk_machine.proofs.Notes.{begun_changes, begun_undone}
+use Rattle.zk_machine.proofs.PreimageLaws.{begun_changes, begun_undone}
 use Rattle.zk_machine.proofs.table.Table.run.Goals as goal
 use Rattle.zk_machine.proofs.table.Table.run.Goals.{In_ok-deed, in-Create+in_ok-answer-in-Create, in-CreateOld+in_ok-answer-in-CreateOld, in-Delete+in_ok-answer-in-Delete, in-SetData+in_ok-answer-in-SetData, in-SetAcl+in_ok-answer-in-SetAcl, in-Error}
 

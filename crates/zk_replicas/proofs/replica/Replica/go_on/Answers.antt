@@ -1,5 +1,5 @@
 use Rattle.std.proofs.Common.{rules, ◌≡◌, inr, refl, sym, ap, ◌∙◌}
-use Rattle.zk_runs.specs.Ensembles.{fresh}
+use Rattle.zk_model.specs.Ensembles.{fresh}
 use Rattle.zk_replicas.proofs.Unwatched.{same_shown}
 use Rattle.zk_replicas.proofs.replica.Replica.go_on.Goals as goal
 

@@ -2,8 +2,8 @@ use Rattle.std.proofs.Common.{◌≡◌, cond, is_some, sym, ap, ◌∙◌}
 use Rattle.std.specs.FinMap.{get-empty}
 use Rattle.std.specs.Int.{w64, cast_unsigned}
 use Rattle.std.specs.Ordering.{nat_cmp}
-use Rattle.zk_runs.specs.declared.event.Question.{Question}
-use Rattle.zk_runs.specs.Ensembles.{reply_of}
+use Rattle.zk_model.specs.declared.event.Question.{Question}
+use Rattle.zk_model.specs.Ensembles.{reply_of}
 use Rattle.zk_table.specs.Reads.{reply_to}
 use Rattle.zk_table.specs.States.{start_state}
 use Rattle.zk_txn.specs.Codes.{session_expired}

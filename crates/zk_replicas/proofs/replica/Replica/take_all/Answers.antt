@@ -1,5 +1,5 @@
 use Rattle.std.proofs.Common.{rules, ◌∙◌, ◌<◌, ◌+◌, ap, sym, drop, length}
-use Rattle.zk_runs.specs.Ensembles.{take_all}
+use Rattle.zk_model.specs.Ensembles.{take_all}
 use Rattle.zk_replicas.proofs.Lent.{next_one}
 use Rattle.zk_replicas.proofs.replica.Replica.take_all.Goals as goal
 

@@ -1,5 +1,5 @@
 use Rattle.std.proofs.Common.{◌≡◌, drop}
-use Rattle.zk_runs.specs.Ensembles.{take_all}
+use Rattle.zk_model.specs.Ensembles.{take_all}
 use Rattle.zk_replicas.proofs.replica.Replica.take_all.Given as goal
 
 abbrev pub invariant-loop-index : goal.invariant-loop-index

@@ -1,5 +1,5 @@
 use Rattle.std.proofs.Common.{rules, ap, ◌∙◌}
-use Rattle.zk_runs.specs.Ensembles.{take_in}
+use Rattle.zk_model.specs.Ensembles.{take_in}
 use Rattle.zk_replicas.specs.Views.{tree_by}
 use Rattle.zk_replicas.proofs.Unwatched.{untold}
 use Rattle.zk_replicas.proofs.replica.Replica.take_unwatched.Goals as goal

@@ -14,10 +14,10 @@ returns-in-Ok c =
     ap (from_sorted {R = path_cmp}) c.remove.ensures.items
     ∙ kept_removed nat_list_cmp_total path_cmp-IsAntisymmetric c.self.inside.entries.items c.args.self.now c.args.path.now c.in-Ok.at
     (entries_of_kept path_cmp _ _ c.self.invariant c.self.view_is)
-    (placed path_cmp c.args.path.now c.deref.result.now _ _ _ c.deref.ensures.value c.place_of.ensures.place c.in-Ok.is)
+    (placed path_cmp c.args.path.now c.deref.result.now _ _ _ c.deref.ensures.value c.position_of.ensures.place c.in-Ok.is)
 
 pub returns-in_default : goal.returns-in_default
 returns-in_default c =
     removed_missing nat_list_cmp_total path_cmp-IsAntisymmetric c.args.self.now c.args.path.now
     (missing_there c.self.inside.entries.items c.args.self.now c.args.path.now c.self.invariant c.self.view_is _
-    (placed path_cmp c.args.path.now c.deref.result.now _ _ _ c.deref.ensures.value c.place_of.ensures.place c.in_default.is))
+    (placed path_cmp c.args.path.now c.deref.result.now _ _ _ c.deref.ensures.value c.position_of.ensures.place c.in_default.is))

@@ -15,7 +15,7 @@ returns-in-Ok c =
     ap (from_sorted {R = nat_cmp}) c.remove.ensures.items
     ∙ kept_removed nat_cmp_total nat_cmp-IsAntisymmetric c.self.inside.entries.items c.args.self.now c.cast_unsigned.result c.in-Ok.at
     (entries_of_kept nat_cmp _ _ c.self.invariant c.self.view_is)
-    (placed nat_cmp c.cast_unsigned.result c.deref.result.now _ _ _ c.deref.ensures.value c.place_of.ensures.place c.in-Ok.is)
+    (placed nat_cmp c.cast_unsigned.result c.deref.result.now _ _ _ c.deref.ensures.value c.position_of.ensures.place c.in-Ok.is)
     ∙ ap (finite.remove c.args.self.now) (c.cast_unsigned.ensures ∙ ap (of_z w64) (to_z-of_z w64 c.args.session c.ranges.session))
 
 pub returns-in_default : goal.returns-in_default
@@ -23,5 +23,5 @@ returns-in_default c =
     removed_missing nat_cmp_total nat_cmp-IsAntisymmetric c.args.self.now c.cast_unsigned.result
     (missing_at_place nat_cmp_total c.self.inside.entries.items c.args.self.now c.cast_unsigned.result _
     (entries_of_kept nat_cmp _ _ c.self.invariant c.self.view_is)
-    (placed nat_cmp c.cast_unsigned.result c.deref.result.now _ _ _ c.deref.ensures.value c.place_of.ensures.place c.in_default.is))
+    (placed nat_cmp c.cast_unsigned.result c.deref.result.now _ _ _ c.deref.ensures.value c.position_of.ensures.place c.in_default.is))
     ∙ ap (finite.remove c.args.self.now) (c.cast_unsigned.ensures ∙ ap (of_z w64) (to_z-of_z w64 c.args.session c.ranges.session))

@@ -14,7 +14,7 @@ replaced c =
     ap (λ x. set es c.in-Ok.at (x.0, to_z w32 (of_z w32 c.args.timeout))) c.index_mut.ensures.value
     ∙ entries_set nat_cmp_total es c.args.self.now c.cast_unsigned-number.result (to_z w32 (of_z w32 c.args.timeout)) c.in-Ok.at c.index_mut.result.now
     (entries_of_kept nat_cmp _ _ c.self.invariant c.self.view_is)
-    (placed nat_cmp c.cast_unsigned-number.result c.deref.result.now _ _ _ c.deref.ensures.value c.place_of.ensures.place c.in-Ok.is)
+    (placed nat_cmp c.cast_unsigned-number.result c.deref.result.now _ _ _ c.deref.ensures.value c.position_of.ensures.place c.in-Ok.is)
     ∙ ap₂ (λ k v. entries (finite.insert c.args.self.now k v)) (c.cast_unsigned-number.ensures ∙ ap (of_z w64) (to_z-of_z w64 c.args.session c.ranges.session)) (to_z-of_z w32 c.args.timeout c.ranges.timeout)
 
 inserted : (c : In_ok-insert-in-Err) → c.insert.new.self.items ≡ entries (finite.insert c.args.self.now (of_z w64 c.args.session) c.args.timeout)
@@ -22,7 +22,7 @@ inserted c =
     c.in_ok-insert-in-Err.ensures.items
     ∙ entries_inserted nat_cmp_total c.self.inside.entries.items c.args.self.now c.cast_unsigned-number.result (to_z w32 (of_z w32 c.args.timeout)) c.in-Err.at
     (entries_of_kept nat_cmp _ _ c.self.invariant c.self.view_is)
-    (placed nat_cmp c.cast_unsigned-number.result c.deref.result.now _ _ _ c.deref.ensures.value c.place_of.ensures.place c.in-Err.is)
+    (placed nat_cmp c.cast_unsigned-number.result c.deref.result.now _ _ _ c.deref.ensures.value c.position_of.ensures.place c.in-Err.is)
     ∙ ap₂ (λ k v. entries (finite.insert c.args.self.now k v)) (c.cast_unsigned-number.ensures ∙ ap (of_z w64) (to_z-of_z w64 c.args.session c.ranges.session)) (to_z-of_z w32 c.args.timeout c.ranges.timeout)
 
 pub invariant_of-self : goal.invariant_of-self

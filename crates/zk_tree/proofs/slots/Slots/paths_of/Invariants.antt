@@ -3,6 +3,6 @@ use Rattle.std.specs.FinMap as finite
 use Rattle.std.specs.String.{string_bytes}
 use Rattle.zk_tree.proofs.slots.Slots.paths_of.Given as goal
 
--- the paths so far, and the texts that are left
+-- the paths so far, and the remaining texts
 abbrev pub invariant-loop-text : goal.invariant-loop-text
 invariant-loop-text l = l.paths.items ++ map string_bytes l.text-iterator ≡ finite.keys l.set

@@ -1,0 +1,4 @@
+-- What the contracts of this crate cite.
+pub mod Durability
+pub mod Hosts
+pub mod Tags

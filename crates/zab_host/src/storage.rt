@@ -1,0 +1,68 @@
+use std::alloc::Global;
+use thiserror::Error;
+use zab_epoch::{History, Stable};
+
+/// Why a store failed. The store is not used afterwards: its host restarts on what the store
+/// recovers.
+#[derive(Clone, Copy, Debug, Drop, PartialEq, Eq, Error)]
+pub enum StoreFault {
+    /// Out of memory.
+    #[error("H1")]
+    NoMemory,
+    /// The medium failed.
+    #[error("H2")]
+    Failed,
+    /// The number of starts of the store's host is used up.
+    #[error("H7")]
+    BootsFull,
+}
+
+/// Keeps a server's stable part across crashes.
+pub trait Storage: Drop {
+    ghost use Rattle.std.specs.Prelude.{◌≡◌, ◌≤◌, ◌+◌, ◌⊎◌, drop, IfOk, OnOk};
+    ghost use Rattle.zab_epoch.specs.declared.stable.Stable.{Stable};
+    ghost use Rattle.zab_host.specs.Durability.{IsDurable, IsPartialStore};
+
+    /// The stable parts that recovery may find after a crash now.
+    ghost may_recover: { Self → Stable → Type 0 };
+
+    /// The number of starts of a host on it.
+    ghost boots: { Self → ℕ };
+
+    ghost use Rattle.std.specs.Prelude.{ℕ};
+
+    /// Stores a stable part. After `Ok` each crash recovers it. A crash before that, or after an
+    /// error, recovers what it could recover before, or a part of the write.
+    fn store(&mut self, stable: &Stable) -> Result<(), StoreFault>
+        ensures stored { OnOk result (IsDurable stable.now (may_recover self.new)) }
+        ensures crash { (found : Stable) → may_recover self.new found
+            → may_recover self.old found ⊎ IsPartialStore (may_recover self.old) stable.now found }
+        ensures starts { boots self.new ≡ boots self.old };
+
+    /// Stores a stable part atomically: a crash recovers what it could recover before, or all of
+    /// this.
+    fn store_atomically(&mut self, stable: &Stable) -> Result<(), StoreFault>
+        ensures stored { OnOk result (IsDurable stable.now (may_recover self.new)) }
+        ensures crash { (found : Stable) → may_recover self.new found
+            → may_recover self.old found ⊎ (found ≡ stable.now) }
+        ensures starts { boots self.new ≡ boots self.old };
+
+    /// Recovers what the last crash has left.
+    fn load(&mut self, alloc: Global) -> Result<Stable, StoreFault>
+        ensures found { IfOk result (λ stable. may_recover self.old stable) }
+        ensures durable { IfOk result (λ stable. IsDurable stable (may_recover self.new)) }
+        ensures crash { (found : Stable) → may_recover self.new found → may_recover self.old found }
+        ensures starts { boots self.new ≡ boots self.old };
+
+    /// Counts a start of the host. After `Ok` each crash recovers the new count.
+    fn count_boot(&mut self) -> Result<u32, StoreFault>
+        ensures counted { IfOk result (λ boot. boot ≡ boots self.old + 1) }
+        ensures raised { OnOk result (boots self.new ≡ boots self.old + 1) }
+        ensures rises { boots self.old ≤ boots self.new }
+        ensures crash { (found : Stable) → may_recover self.new found → may_recover self.old found };
+
+    /// Returns a copy of the stored entries after the first `count`.
+    fn entries_after(&self, alloc: Global, count: usize) -> Result<History, StoreFault>
+        ensures { IfOk result (λ entries. (stable : Stable) → may_recover self.now stable
+            → IsDurable stable (may_recover self.now) → entries ≡ drop count stable.history) };
+}

@@ -1,0 +1,6 @@
+mod Composition
+mod Growing
+mod Prefixes
+mod Releases
+mod Tags
+mod Syncs

@@ -1,0 +1,7 @@
+-- What the contracts of this crate cite.
+pub mod Prefixes
+pub mod Releases
+pub mod NeverBack
+pub mod Composition
+pub mod Tags
+pub mod Syncs

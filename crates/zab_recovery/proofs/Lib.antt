@@ -1,0 +1,6 @@
+mod Forgetting
+mod Bouncing
+mod OneRun
+mod Others
+mod Adopting
+pub mod HostRuns

@@ -1,6 +1,0 @@
-use Rattle.std.proofs.Common.{◌≡◌}
-use Rattle.zab_runs.specs.Standings.{new_servers}
-use Rattle.zab_world.proofs.places.Places.new.Given as goal
-
-abbrev pub invariant-loop-before : goal.invariant-loop-before
-invariant-loop-before g l = l.places.items ≡ new_servers l.servers l.before

@@ -1,0 +1,105 @@
+-- The state that a snapshot holds: the draft of its nodes, and the table that the draft settles to.
+use Rattle.std.specs.Prelude.{◌≡◌, ◌||◌, ◌&&◌, int_le, int_lt, ℕ, ℤ, pos, negsuc, List, [], ◌∷◌, Bool, true, false, Option, Some, None, if◌then◌else◌}
+use Rattle.std.specs.FinMap.{entries, get, insert, empty}
+use Rattle.std.specs.Int.{w64, cast_unsigned}
+use Rattle.std.specs.Ordering.{int_eq}
+use Rattle.zk_acl.specs.declared.acl.Acl.{Acl}
+use Rattle.zk_path.specs.Paths.{parent_of}
+use Rattle.zk_txn.specs.declared.node.Node.{Node}
+use Rattle.zk_txn.specs.Nodes.{open_to_all}
+use Rattle.zk_table.specs.States.{NodeMap, SessionMap, State}
+use Rattle.zk_snapshot.specs.declared.snapshot.Access.{Access}
+use Rattle.zk_snapshot.specs.declared.snapshot.Claim.{Claim}
+use Rattle.zk_snapshot.specs.declared.snapshot.Contents.{Contents}
+use Rattle.zk_snapshot.specs.declared.snapshot.Lease.{Lease}
+use Rattle.zk_snapshot.specs.declared.snapshot.Snapshot.{Snapshot}
+use Rattle.zk_snapshot.specs.declared.snapshot.Stored.{Stored}
+use Rattle.zk_base.specs.declared.draft.Draft.{Draft}
+use Rattle.zk_base.specs.declared.draft_node.DraftNode.{DraftNode}
+use Rattle.zk_base.specs.declared.exact.Exact.{Exact}
+use Rattle.zk_base.specs.Drafts.{DraftMap, later, as_parent, changed}
+
+-- ---- nodes
+
+-- the first list with this number
+unfoldable pub listed : List Access → ℤ → Option (List Acl)
+listed [] number = None
+listed (access ∷ accesses) number = if int_eq access.number number then Some access.acl else listed accesses number
+
+-- the list of a number; -1 is open to all
+abbrev pub acl_of : List Access → ℤ → Option (List Acl)
+acl_of accesses number = if int_eq number (negsuc 0) then Some open_to_all else listed accesses number
+
+-- a container has the owner -2^63, a node with a time to live one from -2^56 to -1: clients see
+-- none
+abbrev pub shown_owner : ℤ → ℤ
+shown_owner owner = if int_eq owner (negsuc 9223372036854775807) || (int_le (negsuc 72057594037927935) owner && int_lt owner (pos 0)) then pos 0 else owner
+
+-- `cversion` is stored as the number of creates
+abbrev pub node_with : Stored → List Acl → Node
+node_with s acl = record { content = s.kept.content; acl = acl; czxid = s.kept.moments.czxid; mzxid = s.kept.moments.mzxid; pzxid = s.kept.pzxid; ctime = s.kept.moments.ctime; mtime = s.kept.moments.mtime; version = s.kept.versions.version; creates = s.kept.versions.creates; aversion = s.kept.versions.aversion; owner = shown_owner s.kept.owner }
+
+abbrev pub draft_with : Stored → List Acl → Bool → DraftNode
+draft_with s acl lacks_acl = record { path = s.path; node = node_with s acl; raw_owner = s.kept.owner; lacks_acl = lacks_acl; had_children = false }
+
+abbrev pub draft_found : Stored → Option (List Acl) → DraftNode
+draft_found s None = draft_with s [] true
+draft_found s (Some acl) = draft_with s acl false
+
+-- a stored node; its list may come with a later transaction
+abbrev pub draft_of : List Access → Stored → DraftNode
+draft_of accesses s = draft_found s (acl_of accesses s.kept.access)
+
+abbrev pub parent_marked : DraftMap → Option (List ℕ) → DraftMap
+parent_marked drafts None = drafts
+parent_marked drafts (Some above) = changed drafts above as_parent
+
+abbrev pub with_stored : List Access → DraftMap → Stored → DraftMap
+with_stored accesses drafts s = insert (parent_marked drafts (parent_of s.path)) s.path (draft_of accesses s)
+
+-- the stored nodes, each at its path
+unfoldable pub drafted : List Access → DraftMap → List Stored → DraftMap
+drafted accesses drafts [] = drafts
+drafted accesses drafts (s ∷ stored) = drafted accesses (with_stored accesses drafts s) stored
+
+-- ---- sessions, of which the last one counts
+
+unfoldable pub sessions_of : SessionMap → List Lease → SessionMap
+sessions_of sessions [] = sessions
+sessions_of sessions (lease ∷ leases) = sessions_of (insert sessions (cast_unsigned w64 lease.session) lease.timeout) leases
+
+-- the draft of a snapshot
+pub record IsDraftOf (contents : Contents) (draft : Draft) : Type 0 where
+  pub nodes : draft.nodes ≡ drafted contents.accesses empty contents.nodes
+  pub sessions : draft.sessions ≡ sessions_of empty contents.leases
+
+-- ---- what a draft settles to
+
+-- the nodes, where each has its list of access rights
+unfoldable pub settled : NodeMap → List (List ℕ × DraftNode) → Option NodeMap
+settled nodes [] = Some nodes
+settled nodes (e ∷ es) = if e.1.lacks_acl then None else settled (insert nodes e.1.path e.1.node) es
+
+pub record IsSettled (draft : Draft) (last : ℤ) (state : State) : Type 0 where
+  pub nodes : settled empty (entries draft.nodes) ≡ Some state.nodes
+  pub sessions : state.sessions ≡ draft.sessions
+  pub last_zxid : state.last ≡ last
+
+-- ---- from which zxid on a replay of the snapshot is exact
+
+abbrev pub latest_in : ℤ → Stored → ℤ
+latest_in zxid s = later (later (later zxid s.kept.moments.czxid) s.kept.moments.mzxid) s.kept.pzxid
+
+-- the greatest zxid of the nodes
+unfoldable pub latest_of : ℤ → List Stored → ℤ
+latest_of zxid [] = zxid
+latest_of zxid (s ∷ stored) = latest_of (latest_in zxid s) stored
+
+-- a server that was itself started from a snapshot may claim an older zxid than its file's name
+abbrev pub exact_with : ℤ → ℤ → Option Claim → Exact
+exact_with zxid latest None = record { zxid = latest; is_told = false }
+exact_with zxid latest (Some claim) = if int_lt claim.zxid zxid then record { zxid = latest; is_told = false } else record { zxid = later latest claim.zxid; is_told = true }
+
+-- of a snapshot that was begun at this zxid
+abbrev pub exact_from : Snapshot → ℤ → Exact
+exact_from snapshot zxid = exact_with zxid (latest_of zxid snapshot.contents.nodes) snapshot.claim

@@ -1,0 +1,101 @@
+//! The command line as `clap` reads it.
+
+use crate::helps::{CountHelp, FAULTS, FlagHelp, ORDERS, OrderHelp, ValueHelp};
+use clap::{Arg, ArgAction, Command};
+use std::alloc::{AllocError, Global};
+
+pub(crate) fn command<'a>(alloc: Global) -> Result<Command<'a>, AllocError> {
+    let mut command = program(alloc)?;
+    for order in &ORDERS {
+        command = with_order(command, order_command(alloc, order))?;
+    }
+    Ok(command)
+}
+
+/// The program without its commands.
+fn program<'a>(alloc: Global) -> Result<Command<'a>, AllocError> {
+    Ok(
+        Command::new(alloc, "zk")
+            .bin_name("zk")?
+            .version("0.1.0")
+            .about("Reads transaction logs of ZooKeeper, and runs ensembles of its servers")
+            .after_help(FAULTS)
+            .subcommand_required(true),
+    )
+}
+
+/// Adds a command.
+fn with_order<'a>(
+    command: Command<'a>,
+    order: Result<Command<'a>, AllocError>,
+) -> Result<Command<'a>, AllocError> {
+    command.subcommand(order?)
+}
+
+pub(crate) fn order_command<'a>(
+    alloc: Global,
+    order: &OrderHelp,
+) -> Result<Command<'a>, AllocError> {
+    let command = Command::new(alloc, order.name)
+        .about(order.about)
+        .after_help(order.notes);
+    let command = with_flags(alloc, command, order.flags)?;
+    let command = with_counts(alloc, command, order.counts)?;
+    with_values(alloc, command, order.values)
+}
+
+/// Adds positional values.
+fn with_values<'a>(
+    alloc: Global,
+    mut command: Command<'a>,
+    values: &[ValueHelp],
+) -> Result<Command<'a>, AllocError> {
+    for value in values {
+        command = command.arg(value_arg(alloc, value))?;
+    }
+    Ok(command)
+}
+
+fn value_arg<'a>(alloc: Global, value: &ValueHelp) -> Arg<'a> {
+    Arg::new(alloc, value.name)
+        .required(value.required)
+        .help(value.help)
+}
+
+/// Adds options that take no value.
+fn with_flags<'a>(
+    alloc: Global,
+    mut command: Command<'a>,
+    flags: &[FlagHelp],
+) -> Result<Command<'a>, AllocError> {
+    for flag in flags {
+        command = command.arg(flag_arg(alloc, flag)?)?;
+    }
+    Ok(command)
+}
+
+fn flag_arg<'a>(alloc: Global, flag: &FlagHelp) -> Result<Arg<'a>, AllocError> {
+    option_arg(alloc, flag.name, flag.help)
+        .action(ArgAction::SetTrue)
+        .conflicts_with(flag.without)
+}
+
+fn option_arg<'a>(alloc: Global, name: &'static str, help: &'static str) -> Arg<'a> {
+    Arg::new(alloc, name).long(name).help(help)
+}
+
+/// Adds options that take a value.
+fn with_counts<'a>(
+    alloc: Global,
+    mut command: Command<'a>,
+    counts: &[CountHelp],
+) -> Result<Command<'a>, AllocError> {
+    for count in counts {
+        command = command.arg(count_arg(alloc, count))?;
+    }
+    Ok(command)
+}
+
+fn count_arg<'a>(alloc: Global, count: &CountHelp) -> Arg<'a> {
+    option_arg(alloc, count.name, count.help).value_name(count.value)
+}

@@ -1,0 +1,383 @@
+//! The help texts of the program and of its commands.
+
+/// The help of a command.
+#[derive(Clone, Copy)]
+pub(crate) struct OrderHelp {
+    pub(crate) name: &'static str,
+    /// The program's name and the command's.
+    pub(crate) title: &'static str,
+    pub(crate) about: &'static str,
+    /// The text after the usage.
+    pub(crate) notes: &'static str,
+    pub(crate) values: &'static [ValueHelp],
+    pub(crate) flags: &'static [FlagHelp],
+    pub(crate) counts: &'static [CountHelp],
+}
+
+/// A positional value of a command.
+#[derive(Clone, Copy)]
+pub(crate) struct ValueHelp {
+    pub(crate) name: &'static str,
+    pub(crate) help: &'static str,
+    pub(crate) required: bool,
+}
+
+/// An option that takes no value.
+#[derive(Clone, Copy)]
+pub(crate) struct FlagHelp {
+    pub(crate) name: &'static str,
+    pub(crate) help: &'static str,
+    /// The value that excludes it.
+    pub(crate) without: &'static str,
+}
+
+/// An option that takes a value.
+#[derive(Clone, Copy)]
+pub(crate) struct CountHelp {
+    pub(crate) name: &'static str,
+    pub(crate) value: &'static str,
+    pub(crate) help: &'static str,
+}
+
+/// The commands, in the order of the program's help.
+pub(crate) const ORDERS: [OrderHelp; 7] = [SHOW, LIST, ASM, MEND, DEBUG, RUN, SERVE];
+
+pub(crate) const SHOW: OrderHelp = OrderHelp {
+    name: "show",
+    title: "zk show",
+    about: "Prints the tree as of a transaction of a log",
+    notes: LOG_NOTES,
+    values: &[
+        LOG,
+        ValueHelp {
+            name: "ZXID",
+            help: "The last transaction to apply: sixteen lower-case hexadecimal digits, or `last`",
+            required: true,
+        },
+    ],
+    flags: &[],
+    counts: &[],
+};
+
+const LIST: OrderHelp = OrderHelp {
+    name: "list",
+    title: "zk list",
+    about: "Prints the transactions of a log, one line each",
+    notes: LOG_NOTES,
+    values: &[LOG],
+    flags: &[],
+    counts: &[],
+};
+
+const ASM: OrderHelp = OrderHelp {
+    name: "asm",
+    title: "zk asm",
+    about: "Builds the log, with dbid 0, that a listing describes",
+    notes: ASM_NOTES,
+    values: &[
+        ValueHelp {
+            name: "TEXT",
+            help: "The listing: a path, or @ for standard input",
+            required: true,
+        },
+        ValueHelp {
+            name: "FILE",
+            help: "The log, created or truncated: a path, or @ for standard output",
+            required: true,
+        },
+    ],
+    flags: &[],
+    counts: &[],
+};
+
+pub(crate) const MEND: OrderHelp = OrderHelp {
+    name: "mend",
+    title: "zk mend",
+    about: "Converts a log of a 3.5 to 3.8 server to one of 3.4",
+    notes: MEND_NOTES,
+    values: &[
+        LOG,
+        ValueHelp {
+            name: "OUT",
+            help: "The log of 3.4, created or truncated: a path other than FILE",
+            required: true,
+        },
+    ],
+    flags: &[],
+    counts: &[],
+};
+
+pub(crate) const DEBUG: OrderHelp = OrderHelp {
+    name: "debug",
+    title: "zk debug",
+    about: "Runs a debug script over a log, or an interactive session",
+    notes: DEBUG_LINES,
+    values: &[
+        LOG,
+        ValueHelp {
+            name: "SCRIPT",
+            help: "The script: a path, or @ for standard input. Without one, zk runs each line of standard input before it reads the next",
+            required: false,
+        },
+    ],
+    flags: &[FlagHelp {
+        name: "prompt",
+        help: "Prints a prompt before each line of a session even if standard input is no terminal",
+        without: "SCRIPT",
+    }],
+    counts: &[],
+};
+
+const RUN: OrderHelp = OrderHelp {
+    name: "run",
+    title: "zk run",
+    about: "Runs a script of ensemble events and prints the results",
+    notes: RUN_LINES,
+    values: &[ValueHelp {
+        name: "SCRIPT",
+        help: "The script: a path, or @ for standard input",
+        required: true,
+    }],
+    flags: &[],
+    counts: &[],
+};
+
+pub(crate) const SERVE: OrderHelp = OrderHelp {
+    name: "serve",
+    title: "zk serve",
+    about: "Runs an ensemble and serves clients that send lines over TCP",
+    notes: SERVE_LINES,
+    values: &[
+        ValueHelp {
+            name: "PORT",
+            help: "The port on 127.0.0.1, 1 to 65535",
+            required: true,
+        },
+        ValueHelp {
+            name: "N",
+            help: "The number of servers, 2 to 15",
+            required: true,
+        },
+    ],
+    flags: &[],
+    counts: &[CountHelp {
+        name: "conns",
+        value: "C",
+        help: "The number of connections to serve, one after the other, 0 to 4294967295; 1 if left out",
+    }],
+};
+
+/// The value that names a log to read.
+const LOG: ValueHelp = ValueHelp {
+    name: "FILE",
+    help: "The log: a path, or @ for standard input",
+    required: true,
+};
+
+/// Where the errors of all commands are explained.
+pub(crate) const FAULTS: &str =
+    "The status is 0, 2 for a rejected command line, and else 1 with one line on standard error. The help
+of each command lists these lines. In the source repository, docs/ERRORS.md explains them.";
+
+/// The errors of `zk show` and `zk list`.
+const LOG_NOTES: &str =
+    r#"Errors, on standard error after `zk: `; AT is the byte where the entry begins:
+  G1          not a transaction log: a snapshot, compressed or empty
+  G2 AT       checksum mismatch: the entry is corrupt
+  G3 AT       no record of 3.4; `zk mend` converts logs of 3.5 to 3.8 servers
+  G4 AT       the zxid is not above the one before
+  G5 AT       the length is above 16777216 bytes
+  G6          a read failed
+  G7          no end after 1048576 reads
+and `read` and `write` if a file cannot be opened or written, and `memory`.
+
+In the source repository, docs/ERRORS.md has what helps."#;
+
+/// What `zk asm` does with its output, and its errors.
+const ASM_NOTES: &str =
+    r#"FILE is truncated before TEXT is read, so never write to the file that TEXT comes from: write a new
+file, and then `mv` it.
+
+Errors, on standard error after `zk: `; LINE counts from 1:
+  L1 LINE     a field is missing, empty or one too many, or a separator is not one space
+  L2 LINE     a bad number
+  L3 LINE     a bad quoted text
+  L4 LINE     a bad content
+  L5 LINE     an unknown word
+  L6 LINE     a bad path
+  L7 LINE     the last line has no newline
+and `order LINE` if the zxid does not rise, `length LINE` if the record is longer than 16777216 bytes,
+`utf8`, `read`, `write` and `memory`.
+
+In the source repository, docs/ERRORS.md has what helps, and docs/FORMATS.md the format."#;
+
+/// What `zk mend` reports, and its errors.
+const MEND_NOTES: &str =
+    r#"FILE is a log of a 3.4 to 3.8 server. Standard output has a report: the number of records, how many did
+not change, each kind of change with its count and the offset of the first, and how FILE ends.
+
+OUT is for reading: no server should continue it. It stays empty if FILE is rejected.
+
+Errors, on standard error after `zk: `; AT is the byte where the entry begins:
+  G1          not a transaction log: a snapshot, compressed or empty
+  G2 AT       checksum mismatch: the entry is corrupt
+  G3 AT       no record of a 3.4 to 3.8 server
+  G4 AT       the zxid is not above the one before
+  G5 AT       the length is above 16777216 bytes
+  G6          a read failed
+  G7          no end after 1048576 reads
+  N1 AT       a failed multi without a reason: it would be applied
+  N2 AT       the end of a session lists a node that the session does not own
+  N3 AT       the record of 3.4 would be longer than 16777216 bytes
+and `read` and `write` if a file cannot be opened or written, and `memory`.
+
+In the source repository, docs/ERRORS.md has what helps, and docs/FORMATS.md the changes."#;
+
+/// The lines of a debug script and of a session, and their errors.
+const DEBUG_LINES: &str = r#"Lines of a debug script, one command each:
+  step                one place up
+  back                one place down
+  run                 up to the first place that matches a breakpoint, or to the end
+  runback             down to the last one that does, or to the start
+  goto ZXID           to the place after all transactions up to this zxid
+  tree                prints the tree at the place
+  node PATH           prints one node of it
+  last                prints the result of the transaction just applied
+  break at ZXID       sets a breakpoint on a zxid
+  break path PATH     on a path that a transaction or a part names, or a closed session deletes
+  break session ID    on a session
+  break kind WORD     on a kind of transaction
+  break error         on a result whose code is not 0
+  clear N             removes breakpoint N
+  reset               back to the start; breakpoints stay
+
+Lines of a session, which has no SCRIPT, besides these:
+  help                prints the lines of a session
+  list [N]            prints the log around the place, marked >: N lines on each side, or 5
+  diff                prints what the last move changed: - removed, + added, < before, > after
+  quit                ends the session, as the end of input does
+
+Words of a kind:
+  create0 create delete setData setACL createSession closeSession error multi
+
+A place is a number of applied transactions. A ZXID and an ID are sixteen lower-case hexadecimal
+digits, and a PATH stands in double quotes.
+
+Errors among the results:
+  B1          no transaction above
+  B2          no transaction below
+  B3          no such breakpoint
+  B4          out of memory; after a move, `reset` before anything else
+  B5          the debugger failed earlier: `reset`
+  B6          all 65535 numbers of breakpoints are used
+
+Errors, on standard error after `zk: `; AT is the byte where the entry begins:
+  G1          not a transaction log: a snapshot, compressed or empty
+  G2 AT       checksum mismatch: the entry is corrupt
+  G3 AT       no record of 3.4; `zk mend` converts logs of 3.5 to 3.8 servers
+  G4 AT       the zxid is not above the one before
+  G5 AT       the length is above 16777216 bytes
+  G6          a read failed
+  G7          no end after 1048576 reads
+and `script LINE` if a line is no command, `utf8`, `read`, `write` and `memory`.
+
+In the source repository, docs/ERRORS.md has what helps, and docs/FORMATS.md the results."#;
+
+/// The lines of a run script, and its errors.
+const RUN_LINES: &str = r#"Lines of a run script, one command each:
+  servers N           the first line, and no other: starts N servers, 2 to 15
+  servers N weights WEIGHT ..
+                      the same, and each has its weight; else each weighs 1
+  lead P              makes server P lead
+  follow P Q          makes server P follow Q
+  arrive K            message K arrives at its addressee
+  crash P             server P stops
+  restart P           server P starts again
+  submit P TAG SESSION CXID NOW AUTHS REQUEST
+                      submits a client's request at P
+  expire P TAG SESSION NOW
+                      submits the end of a session at P
+  sync P TAG          asks P to catch up with its leader
+  read P SESSION SEEN AUTHS READ
+                      a client reads at P
+  delivered P         prints the entries that P has delivered
+  history P           prints the entries of its history, delivered or not
+  answers P           prints the result of each delivered entry
+  syncs P             prints the completed syncs of P, each with its length
+  events P            prints the events that watches at P fired
+  tree P              prints the tree of P
+
+A REQUEST:
+  create [-s] [-e] PATH CONTENT ACL
+  delete PATH VERSION
+  set PATH CONTENT VERSION
+  setacl PATH ACL VERSION
+  open TIMEOUT
+  close
+  multi               and ` ; ` before each part: a create, delete or set, or a
+  check PATH VERSION
+
+A READ:
+  get [-w] PATH       content and stat; -w sets a watch
+  stat [-w] PATH      the stat
+  ls [-w] PATH        the names of the children, and the stat
+  getacl PATH         the access control list, and the stat
+
+SESSION and SEEN are sixteen lower-case hexadecimal digits, a PATH stands in double quotes, AUTHS is
+a number and as many quoted identities.
+
+Errors among the results:
+  E1 SEEN AT  the client has seen more than this server has delivered
+  E2          no such server, or it would follow itself
+  E3          no such message
+  E4          the server is down
+  E5          the server is not down
+  E6          the server takes no calls now
+  E7          the tag is used
+  E8          no epoch is left, or no number in it
+  E9          out of memory: nothing has happened
+  E10 P       out of memory: server P has crashed
+
+Errors, on standard error after `zk: `: `script LINE` if a line is no command, `utf8`, `read`, `write`
+and `memory`.
+
+In the source repository, docs/ERRORS.md has what helps, and docs/FORMATS.md the results."#;
+
+/// The lines of a connection, and their errors.
+const SERVE_LINES: &str =
+    r#"The servers run as threads, and their trees end with the command. Server 1 leads, and serves the
+connections. Standard output has `listening PORT` once a client can connect.
+
+Lines of a connection, one command each:
+  open TIMEOUT        opens a session; the timeout is in milliseconds, 4000 to 40000
+  addauth digest "USER:PASSWORD"
+                      adds an identity to the session
+  create [-s] [-e] PATH CONTENT ACL
+                      creates a node; -s appends a number to its name, -e ends it with the session
+  delete PATH VERSION
+                      deletes a node; version -1 is any
+  set PATH CONTENT VERSION
+                      changes its content
+  setacl PATH ACL VERSION
+                      changes its access control list
+  get [-w] PATH       content and stat; -w sets a watch
+  stat [-w] PATH      the stat
+  ls [-w] PATH        the names of the children, and the stat
+  getacl PATH         the access control list, and the stat
+  sync PATH           server 1 catches up with the leader
+  multi               the lines up to `commit` are its parts: a create, delete or set, or a
+  check PATH VERSION  and they have no reply
+  commit              all parts are applied, or none
+  close               ends the session
+  ruok                replies `imok`
+
+The server replies to each line before it looks at the next. `event KIND PATH` before a reply means
+that a watch of the session fired: KIND 1 a node was created, 2 deleted, 3 its content changed, 4 its
+children changed. A reply is `ok` with the result, `err CODE`, `err server` or `err behind`.
+
+A PATH stands in double quotes.
+
+Errors, on standard error after `zk: `: `listen` if the port cannot be opened or accepts no more,
+`write` and `memory`.
+
+In the source repository, docs/ERRORS.md has the codes, and docs/FORMATS.md the fields and replies."#;

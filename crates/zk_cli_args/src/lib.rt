@@ -1,0 +1,18 @@
+//! Part of `zk_cli`, split off for the prover's time alone.
+//!
+//! The command line of `zk`: the words that name a command, its inputs and its output, or servers
+//! for connections; and the messages of `clap` for any other words.
+#![tactic(auto)]
+
+mod command;
+mod grammar;
+mod helps;
+mod line;
+mod serving;
+mod usage;
+
+pub use clap::error::ErrorKind;
+pub use command::{Job, Order};
+pub use line::{Command, CommandFault, read_command_line};
+pub use serving::Serving;
+pub use usage::{Refusal, refusal_of, refusal_of_bytes};

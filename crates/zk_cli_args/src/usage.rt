@@ -1,0 +1,125 @@
+//! The message of `zk` for a command line that names no job: its usage, by `clap`.
+
+ghost use Rattle.std.specs.Prelude.{◌≢◌, ◌↔◌, IsTrue};
+ghost use Rattle.clap.specs.declared.error.kind.ErrorKind.TheVariants as kinds;
+
+use crate::grammar::{command, order_command};
+use crate::helps::{DEBUG, MEND, OrderHelp, SERVE, SHOW};
+use clap::Error;
+use clap::error::ErrorKind;
+use std::alloc::{AllocError, Global};
+use std::fmt;
+
+/// A usage error, or the help or the version that a command line asks for.
+#[derive(Debug, Drop)]
+pub struct Refusal {
+    pub kind: ErrorKind,
+    /// The whole text, with its last newline.
+    pub text: String,
+}
+
+impl Refusal {
+    /// `false` for a help or the version, whose text belongs on standard output; an error's belongs
+    /// on standard error.
+    pub fn is_fault(&self) -> bool
+        ensures { IsTrue result ↔ ((self.now.kind ≢ kinds.DisplayHelp) × (self.now.kind ≢ kinds.DisplayVersion)) }
+    {
+        !matches!(
+            self.kind,
+            ErrorKind::DisplayHelp | ErrorKind::DisplayVersion
+        )
+    }
+}
+
+impl fmt::Display for Refusal {
+    fn fmt<W: fmt::Write>(&self, f: &mut fmt::Formatter<W>) -> fmt::Result {
+        f.write_str(self.text.as_str())
+    }
+}
+
+/// Returns the usage error of a command line that names no command, or the help or the version that
+/// it asks for.
+///
+/// The usage names the program `zk`, not the first word.
+pub fn refusal_of<'a>(alloc: Global, words: &'a [&'a str]) -> Result<Refusal, AllocError> {
+    let error = match refused_by_clap(alloc, words)? {
+        Some(error) => error,
+        None if words.get(1) == Some(&"mend") => mend_fault(alloc)?,
+        None if words.get(1) == Some(&"serve") => serve_fault(alloc)?,
+        // Of the other words that clap accepts, only a ZXID and a second @ are errors.
+        None => value_fault(alloc, words.get(1) == Some(&"debug"))?,
+    };
+    refusal_by(alloc, &error)
+}
+
+/// The error, help or version of `clap`.
+fn refused_by_clap<'a>(alloc: Global, words: &'a [&'a str]) -> Result<Option<Error>, AllocError> {
+    Ok(command(alloc)?.try_get_matches_from(words).err())
+}
+
+/// A usage error of `show` or `debug` that `clap` accepts.
+fn value_fault(alloc: Global, is_debug: bool) -> Result<Error, AllocError> {
+    if is_debug {
+        return fault_of(
+            alloc,
+            &DEBUG,
+            ErrorKind::ArgumentConflict,
+            "FILE cannot be standard input where SCRIPT is, or where there is none",
+        );
+    }
+    fault_of(
+        alloc,
+        &SHOW,
+        ErrorKind::ValueValidation,
+        "ZXID is neither sixteen lower-case hexadecimal digits nor `last`",
+    )
+}
+
+/// A usage error of `mend` that `clap` accepts.
+fn mend_fault(alloc: Global) -> Result<Error, AllocError> {
+    fault_of(
+        alloc,
+        &MEND,
+        ErrorKind::ArgumentConflict,
+        "OUT cannot be FILE or standard output, which has the report",
+    )
+}
+
+/// A usage error of `serve` that `clap` accepts.
+fn serve_fault(alloc: Global) -> Result<Error, AllocError> {
+    fault_of(
+        alloc,
+        &SERVE,
+        ErrorKind::ValueValidation,
+        "PORT is no decimal from 1 to 65535, N none from 2 to 15, or C none from 0 to 4294967295",
+    )
+}
+
+/// An error with the usage of its command.
+fn fault_of(
+    alloc: Global,
+    order: &OrderHelp,
+    kind: ErrorKind,
+    text: &str,
+) -> Result<Error, AllocError> {
+    order_command(alloc, order)?
+        .bin_name(order.title)?
+        .error(kind, text)
+}
+
+/// The usage error of a command line with a word that is not in UTF-8.
+pub fn refusal_of_bytes(alloc: Global) -> Result<Refusal, AllocError> {
+    let error = command(alloc)?.error(ErrorKind::InvalidValue, "a word is not in UTF-8")?;
+    refusal_by(alloc, &error)
+}
+
+/// The text of an error of `clap`.
+fn refusal_by(alloc: Global, error: &Error) -> Result<Refusal, AllocError> {
+    let kind = error.kind();
+    if kind == ErrorKind::OutOfMemory {
+        return Err(AllocError);
+    }
+    let mut text = String::new(alloc);
+    write!(text, "{error}")?;
+    Ok(Refusal { kind, text })
+}

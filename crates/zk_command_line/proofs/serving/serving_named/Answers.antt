@@ -1,7 +1,0 @@
-use Rattle.std.proofs.Common.{rules}
-use Rattle.zk_command_line.proofs.ServingLaws.{if_named}
-use Rattle.zk_command_line.proofs.WordsLaws.{texts}
-use Rattle.zk_command_line.proofs.serving.serving_named.Goals as goal
-
-pub returns : goal.returns
-returns c = if_named c.args.name.now (texts c.args.words.now) c.serving_behind.result (search rules) c.serving_behind.ensures

@@ -1,0 +1,15 @@
+use Rattle.std.proofs.Common.{◌∙◌, inl}
+use Rattle.zk_commands.proofs.repl.hold_over.Goals as goal
+
+pub returns : goal.returns
+returns g c = inl (record {
+  start = c.new-session.result;
+  debugger = c.new-session.ensures.debugger ∙ c.in-Ok.ensures;
+  began = c.new-session.ensures.began;
+  end = c.talk-ended.new.session;
+  ended = c.talk-ended.result;
+  talked = c.talk-ended.ensures.talked;
+  reads = c.talk-ended.ensures.reads;
+  writes = c.talk-ended.ensures.writes;
+  tells = c.tell_end.ensures;
+})

@@ -1,0 +1,18 @@
+-- The definitions that this crate's contracts cite.
+pub mod Lists
+pub mod Diffs
+pub mod Words
+pub mod Texts
+pub mod Answering
+pub mod HearingBytes
+pub mod Prompts
+pub mod Lines
+pub mod HearingLines
+pub mod Talking
+pub mod Holding
+pub mod Laws
+pub mod FaultLines
+pub mod Reports
+pub mod Mends
+pub mod Running
+pub mod Acting

@@ -1,0 +1,27 @@
+//! Tests of the commands of `zk` and of the line protocol: devices that take or give few bytes or
+//! fail, services that fail, and servers with a stopped clock. Also tests of the texts of faults,
+//! of command lines, of servers and of a debugger. No code of its own. What the program prints is
+//! tested in `checks/golden`, as `orders.golden` and `lines.golden`, and in `checks/clients.py`.
+//!
+//! Large values are dropped by `drop`, and functions with early exits borrow them. The end of each
+//! scope that owns such a value would be proved for each part of it.
+#![tactic(auto)]
+
+#[cfg(test)]
+mod ask_tests;
+#[cfg(test)]
+mod command_tests;
+#[cfg(test)]
+mod device_tests;
+#[cfg(test)]
+mod fault_tests;
+#[cfg(test)]
+mod field_tests;
+#[cfg(test)]
+mod kind_tests;
+#[cfg(test)]
+mod memory_tests;
+#[cfg(test)]
+mod server_tests;
+#[cfg(test)]
+mod session_tests;

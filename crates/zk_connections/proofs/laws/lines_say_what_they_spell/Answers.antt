@@ -1,5 +1,0 @@
-use Rattle.zk_connections.proofs.SayingLaws.{lines_say}
-use Rattle.zk_connections.proofs.laws.lines_say_what_they_spell.Goals as goal
-
-pub returns : goal.returns
-returns c = lines_say

@@ -1,5 +1,0 @@
-use Rattle.zk_connections.proofs.SayingLaws.{parts_say}
-use Rattle.zk_connections.proofs.laws.parts_say_what_they_spell.Goals as goal
-
-pub returns : goal.returns
-returns c = parts_say

@@ -1,8 +1,0 @@
-use Rattle.zk_request_lines.specs.Reading.{part_at}
-use Rattle.zk_request_lines.specs.RequestLines.{SpellsPart}
-use Rattle.zk_request_lines.proofs.PartTexts.{whole_part}
-use Rattle.zk_connections.proofs.WholeReadings.{makes}
-use Rattle.zk_connections.proofs.reading.part_in.Goals as goal
-
-pub returns : goal.returns
-returns c = makes SpellsPart part_at whole_part c.args.text.now c.read_part.result c.read_part.ensures

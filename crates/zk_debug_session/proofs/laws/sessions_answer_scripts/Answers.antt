@@ -1,5 +1,0 @@
-use Rattle.zk_debug_session.proofs.ScriptLaws.{sessions_answer_scripts}
-use Rattle.zk_debug_session.proofs.laws.sessions_answer_scripts.Goals as goal
-
-pub returns : goal.returns
-returns c = sessions_answer_scripts

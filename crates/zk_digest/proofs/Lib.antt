@@ -1,4 +1,0 @@
-pub mod Crcs
-pub mod Totals
-pub mod Steps
-pub mod Start

@@ -1,0 +1,79 @@
+-- The entries borrowed from the slots of all nodes.
+use Rattle.std.proofs.Common.{◌≡◌, ℕ, cond, List, [], ◌∷◌, map, length, is_eq, Less, Some, refl, sym, ap, ◌∙◌}
+use Rattle.std.proofs.lemmas.Cmp.{nat_list_cmp_total, eq_by_cmp_equiv}
+use Rattle.std.proofs.lemmas.Simd.{map-map}
+use Rattle.std.specs.FinMap as finite
+use Rattle.std.specs.FinMap.{find}
+use Rattle.std.specs.List.{AllByRecursion}
+use Rattle.std.specs.List.Sorted.{IsStrictlySortedBy}
+use Rattle.std.specs.Option.{option_map}
+use Rattle.zk_txn.specs.declared.node.Node.{Node}
+use Rattle.zk_table.specs.States.{path_cmp, children_of}
+use Rattle.zk_fold.specs.declared.node_table.Slot.{Slot}
+use Rattle.zk_fold.specs.Slots.{SlotMap, IsCounted, nodes_at}
+use Rattle.zk_tree.specs.Entries.{entries_of}
+use Rattle.zk_fold.proofs.Counting.{get-nodes_at, contains-nodes_at}
+use Rattle.zk_tree.proofs.Lists.{keys_are, rising_keys, same_itself}
+use Rattle.zk_tree.proofs.Sorting.{same_entries}
+
+-- ---- all elements of a list
+
+all_mapped : {A B : Type 0} (P : B → Type 0) (f : A → B) (xs : List A) → AllByRecursion (λ x. P (f x)) xs → AllByRecursion P (map f xs)
+all_mapped P f [] h = tt
+all_mapped P f (x ∷ xs) h = (h.0, all_mapped P f xs h.1)
+
+all_from : {A : Type 0} (P Q : A → Type 0) → ((x : A) → P x → Q x) → (xs : List A) → AllByRecursion P xs → AllByRecursion Q xs
+all_from P Q to [] h = tt
+all_from P Q to (x ∷ xs) h = (to x h.0, all_from P Q to xs h.1)
+
+mapped_alike : {A B : Type 0} (f g : A → B) (xs : List A) → AllByRecursion (λ x. f x ≡ g x) xs → map f xs ≡ map g xs
+mapped_alike f g [] h = refl
+mapped_alike f g (x ∷ xs) h = λ i. h.0 i ∷ mapped_alike f g xs h.1 i
+
+-- ---- each entry of a map is found
+
+found_ahead : {X : Type 0} (x : List ℕ × X) (xs es : List (List ℕ × X)) → AllByRecursion (λ k. path_cmp x.0 k ≡ Less) (map (λ e. e.0) es) → AllByRecursion (λ e. find path_cmp e.0 xs ≡ Some e.1) es → AllByRecursion (λ e. find path_cmp e.0 (x ∷ xs) ≡ Some e.1) es
+found_ahead x xs [] h a = tt
+found_ahead x xs (e ∷ es) h a =
+    (ap (λ b. cond b (Some x.1) (find path_cmp e.0 xs)) ((eq_by_cmp_equiv nat_list_cmp_total).symm e.0 x.0 ∙ ap is_eq h.0) ∙ a.0, found_ahead x xs es h.1 a.1)
+
+all_found : {X : Type 0} (es : List (List ℕ × X)) → IsStrictlySortedBy path_cmp (map (λ e. e.0) es) → AllByRecursion (λ e. find path_cmp e.0 es ≡ Some e.1) es
+unfolding IsStrictlySortedBy
+all_found [] h = tt
+all_found (e ∷ es) h = (ap (λ b. cond b (Some e.1) (find path_cmp e.0 es)) (same_itself e.0), found_ahead e es es h.0 (all_found es h.1))
+
+all_there : {X : Type 0} (m : finite.FinMap path_cmp X) → AllByRecursion (λ e. finite.get m e.0 ≡ Some e.1) (finite.entries m)
+all_there m =
+    all_from (λ e. find path_cmp e.0 (finite.entries m) ≡ Some e.1) (λ e. finite.get m e.0 ≡ Some e.1) (λ e found. finite.get-entries m e.0 ∙ found) (finite.entries m) (all_found (finite.entries m) (rising_keys m))
+
+-- ---- slots and nodes
+
+-- the nodes have the paths of their slots
+pub keys-nodes_at : (m : SlotMap) → finite.keys m ≡ finite.keys (nodes_at m)
+keys-nodes_at m = keys_are m (finite.keys (nodes_at m)) (rising_keys (nodes_at m)) (λ q. sym (contains-nodes_at m q) ∙ finite.contains_key-keys (nodes_at m) q)
+
+abbrev place_node : List ℕ × Slot → List ℕ × Node
+place_node e = (e.0, e.1.node)
+
+entries-nodes_at : (m : SlotMap) → map place_node (finite.entries m) ≡ finite.entries (nodes_at m)
+entries-nodes_at m =
+    same_entries (map place_node (finite.entries m)) (finite.entries (nodes_at m)) (rising_keys (nodes_at m)) (map-map (λ e. e.0) place_node (finite.entries m) ∙ keys-nodes_at m)
+    (all_mapped (λ e. find path_cmp e.0 (finite.entries (nodes_at m)) ≡ Some e.1) place_node (finite.entries m)
+    (all_from (λ e. finite.get m e.0 ≡ Some e.1) (λ e. find path_cmp e.0 (finite.entries (nodes_at m)) ≡ Some e.1.node) (λ e there. sym (finite.get-entries (nodes_at m) e.0) ∙ get-nodes_at m e.0 ∙ ap (option_map (λ s. s.node)) there) (finite.entries m) (all_there m)))
+
+-- the entry borrowed from a slot
+abbrev pub place_lent : List ℕ × Slot → List ℕ × (Node × ℕ)
+place_lent e = (e.1.path, (e.1.node, e.1.children))
+
+pub places_lent : (m : SlotMap) → IsCounted m → map place_lent (finite.entries m) ≡ entries_of (nodes_at m)
+places_lent m counted =
+    mapped_alike place_lent (λ e. (e.0, (e.1.node, length (children_of (nodes_at m) e.0)))) (finite.entries m)
+    (all_from (λ e. finite.get m e.0 ≡ Some e.1) (λ e. place_lent e ≡ (e.0, (e.1.node, length (children_of (nodes_at m) e.0)))) (λ e there. told e there) (finite.entries m) (all_there m))
+    ∙ sym (map-map (λ e. (e.0, (e.1, length (children_of (nodes_at m) e.0)))) place_node (finite.entries m))
+    ∙ ap (map (λ e. (e.0, (e.1, length (children_of (nodes_at m) e.0))))) (entries-nodes_at m)
+  where
+    told : (e : List ℕ × Slot) → finite.get m e.0 ≡ Some e.1 → place_lent e ≡ (e.0, (e.1.node, length (children_of (nodes_at m) e.0)))
+    told e there =
+        let path : e.1.path ≡ e.0 = counted.keyed e.0 e.1 there in
+        let count : e.1.children ≡ length (children_of (nodes_at m) e.0) = counted.counts e.0 e.1 there in
+        λ i. (path i, (e.1.node, count i))

@@ -1,0 +1,15 @@
+use Rattle.std.proofs.Common.{◌≡◌, ◌∷◌, ◌++◌, [], rules, append_assoc}
+use Rattle.std.specs.Prelude.{codes}
+use Rattle.std.specs.Fmt.{signed_decimal}
+use Rattle.std.specs.String.{string_bytes}
+use Rattle.zk_format.specs.Spelling.{quoted, content_text}
+use Rattle.zk_format.proofs.listing.spell_set_data.Goals as goal
+
+pub returns : goal.returns
+returns c =
+    let word : string_bytes c.push_str.new.self ≡ string_bytes c.args.text.now ++ codes "setData " = search rules in
+    let path : string_bytes c.spell_quoted.new.line ≡ string_bytes c.push_str.new.self ++ quoted c.args.path.now = search rules in
+    let space : string_bytes c.push.new.self ≡ string_bytes c.spell_quoted.new.line ++ 32 ∷ [] = search rules in
+    let content : string_bytes c.spell_content.new.line ≡ string_bytes c.push.new.self ++ content_text c.args.content.now = search rules in
+    let version : string_bytes c.write.new.self ≡ string_bytes c.spell_content.new.line ++ 32 ∷ signed_decimal c.args.version = search rules in
+    rw (version, content, space, path, word) (simp append_assoc)

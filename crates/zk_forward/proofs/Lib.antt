@@ -1,6 +1,0 @@
-pub mod Counting
-pub mod Making
-pub mod Timeouts
-pub mod Planting
-pub mod Deeds
-pub mod Lending

@@ -1,7 +1,0 @@
-use Rattle.std.proofs.Common.{◌≡◌, drop}
-use Rattle.zk_table.specs.Multis.{nodes_after}
-use Rattle.zk_forward.proofs.forest.Forest.apply_parts.Given as goal
-
--- what the parts that are left do is what is wanted
-abbrev pub invariant-loop-part : goal.invariant-loop-part
-invariant-loop-part l = nodes_after l.txn l.self (drop l.part-index l.parts) ≡ nodes_after l.txn l.fn.self l.parts

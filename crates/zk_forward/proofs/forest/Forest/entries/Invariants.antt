@@ -1,9 +1,0 @@
-use Rattle.std.proofs.Common.{◌≡◌, map, take}
-use Rattle.zk_tree.specs.Entries.{lent}
-use Rattle.zk_forward.proofs.Lending.{place_lent}
-use Rattle.zk_tree.proofs.Sorting.{lent_entry}
-use Rattle.zk_forward.proofs.forest.Forest.entries.Given as goal
-
--- the places so far were lent
-abbrev pub invariant-loop-at : goal.invariant-loop-at
-invariant-loop-at l = map lent l.entries.items ≡ map place_lent (map lent_entry (take l.at-index l.at-items))

@@ -1,8 +1,0 @@
-use Rattle.std.proofs.Common.{◌≡◌, ◌++◌, map}
-use Rattle.std.specs.FinMap as finite
-use Rattle.std.specs.String.{string_bytes}
-use Rattle.zk_forward.proofs.places.Places.paths_of.Given as goal
-
--- the paths so far, and the texts that are left
-abbrev pub invariant-loop-text : goal.invariant-loop-text
-invariant-loop-text l = l.paths.items ++ map string_bytes l.text-iterator ≡ finite.keys l.set

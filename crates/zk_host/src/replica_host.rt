@@ -1,0 +1,297 @@
+use crate::fault::{ReadFault, ReleaseFault};
+use crate::news::News;
+use crate::watched_tree::WatchedTree;
+use std::alloc::Global;
+use zab_broadcast::Caught;
+use zab_epoch::{Message, Messages, Quorums};
+use zab_host::{Host, HostFault, ReceiveFault, Storage, StoreFault, TagIssuer};
+use zk_machine::Machine;
+use zk_model::{Preparer, Question};
+use zk_path::NoMemory;
+use zk_requests::Call;
+use zk_table::ReadReply;
+
+/// A host of an ensemble's server, with the tree of what the server has delivered. The tree
+/// advances only after a store: what clients see is stored.
+pub struct ReplicaHost<S: Storage> {
+    host: Host<Preparer, S>,
+    tree: WatchedTree,
+    /// The number of delivered entries that the tree shows.
+    shown: usize,
+    tags: TagIssuer,
+}
+
+impl<S: Storage + Drop> Drop for ReplicaHost<S> {
+    fn drop(self) {
+        let ReplicaHost {
+            host: _,
+            tree: _,
+            shown: _,
+            tags: _,
+        } = self;
+    }
+}
+
+impl<S: Storage> ReplicaHost<S> {
+    ghost use Rattle.std.specs.Prelude.{◌≡◌, ◌≢◌, ◌≤◌, ◌+◌, ◌⊎◌, ◌++◌, [], length, drop, true, false, int_lt, IfOk, IfErr, OnOk, OnErr, IfSome, OnSome, IfNone, IsErrOf};
+    ghost use Rattle.zab_epoch.specs.declared.stable.Stable.{Stable};
+    ghost use Rattle.zab_epoch.specs.Shortness.{IsShortBody};
+    ghost use Rattle.zab_broadcast.specs.Rules.{restored};
+    ghost use Rattle.zab_host.specs.Hosts.{acts_of, messages_of, Receives, Submits, Syncs, Leads, Follows, StepsTo, IsRejected, IsStored, IsAppendOnlyBody};
+    ghost use Rattle.zab_host.specs.Durability.{IsDurable, IsPartialStore};
+    ghost use Rattle.zab_host.specs.Tags.{tag_of};
+    ghost use Rattle.zk_model.specs.Ensembles.{profile_by, reply_of};
+    ghost use Rattle.zk_host.specs.Delivered.{delivered_in};
+    ghost use Rattle.zk_host.specs.WatchedTrees.{new_tree, after_entries, after_read, after_close};
+    ghost use Rattle.zk_host.specs.declared.fault.ReleaseFault.TheVariants as faults;
+    ghost use Rattle.zk_host.specs.declared.fault.ReadFault.TheVariants as read_faults;
+
+    /// Starts a host on what its store recovers, with an empty tree. `me` numbers the host from 1;
+    /// its tags carry the number's lowest 8 bits.
+    pub fn start(
+        alloc: Global,
+        servers: usize,
+        me: u8,
+        storage: S,
+    ) -> Result<ReplicaHost<S>, StoreFault>
+        ensures host { IfOk result (λ it. (stable : Stable) × (S.may_recover storage stable
+            × ((it.host.state ≡ restored servers me stable) × ((it.host.outbox ≡ [])
+            × IsDurable stable (S.may_recover it.host.storage))))) }
+        ensures tree { IfOk result (λ it. it.tree ≡ new_tree) }
+        ensures shown { IfOk result (λ it. it.shown ≡ 0) }
+        ensures tags { IfOk result (λ it. (it.tags.host ≡ me) × ((it.tags.boot ≡ S.boots storage + 1) × (it.tags.used ≡ 0))) }
+        ensures boots { IfOk result (λ it. S.boots it.host.storage ≡ S.boots storage + 1) }
+    {
+        let mut storage = storage;
+        let tags = TagIssuer::open(me, &mut storage)?;
+        Ok(ReplicaHost {
+            host: Host::start(alloc, servers, usize::from(me), storage)?,
+            tree: WatchedTree::new(alloc),
+            shown: 0,
+            tags,
+        })
+    }
+
+    /// Ends the host's process, and returns its store for the next start.
+    pub fn into_storage(self) -> S
+        ensures { result ≡ self.host.storage }
+    {
+        let ReplicaHost {
+            host,
+            tree,
+            shown: _,
+            tags,
+        } = self;
+        drop(tree);
+        drop(tags);
+        host.into_storage()
+    }
+
+    /// The number of messages that wait for the next release.
+    pub fn outbox_len(&self) -> usize
+        ensures { result ≡ length self.now.host.outbox }
+    {
+        self.host.outbox_len()
+    }
+
+    /// Issues the tag of the next call or sync at this host; `None` once 4,294,967,295 are issued
+    /// since its start. No two requests of any hosts share one.
+    pub fn issue_tag(&mut self) -> Option<u64>
+        ensures tag { IfSome result (λ tag. tag ≡ tag_of self.old.tags.host self.old.tags.boot self.old.tags.used) }
+        ensures counted { OnSome result (self.new.tags ≡ record self.old.tags { used = self.old.tags.used + 1 }) }
+        ensures full { IfNone result (self.old.tags.used ≡ 4294967295) }
+        ensures rest { (self.new.host ≡ self.old.host) × ((self.new.tree ≡ self.old.tree) × (self.new.shown ≡ self.old.shown)) }
+    {
+        self.tags.issue()
+    }
+
+    /// Receives a message that appends at most one entry.
+    pub fn receive<Q: Quorums>(
+        &mut self,
+        alloc: Global,
+        quorums: &Q,
+        message: &Message<Call>,
+    ) -> Result<(), HostFault>
+        requires short { IsShortBody message.now.body }
+        requires append_only { IsAppendOnlyBody message.now.body }
+        ensures steps { StepsTo (profile_by (Q.passes quorums.now)).setting self.old.host (Receives message.now)
+            self.new.host result }
+        ensures rest { (self.new.tree ≡ self.old.tree) × ((self.new.shown ≡ self.old.shown) × (self.new.tags ≡ self.old.tags)) }
+    {
+        self.host.receive(alloc, quorums, message)
+    }
+
+    /// Receives any message. Stores what the server has, applies the message's rule, and stores the
+    /// change atomically.
+    pub fn receive_and_store<Q: Quorums>(
+        &mut self,
+        alloc: Global,
+        quorums: &Q,
+        message: &Message<Call>,
+    ) -> Result<(), ReceiveFault>
+        requires short { IsShortBody message.now.body }
+        ensures mine { OnOk result (message.now.addressee ≡ self.old.host.state.peer.me) }
+        ensures state { OnOk result (self.new.host.state
+            ≡ (acts_of (profile_by (Q.passes quorums.now)).setting self.old.host.state (Receives message.now)).0) }
+        ensures outbox { OnOk result (self.new.host.outbox ≡ self.old.host.outbox ++ messages_of
+            (acts_of (profile_by (Q.passes quorums.now)).setting self.old.host.state (Receives message.now)).1) }
+        ensures stored { OnOk result (IsStored S.may_recover self.new.host) }
+        ensures rejected { IfErr result (λ fault. IsRejected (profile_by (Q.passes quorums.now)).setting self.old.host
+            (Receives message.now) self.new.host fault) }
+        ensures crash { (found : Stable) → S.may_recover self.new.host.storage found
+            → S.may_recover self.old.host.storage found
+            ⊎ (IsPartialStore (S.may_recover self.old.host.storage) self.old.host.state.peer.stable found
+            ⊎ (found ≡ self.new.host.state.peer.stable)) }
+        ensures boots { S.boots self.new.host.storage ≡ S.boots self.old.host.storage }
+        ensures rest { (self.new.tree ≡ self.old.tree) × ((self.new.shown ≡ self.old.shown) × (self.new.tags ≡ self.old.tags)) }
+    {
+        self.host.receive_and_store(alloc, quorums, message)
+    }
+
+    /// Submits a client's call. No other call has its tag.
+    pub fn submit<Q: Quorums>(
+        &mut self,
+        alloc: Global,
+        quorums: &Q,
+        call: Call,
+    ) -> Result<(), HostFault>
+        ensures steps { StepsTo (profile_by (Q.passes quorums.now)).setting self.old.host (Submits call)
+            self.new.host result }
+        ensures rest { (self.new.tree ≡ self.old.tree) × ((self.new.shown ≡ self.old.shown) × (self.new.tags ≡ self.old.tags)) }
+    {
+        self.host.submit(alloc, quorums, call)
+    }
+
+    /// Asks the server's leader how much it has delivered, for a client's sync. No other sync has
+    /// this tag.
+    pub fn sync<Q: Quorums>(
+        &mut self,
+        alloc: Global,
+        quorums: &Q,
+        tag: u64,
+    ) -> Result<(), HostFault>
+        ensures steps { StepsTo (profile_by (Q.passes quorums.now)).setting self.old.host (Syncs tag)
+            self.new.host result }
+        ensures rest { (self.new.tree ≡ self.old.tree) × ((self.new.shown ≡ self.old.shown) × (self.new.tags ≡ self.old.tags)) }
+    {
+        self.host.sync(alloc, quorums, tag)
+    }
+
+    /// Begins to lead.
+    pub fn lead<Q: Quorums>(&mut self, alloc: Global, quorums: &Q) -> Result<(), HostFault>
+        ensures steps { StepsTo (profile_by (Q.passes quorums.now)).setting self.old.host Leads self.new.host result }
+        ensures rest { (self.new.tree ≡ self.old.tree) × ((self.new.shown ≡ self.old.shown) × (self.new.tags ≡ self.old.tags)) }
+    {
+        self.host.lead(alloc, quorums)
+    }
+
+    /// Begins to follow a leader.
+    pub fn follow<Q: Quorums>(
+        &mut self,
+        alloc: Global,
+        quorums: &Q,
+        leader: usize,
+    ) -> Result<(), HostFault>
+        ensures steps { StepsTo (profile_by (Q.passes quorums.now)).setting self.old.host (Follows leader)
+            self.new.host result }
+        ensures rest { (self.new.tree ≡ self.old.tree) × ((self.new.shown ≡ self.old.shown) × (self.new.tags ≡ self.old.tags)) }
+    {
+        self.host.follow(alloc, quorums, leader)
+    }
+
+    /// Stores what the server has, delivers to the tree what the server has delivered since the
+    /// last release, and releases the server's messages.
+    ///
+    /// After [`ReleaseFault::NoMemory`] the tree starts again as empty: the caller closes all
+    /// connections.
+    pub fn release(&mut self, alloc: Global) -> Result<Messages<Call>, ReleaseFault>
+        ensures messages { IfOk result (λ messages. messages ≡ self.old.host.outbox) }
+        ensures stored { OnOk result (IsStored S.may_recover self.new.host) }
+        ensures state { self.new.host.state ≡ self.old.host.state }
+        ensures empty { OnOk result (self.new.host.outbox ≡ []) }
+        ensures delivered { OnOk result (self.new.tree
+            ≡ after_entries self.old.tree (drop self.old.shown (delivered_in self.new.host.state))) }
+        ensures shown { OnOk result (self.new.shown ≡ length (delivered_in self.new.host.state)) }
+        ensures fault { IfErr result (λ fault. fault ≢ faults.NoMemory
+            → (self.new.tree ≡ self.old.tree) × (self.new.shown ≡ self.old.shown)) }
+        ensures forgets { IsErrOf result faults.NoMemory → (self.new.tree ≡ new_tree) × (self.new.shown ≡ 0) }
+        ensures tags { self.new.tags ≡ self.old.tags }
+        ensures crash { (found : Stable) → S.may_recover self.new.host.storage found
+            → S.may_recover self.old.host.storage found
+            ⊎ IsPartialStore (S.may_recover self.old.host.storage) self.old.host.state.peer.stable found }
+        ensures boots { S.boots self.new.host.storage ≡ S.boots self.old.host.storage }
+    {
+        let messages = self.host.release(alloc)?;
+        let delivered = self.host.delivered();
+        if delivered.len() < self.shown {
+            return Err(ReleaseFault::Shrunk);
+        }
+        let entries = delivered.behind(self.shown);
+        if self.tree.deliver_all(alloc, &entries).is_err() {
+            self.tree = WatchedTree::new(alloc);
+            self.shown = 0;
+            return Err(ReleaseFault::NoMemory);
+        }
+        self.shown = delivered.len();
+        Ok(messages)
+    }
+
+    /// Replies to a connection's read from the tree, and sets its watch.
+    pub fn read(&mut self, connection: u64, question: &Question) -> Result<ReadReply, ReadFault>
+        ensures near { OnOk result (int_lt self.old.tree.tree.last question.now.seen ≡ false) }
+        ensures reply { IfOk result (λ reply. reply ≡ reply_of question.now self.old.tree.tree) }
+        ensures watches { IfOk result (λ reply. self.new.tree ≡ after_read connection question.now reply self.old.tree) }
+        ensures behind { int_lt self.old.tree.tree.last question.now.seen ≡ true
+            → IsErrOf result (read_faults.Behind question.now.seen self.old.tree.tree.last) }
+        ensures unchanged { OnErr result (self.new.tree ≡ self.old.tree) }
+        ensures rest { (self.new.host ≡ self.old.host) × ((self.new.shown ≡ self.old.shown) × (self.new.tags ≡ self.old.tags)) }
+    {
+        let last = self.tree.last();
+        if last < question.seen {
+            let seen = question.seen;
+            return Err(ReadFault::Behind { seen, last });
+        }
+        Ok(self.tree.read(connection, question)?)
+    }
+
+    /// Drops the watches of a connection.
+    pub fn close_connection(&mut self, connection: u64)
+        ensures tree { self.new.tree ≡ after_close connection self.old.tree }
+        ensures rest { (self.new.host ≡ self.old.host) × ((self.new.shown ≡ self.old.shown) × (self.new.tags ≡ self.old.tags)) }
+    {
+        self.tree.close_connection(connection);
+    }
+
+    /// Takes the results and events since they were last taken, in delivered order: an entry's
+    /// events come before its result.
+    pub fn take_news(&mut self) -> Vec<News>
+        ensures news { result.items ≡ self.old.tree.news }
+        ensures tree { self.new.tree ≡ record self.old.tree { news = [] } }
+        ensures rest { (self.new.host ≡ self.old.host) × ((self.new.shown ≡ self.old.shown) × (self.new.tags ≡ self.old.tags)) }
+    {
+        self.tree.take_news()
+    }
+
+    /// Returns the server's completed syncs since it started, borrowed. Clients see them only once
+    /// all that the server has is stored.
+    pub fn syncs(&self) -> &[Caught]
+        requires stored { IsStored S.may_recover self.now.host }
+        ensures { result.now ≡ self.now.host.state.caught }
+    {
+        self.host.syncs()
+    }
+
+    /// The last transaction that the tree shows, and 0 before the first.
+    pub fn last(&self) -> i64
+        ensures { result ≡ self.now.tree.tree.last }
+    {
+        self.tree.last()
+    }
+
+    /// A machine in the state of the tree.
+    pub fn machine(&self, alloc: Global) -> Result<Machine, NoMemory>
+        ensures { IfOk result (λ machine. machine ≡ record { state = self.now.tree.tree; steps = 0; failed = false }) }
+    {
+        self.tree.machine(alloc)
+    }
+}

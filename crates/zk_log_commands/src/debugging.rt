@@ -1,0 +1,113 @@
+ghost use Rattle.std.specs.Prelude.{◌+◌, ◌-◌, ◌<◌, ◌^◌};
+ghost use Rattle.std.specs.String.{string_bytes};
+ghost use Rattle.zk_records.specs.Sinks.{write_failures_of};
+ghost use Rattle.zk_log.specs.Devices.{reads_of, read_failures_of};
+ghost use Rattle.zk_log_commands.specs.Debugs.{Debugs, ReadsScript, Runs, RunsFromStart};
+
+use crate::answering::{put_answers, put_answers_before};
+use crate::telling::{TURNS, tell, tell_log_fault};
+use crate::text::{TextFault, read_text};
+use std::alloc::Global;
+use std::io::{Read, Write};
+use std::mem::forget;
+use zk_debug::Debugger;
+use zk_debug_script::{ScriptFault, run_script};
+use zk_log::{Loaded, LogFault, Sink, Source, load};
+use zk_path::NoMemory;
+
+/// Loads a log, reads a whole script, and writes the output for the script's lines, up to the first
+/// that is not a command. Returns the exit status.
+pub fn debug<F: Read, S: Read, O: Write, E: Write>(
+    alloc: Global,
+    file: &mut Source<F>,
+    script: &mut Source<S>,
+    output: &mut Sink<O>,
+    faults: &mut Sink<E>,
+) -> Result<u8, NoMemory>
+    requires reads { reads_of file.old + 1048576 < 2 ^ 64 }
+    requires read_failures { read_failures_of file.old < 2 ^ 64 - 1 }
+    requires script_reads { reads_of script.old + 1048576 < 2 ^ 64 }
+    requires script_failures { read_failures_of script.old < 2 ^ 64 - 1 }
+    requires output { write_failures_of output.old < 2 ^ 64 - 1 }
+    requires faults { write_failures_of faults.old < 2 ^ 64 - 1 }
+    ensures { Debugs F.remaining S.remaining O.contents E.contents file.old file.new
+        script.old script.new output.old output.new faults.old faults.new result }
+{
+    match load(alloc, file, TURNS) {
+        Ok(loaded) => debug_log(alloc, loaded, script, output, faults),
+        Err(LogFault::NoMemory) => Err(NoMemory),
+        Err(fault) => tell_log_fault(alloc, fault, faults),
+    }
+}
+
+/// Reads a whole script and executes it over a loaded log. Returns the exit status.
+fn debug_log<S: Read, O: Write, E: Write>(
+    alloc: Global,
+    loaded: Loaded,
+    script: &mut Source<S>,
+    output: &mut Sink<O>,
+    faults: &mut Sink<E>,
+) -> Result<u8, NoMemory>
+    requires reads { reads_of script.old + 1048576 < 2 ^ 64 }
+    requires failures { read_failures_of script.old < 2 ^ 64 - 1 }
+    requires output { write_failures_of output.old < 2 ^ 64 - 1 }
+    requires faults { write_failures_of faults.old < 2 ^ 64 - 1 }
+    ensures { ReadsScript S.remaining O.contents E.contents loaded.txns script.old script.new
+        output.old output.new faults.old faults.new result }
+{
+    match read_text(alloc, script, TURNS) {
+        Ok(text) => run(alloc, loaded, text.as_str(), output, faults),
+        Err(TextFault::Read) => {
+            tell(faults, "zk: read\n");
+            Ok(1)
+        }
+        Err(TextFault::Utf8) => {
+            tell(faults, "zk: utf8\n");
+            Ok(1)
+        }
+        Err(TextFault::NoMemory) => Err(NoMemory),
+    }
+}
+
+/// Executes a script from the start of a log. Returns the exit status.
+fn run<O: Write, E: Write>(
+    alloc: Global,
+    loaded: Loaded,
+    script: &str,
+    output: &mut Sink<O>,
+    faults: &mut Sink<E>,
+) -> Result<u8, NoMemory>
+    requires output { write_failures_of output.old < 2 ^ 64 - 1 }
+    requires faults { write_failures_of faults.old < 2 ^ 64 - 1 }
+    ensures { Runs O.contents E.contents loaded.txns script.now output.old output.new
+        faults.old faults.new result }
+{
+    let mut answers = String::new(alloc);
+    match push_answers(alloc, loaded, script, &mut answers) {
+        Ok(()) => Ok(put_answers(answers.as_str(), output, faults)),
+        Err(ScriptFault::Malformed(line)) => {
+            put_answers_before(alloc, answers.as_str(), line, output, faults)
+        }
+        Err(ScriptFault::NoMemory) => Err(NoMemory),
+    }
+}
+
+/// Appends the output for a script from the start of a log.
+fn push_answers(
+    alloc: Global,
+    loaded: Loaded,
+    script: &str,
+    answers: &mut String,
+) -> Result<(), ScriptFault>
+    ensures { RunsFromStart loaded.txns script.now (string_bytes answers.old) result
+        (string_bytes answers.new) }
+{
+    let Ok(mut debugger) = Debugger::new(alloc, loaded) else {
+        return Err(ScriptFault::NoMemory);
+    };
+    let ran = run_script(alloc, &mut debugger, script, answers);
+    // The program ends after this: to free the memory object by object would cost as much as the
+    // script.
+    forget(debugger);
+    ran
+}

@@ -1,0 +1,116 @@
+ghost use Rattle.std.specs.Prelude.{◌+◌, ◌-◌, ◌<◌, ◌^◌};
+ghost use Rattle.zk_log_commands.specs.Showing.{report_of, show_report};
+ghost use Rattle.zk_log_commands.specs.Telling.{TellsLog, TellsWriting};
+ghost use Rattle.zk_format.specs.Listings.{listing_of};
+ghost use Rattle.zk_records.specs.Sinks.{write_failures_of};
+ghost use Rattle.zk_log.specs.Devices.{reads_of, read_failures_of};
+
+use crate::lines::LineFault;
+use crate::list::write_listing;
+use crate::show::{ShowSink, write_report};
+use crate::telling::{TURNS, tell, tell_log_fault};
+use std::alloc::Global;
+use std::io::{Read, Write};
+use std::mem::forget;
+use zk_log::{LogFault, Sink, Source, load, load_into};
+use zk_path::NoMemory;
+
+/// The report on a log.
+#[derive(Clone, Copy, Debug, PartialEq, Eq)]
+pub enum Report {
+    /// The tree after the transactions up to `upto`, or after all of them, and how the log ends.
+    Tree { upto: Option<i64> },
+    Listing,
+}
+
+/// Loads a log and writes its report. Returns the exit status.
+pub fn tell_log<F: Read, O: Write, E: Write>(
+    alloc: Global,
+    report: Report,
+    file: &mut Source<F>,
+    output: &mut Sink<O>,
+    faults: &mut Sink<E>,
+) -> Result<u8, NoMemory>
+    requires reads { reads_of file.old + 1048576 < 2 ^ 64 }
+    requires read_failures { read_failures_of file.old < 2 ^ 64 - 1 }
+    requires output { write_failures_of output.old < 2 ^ 64 - 1 }
+    requires faults { write_failures_of faults.old < 2 ^ 64 - 1 }
+    ensures { TellsLog F.remaining O.contents E.contents (report_of report) file.old file.new
+        output.old output.new faults.old faults.new result }
+{
+    match report {
+        Report::Tree { upto } => tell_tree(alloc, upto, file, output, faults),
+        Report::Listing => tell_listing(alloc, file, output, faults),
+    }
+}
+
+/// Loads a log into a table, and writes the report of its tree. Returns the exit status.
+fn tell_tree<F: Read, O: Write, E: Write>(
+    alloc: Global,
+    upto: Option<i64>,
+    file: &mut Source<F>,
+    output: &mut Sink<O>,
+    faults: &mut Sink<E>,
+) -> Result<u8, NoMemory>
+    requires reads { reads_of file.old + 1048576 < 2 ^ 64 }
+    requires read_failures { read_failures_of file.old < 2 ^ 64 - 1 }
+    requires output { write_failures_of output.old < 2 ^ 64 - 1 }
+    requires faults { write_failures_of faults.old < 2 ^ 64 - 1 }
+    ensures { TellsLog F.remaining O.contents E.contents (show_report upto) file.old file.new
+        output.old output.new faults.old faults.new result }
+{
+    let mut shower = ShowSink::new(alloc, upto)?;
+    match load_into(alloc, file, TURNS, &mut shower) {
+        Ok(head) => {
+            let written = write_report(alloc, shower, head.ending, output);
+            tell_written(written, faults)
+        }
+        Err(LogFault::NoMemory) => Err(NoMemory),
+        Err(fault) => tell_log_fault(alloc, fault, faults),
+    }
+}
+
+/// Loads a log and writes its listing. Returns the exit status.
+fn tell_listing<F: Read, O: Write, E: Write>(
+    alloc: Global,
+    file: &mut Source<F>,
+    output: &mut Sink<O>,
+    faults: &mut Sink<E>,
+) -> Result<u8, NoMemory>
+    requires reads { reads_of file.old + 1048576 < 2 ^ 64 }
+    requires read_failures { read_failures_of file.old < 2 ^ 64 - 1 }
+    requires output { write_failures_of output.old < 2 ^ 64 - 1 }
+    requires faults { write_failures_of faults.old < 2 ^ 64 - 1 }
+    ensures { TellsLog F.remaining O.contents E.contents (λ loaded. listing_of loaded.txns) file.old file.new
+        output.old output.new faults.old faults.new result }
+{
+    match load(alloc, file, TURNS) {
+        Ok(loaded) => {
+            let written = write_listing(alloc, loaded.txns.as_slice(), output);
+            // The program ends after this: to free the memory object by object would cost as much
+            // as to list the log.
+            forget(loaded);
+            tell_written(written, faults)
+        }
+        Err(LogFault::NoMemory) => Err(NoMemory),
+        Err(fault) => tell_log_fault(alloc, fault, faults),
+    }
+}
+
+/// Writes a line on standard error if the output failed. Returns the exit status.
+fn tell_written<E: Write>(
+    written: Result<(), LineFault>,
+    faults: &mut Sink<E>,
+) -> Result<u8, NoMemory>
+    requires { write_failures_of faults.old < 2 ^ 64 - 1 }
+    ensures { TellsWriting E.contents written faults.old faults.new result }
+{
+    match written {
+        Ok(()) => Ok(0),
+        Err(LineFault::Write) => {
+            tell(faults, "zk: write\n");
+            Ok(1)
+        }
+        Err(LineFault::NoMemory) => Err(NoMemory),
+    }
+}

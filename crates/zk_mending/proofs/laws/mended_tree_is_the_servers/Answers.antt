@@ -1,5 +1,0 @@
-use Rattle.zk_mending.proofs.NewerTrees.{mended_tree_is_the_servers}
-use Rattle.zk_mending.proofs.laws.mended_tree_is_the_servers.Goals as goal
-
-pub returns : goal.returns
-returns c = mended_tree_is_the_servers

@@ -1,5 +1,0 @@
-use Rattle.zk_mending.proofs.OldLogs.{old_logs_come_back}
-use Rattle.zk_mending.proofs.laws.old_logs_come_back.Goals as goal
-
-pub returns : goal.returns
-returns c = old_logs_come_back

@@ -1,7 +1,0 @@
-use Rattle.std.proofs.Common.{◌≡◌, take}
-use Rattle.zk_newer.specs.Changes.{owners_in_parts}
-use Rattle.zk_newer.specs.Newer.{paired}
-use Rattle.zk_newer.proofs.owners.owners_in_parts.Given as goal
-
-abbrev pub invariant-loop-index : goal.invariant-loop-index
-invariant-loop-index l = l.owners.items ≡ owners_in_parts (take l.index (paired l.parts l.forms))

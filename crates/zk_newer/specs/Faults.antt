@@ -1,9 +1,0 @@
--- What a newer record's reader tells of bytes that are none.
-use Rattle.zk_jute.specs.declared.fault.JuteFault.{JuteFault}
-use Rattle.zk_jute.specs.declared.fault.JuteFault.TheVariants as faults
-use Rattle.zk_newer.specs.declared.fault.NewerFault.{NewerFault}
-use Rattle.zk_newer.specs.declared.fault.NewerFault.TheVariants as newer_faults
-
-abbrev pub fault_of_record : JuteFault → NewerFault
-fault_of_record faults.NoMemory = newer_faults.NoMemory
-fault_of_record fault = newer_faults.Record

@@ -1,7 +1,0 @@
-use Rattle.std.specs.String.{string_bytes}
-use Rattle.zk_orders.proofs.TextLaws.{from_start}
-use Rattle.zk_orders.proofs.debugging.push_answers.Goals as goal
-
-pub returns : goal.returns
-returns c =
-    from_start c.args.loaded.txns c.args.script.now (string_bytes c.args.answers.now) (string_bytes c.run_script-ran.new.answers) c.in-Ok.debugger c.run_script-ran.new.debugger c.run_script-ran.result c.in-Ok.ensures c.run_script-ran.ensures

@@ -1,5 +1,0 @@
-use Rattle.std.proofs.Common.{rules}
-use Rattle.zk_orders.proofs.telling.tell_log_fault.Goals as goal
-
-pub returns : goal.returns
-returns g c = search rules

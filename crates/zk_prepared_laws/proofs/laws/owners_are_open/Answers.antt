@@ -1,5 +1,0 @@
-use Rattle.zk_prepared_laws.proofs.Standing.{owners_are_open}
-use Rattle.zk_prepared_laws.proofs.laws.owners_are_open.Goals as goal
-
-pub returns : goal.returns
-returns c = owners_are_open

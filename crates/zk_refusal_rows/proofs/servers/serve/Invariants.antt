@@ -1,4 +1,0 @@
-use Rattle.zk_refusal_rows.proofs.servers.serve.Given as goal
-
-abbrev pub ghosts-run : goal.ghosts-run
-ghosts-run g a = record { name = a.blank.name; parts = a.blank.parts }

@@ -1,4 +1,0 @@
-use Rattle.zk_servers_rows.proofs.inbox_rows.two_servers.Given as goal
-
-abbrev pub ghosts-run : goal.ghosts-run
-ghosts-run g a = record { name = a.blank.name; parts = a.blank.parts }

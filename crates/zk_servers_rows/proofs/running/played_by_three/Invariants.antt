@@ -1,4 +1,0 @@
-use Rattle.zk_servers_rows.proofs.running.played_by_three.Given as goal
-
-abbrev pub ghosts-run : goal.ghosts-run
-ghosts-run g a = record { name = a.blank.name; parts = a.blank.parts }

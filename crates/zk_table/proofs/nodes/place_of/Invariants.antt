@@ -1,8 +1,0 @@
-use Rattle.std.proofs.Common.{◌≡◌, drop}
-use Rattle.zk_table.specs.Places.{place_of}
-use Rattle.zk_table.specs.States.{path_cmp}
-use Rattle.zk_table.proofs.Sorted.{later_by}
-use Rattle.zk_table.proofs.nodes.place_of.Given as goal
-
-abbrev pub invariant-loop-known : goal.invariant-loop-known
-invariant-loop-known l = (l.at ≡ l.known-index) × (place_of path_cmp l.path l.entries ≡ later_by l.at (place_of path_cmp l.path (drop l.at l.entries)))
