@@ -5,8 +5,9 @@ a session and creates a node.
 
 Each run must end within a time limit: the servers' threads end even if an allocation failed while
 they started, ran or ended. The program prints `listening PORT` or nothing, and ends with status 0,
-or with status 1 and `zk: memory`. A client gets the reply that it gets without the failure, or
-`err server`, or the connection ends.
+or with status 1 and `zk: memory`. Without a port it may end with `zk: listen`, if that persists over
+several ports. A client gets the reply that it gets without the failure, or `err server`, or the
+connection ends. A run without a failed allocation ends with status 0.
 
 usage: alloc_failure_serve.py [N ..]     the allocations with these numbers; all of them if none is named
 """
@@ -21,20 +22,33 @@ from pathlib import Path
 ROOT = Path(__file__).resolve().parent.parent
 PROGRAM = Path(os.environ.get("ZK", ROOT / "crates" / "zk_cli" / "out" / "zk_cli"))
 
+# The number of allocations that are tried before the end is looked for: most often all.
+BLOCK = 512
+
 # More allocations than a run makes.
-ENOUGH = 100_000
+ENOUGH = 200 * BLOCK
 
-# The number of runs side by side.
-LANES = 4
+# The number of runs side by side. Some fifty of those with a client wait for a minute, without much to compute.
+LANES = 64
 
-# Seconds that a run may take: one write whose messages were lost waits for some sixty.
-LIMIT = 240
+# The number of ports that a run tries: another process may take one before the program opens it.
+PORTS = 5
+
+# Seconds that a run may take: one write whose messages were lost waits for some sixty, and longer on a busy machine.
+LIMIT = 600
 
 TURNS = (
     (b"ruok\n", b"imok\n"),
     (b"open 30000\n", b"ok 0000000100000001 30000\n"),
     (b'create "/a" x6869 1 31 "world" "anyone"\n', b'ok "/a"\n'),
 )
+
+
+# Standard output, standard error and status.
+Ended = tuple[str, str, int]
+
+# If an allocation fails while the system opens the port, the port cannot be opened.
+UNOPENED = ("", "zk: listen\n", 1)
 
 
 class Wrong(Exception):
@@ -60,11 +74,8 @@ def talk(port: int) -> None:
                 return
 
 
-def run(growth: int, clients: int, library: Path, room: Path) -> bool:
-    """Whether an allocation failed in a run."""
-    met, port = room / f"{clients}.{growth}.met", free_port()
-    env = {**os.environ, "LD_PRELOAD": str(library), "REFUSE": str(growth), "REFUSE_MET": str(met)}
-    words = [PROGRAM, "serve", str(port), "3", "--conns", str(clients)]
+def run_once(words: list[str], env: dict[str, str], port: int, clients: int) -> Ended:
+    """Runs the program to its end, with a client if it serves one."""
     pipe = subprocess.PIPE
     with subprocess.Popen(words, env=env, stdin=subprocess.DEVNULL, stdout=pipe, stderr=pipe, text=True) as running:
         try:
@@ -76,24 +87,41 @@ def run(growth: int, clients: int, library: Path, room: Path) -> bool:
                     # the servers have ended
                     pass
             told, why = running.communicate(timeout=LIMIT)
-        except subprocess.TimeoutExpired:
-            raise Wrong(f"allocation {growth} with {clients} clients: it does not end") from None
         finally:
             running.kill()
-    ended = (line + told, why, running.returncode)
+    return line + told, why, running.returncode
+
+
+def run(growth: int, clients: int, library: Path, room: Path) -> bool:
+    """Whether an allocation failed in a run."""
+    met = room / f"{clients}.{growth}.met"
+    env = {**os.environ, "LD_PRELOAD": str(library), "REFUSE": str(growth), "REFUSE_MET": str(met)}
+    name = f"allocation {growth} with {clients} clients"
+    for _ in range(PORTS):
+        port = free_port()
+        try:
+            ended = run_once([str(PROGRAM), "serve", str(port), "3", "--conns", str(clients)], env, port, clients)
+        except subprocess.TimeoutExpired:
+            raise Wrong(f"{name}: it does not end") from None
+        if ended != UNOPENED:
+            break
     listening = f"listening {port}\n"
-    if ended not in ((listening, "", 0), (listening, "zk: memory\n", 1), ("", "zk: memory\n", 1)):
-        raise Wrong(f"allocation {growth} with {clients} clients: it ends with {ended}")
-    return met.read_text(encoding="utf-8") == "met\n"
+    failed = met.read_text(encoding="utf-8") == "met\n"
+    allowed = {(listening, "", 0)}
+    if failed:
+        allowed |= {(listening, "zk: memory\n", 1), ("", "zk: memory\n", 1), UNOPENED}
+    if ended not in allowed:
+        raise Wrong(f"{name}: it ends with {ended}")
+    return failed
 
 
 def run_all(clients: int, library: Path, room: Path) -> int:
     """How many allocations a run makes."""
     with ThreadPoolExecutor(max_workers=LANES) as lanes:
-        for first in range(1, ENOUGH, 4 * LANES):
-            met = list(lanes.map(lambda it: run(it, clients, library, room), range(first, first + 4 * LANES)))
-            if not any(met):
-                return first - 1
+        for first in range(1, ENOUGH, BLOCK):
+            met = list(lanes.map(lambda it: run(it, clients, library, room), range(first, first + BLOCK)))
+            if not any(met[-LANES:]):
+                return first + max((at for at, it in enumerate(met) if it), default=-1)
     raise Wrong("allocations without end")
 
 

@@ -37,6 +37,8 @@ void *realloc(void *old, size_t size) {
 __attribute__((destructor)) static void tell(void) {
     const char *name = getenv("REFUSE_MET");
     long seen = met;
+    /* the file's own allocation succeeds */
+    wanted = 0;
     FILE *file = name ? fopen(name, "w") : NULL;
     if (file) {
         fputs(seen ? "met\n" : "none\n", file);
