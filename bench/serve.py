@@ -1,10 +1,12 @@
 #!/usr/bin/env python3
 """Measures what a line costs over one connection to `zk serve` with three servers: creates, sets, gets, and nine gets to one set, with
-1, 16 and 128 lines in flight; what 100,000 creates cost beside 50,000; and how many bytes of memory each line leaves, which the servers
-keep until they end: each event with its answer, its call and its receipt, and of a write the entries and messages of all servers.
+1, 16 and 128 lines in flight; what 100,000 creates cost beside 50,000; how many bytes of memory each line leaves, which the servers
+keep until they end: each event with its answer, its call and its receipt, and of a write the entries and messages of all servers; and
+after how many lines they end with `zk: memory` in 1,024 MB of address space.
 
-usage: bench/serve.py [LINES [PORT]]     in a checkout where `rt ci`, or `rt run` in crates/zk_cli, has left the proved program;
-with a PORT the servers that listen there are measured, over one connection, and no program is started
+usage: bench/serve.py [LINES [PORT]] | memory     in a checkout where `rt ci`, or `rt run` in crates/zk_cli, has left the proved program;
+with a PORT the servers that listen there are measured, over one connection, and no program is started; `memory` measures memory alone,
+for which the machine need not be idle
 
 The client is this script, over a raw socket of the loopback: the bytes of all lines are packed before the clock starts. The
 lines in flight are sent at once, and the next ones once all their replies have come. Beside it an echo, which replies to each such
@@ -13,6 +15,7 @@ run on the machine; the load before and after is printed. CPU microseconds are t
 runs counts, in each.
 """
 import os
+import resource
 import socket
 import subprocess
 import sys
@@ -27,6 +30,7 @@ DEPTHS = (1, 16, 128)
 TURNS = 3
 SERVERS = "3"
 TICK = os.sysconf("SC_CLK_TCK")
+ROOM = 1 << 30
 
 
 def creates(count):
@@ -112,17 +116,45 @@ def kept(lines):
     return grown / (len(lines) - half)
 
 
+def limited():
+    resource.setrlimit(resource.RLIMIT_AS, (ROOM, ROOM))
+
+
+def ended_at(lines):
+    """Returns how many lines are replied to, over and over, until the servers end out of memory."""
+    child, port = started(limit=limited)
+    stream = prepared(port)
+    piece, count = b"".join(lines), 0
+    try:
+        while True:
+            stream.sendall(piece)
+            left = len(lines)
+            while left > 0:
+                told = stream.recv(1 << 20)
+                if not told:
+                    raise ConnectionError
+                left -= told.count(b"\n")
+            count += len(lines)
+    except ConnectionError:
+        stream.close()
+    why = child.communicate()[1]
+    if (child.returncode, why) != (1, b"zk: memory\n"):
+        sys.exit("they end with %d and %r" % (child.returncode, why))
+    return count
+
+
 def free_port():
     with socket.socket() as it:
         it.bind(("127.0.0.1", 0))
         return it.getsockname()[1]
 
 
-def started(connections=1):
-    """Servers, and their port."""
+def started(connections=1, limit=None):
+    """Servers, and their port. `limit` is called in their process first."""
     port = free_port()
     words = [ZK, "serve", str(port), SERVERS, "--conns", str(connections)]
-    child = subprocess.Popen(words, stdin=subprocess.DEVNULL, stdout=subprocess.PIPE)
+    pipe = subprocess.PIPE
+    child = subprocess.Popen(words, stdin=subprocess.DEVNULL, stdout=pipe, stderr=pipe, preexec_fn=limit)
     if child.stdout.readline() != b"listening %d\n" % port:
         sys.exit("%s does not listen" % words)
     return child, port
@@ -199,7 +231,16 @@ def of_a_port(count, port):
     stream.recv(1 << 20)
 
 
+def of_memory(count):
+    for kind, lines_of in KINDS.items():
+        print("%-18s keep %7.0f bytes a line, over %s servers" % (kind, kept(lines_of(4 * count)), SERVERS), flush=True)
+    for kind in ("sets", "gets"):
+        print("%-18s end after %d lines in %d MB" % (kind, ended_at(KINDS[kind](128)), ROOM >> 20), flush=True)
+
+
 def main():
+    if sys.argv[1:] == ["memory"]:
+        return of_memory(20000)
     count = int(sys.argv[1]) if len(sys.argv) > 1 else 20000
     if len(sys.argv) > 2:
         return of_a_port(count, int(sys.argv[2]))
@@ -211,8 +252,7 @@ def main():
             told(kind, depth, count, seconds, busy, echoed(lines, depth, lengths))
     few, many = (served(creates(it), 128) for it in (50000, 100000))
     print("100,000 creates cost %.2f times what 50,000 cost in wall-clock time, %.2f times in CPU time" % (many[0] / few[0], many[1] / few[1]))
-    for kind, lines_of in KINDS.items():
-        print("%-18s keep %7.0f bytes a line, over %s servers" % (kind, kept(lines_of(4 * count)), SERVERS), flush=True)
+    of_memory(count)
     print("load after: %.2f" % os.getloadavg()[0])
 
 

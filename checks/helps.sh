@@ -17,7 +17,7 @@ debug_lines=$(defining 'command_text commands\.Step')
 session_lines=$(defining 'abbrev pub own_words')
 run_lines=$(defining 'SpellsWorldEvent \(Lead|SpellsRequest \(requests\.Create|abbrev pub SpellsWeights')
 serve_lines=$(defining 'SpellsRequest \(requests\.Create|pub record SpellsProof')
-fault_lines=$(defining 'line_of_(log_fault log_faults\.Header|mend_fault \(faults\.NoReason)')
+fault_lines=$(defining 'line_of_(log_fault log_faults\.Header|mend_fault \(faults\.NoReason)|abbrev pub mismatch_line')
 debug_numbers=$(defining 'fault_text faults\.AtEnd')
 run_numbers=$(defining 'fault_text \(faults\.Behind')
 
@@ -46,7 +46,7 @@ lists run $run_lines
 lists serve $serve_lines
 
 # the numbers of all faults; an allocation failure has a word, and never G8 or L8
-numbers=$(texts_in $fault_lines $debug_numbers $run_numbers | grep -oE '\b[BEGLN][0-9]+\b' | sort -u | grep -v '[GL]8')
+numbers=$(texts_in $fault_lines $debug_numbers $run_numbers | grep -oE '\b[BCEGLN][0-9]+\b' | sort -u | grep -v '[GL]8')
 
 # numbers_in_help COMMAND LETTERS: the help lists each number that begins with one of these letters
 numbers_in_help() {
@@ -64,7 +64,7 @@ numbers_in_help asm L
 numbers_in_help mend GN
 numbers_in_help debug BG
 numbers_in_help run E
-grep -qF "$faults" <<<"$("$zk" serve --help </dev/null)"
+numbers_in_help serve C
 
 for number in $numbers; do
     grep -qE "^\\| (\`zk: )?$number\\b" "$faults"

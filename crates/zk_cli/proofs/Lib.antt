@@ -1,1 +1,2 @@
+pub mod ClosesLaws
 pub mod ServesLaws

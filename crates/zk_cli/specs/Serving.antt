@@ -1,5 +1,5 @@
 -- What the command `serve` writes, by its status. Nothing is specified of the bytes on sockets.
-use Rattle.std.specs.Prelude.{ℕ, zero, suc, ◌^◌, ◌<◌, ◌++◌, List, ◌⊎◌, Option, Result, Ok, Err, codes}
+use Rattle.std.specs.Prelude.{ℕ, zero, suc, ◌++◌, List, ◌⊎◌, Option, Result, Ok, Err, codes}
 use Rattle.std.specs.Fmt.{decimal}
 use Rattle.zk_records.specs.declared.sink.Sink.{Sink}
 use Rattle.zk_path.specs.declared.memory.NoMemory.{NoMemory}
@@ -10,25 +10,31 @@ use Rattle.zk_log_commands.specs.Writing.{LeavesSink, Wrote, BrokeOff}
 abbrev pub listening_line : ℕ → List ℕ
 listening_line port = codes "listening " ++ decimal port ++ codes "\n"
 
-module _ {O E : Type 0} (written : O → Option (List ℕ)) (told : E → Option (List ℕ)) where
-  -- nothing was written but the line for the user
-  abbrev pub TellsNoPort : Sink O → Sink O → Sink E → Sink E → Type 0
-  TellsNoPort output output' faults faults' = LeavesSink written output output' × Told told faults faults' (codes "zk: listen\n")
+-- the line for a chronicle whose receipt at an index does not match
+abbrev pub mismatch_line : ℕ → List ℕ
+mismatch_line at = codes "zk: C2 " ++ decimal at ++ codes "\n"
 
-  -- the port was written, and the listener failed; or the output failed
-  abbrev pub TellsWhy : ℕ → Sink O → Sink O → Sink E → Sink E → Type 0
-  TellsWhy port output output' faults faults' =
-      (Wrote written output output' (listening_line port) × Told told faults faults' (codes "zk: listen\n"))
-      ⊎ (BrokeOff written output output' (listening_line port) × Told told faults faults' (codes "zk: write\n"))
+-- `port` is the one on the command line; the listener's address is outside every contract
+module _ {O E : Type 0} (written : O → Option (List ℕ)) (told : E → Option (List ℕ)) (port : ℕ) (output output' : Sink O) (faults faults' : Sink E) where
+  -- nothing was written but the line for the user: the listener does not have the port
+  abbrev pub TellsNoPort : Type 0
+  TellsNoPort = LeavesSink written output output' × Told told faults faults' (codes "zk: listen\n")
 
-  abbrev pub ServesAt : ℕ → Sink O → Sink O → Sink E → Sink E → Result ℕ NoMemory → Type 0
-  -- the port was written, and all connections were served
-  ServesAt port output output' faults faults' (Ok zero) = Wrote written output output' (listening_line port) × LeavesSink told faults faults'
-  ServesAt port output output' faults faults' (Ok (suc zero)) = TellsWhy port output output' faults faults' ⊎ TellsNoPort output output' faults faults'
-  ServesAt port output output' faults faults' (Ok (suc (suc more))) = ⊥
+  -- the output failed in the port
+  abbrev pub TellsNoOutput : Type 0
+  TellsNoOutput = BrokeOff written output output' (listening_line port) × Told told faults faults' (codes "zk: write\n")
+
+  -- the port was written, and then the listener failed, or the servers' chronicle was rejected
+  abbrev pub TellsWhy : Type 0
+  TellsWhy =
+      Wrote written output output' (listening_line port)
+      × (Told told faults faults' (codes "zk: listen\n")
+      ⊎ (Told told faults faults' (codes "zk: C1\n") ⊎ ((at : ℕ) × Told told faults faults' (mismatch_line at))))
+
+  abbrev pub Serves : Result ℕ NoMemory → Type 0
+  -- the port was written, all connections were served, and the chronicle was returned
+  Serves (Ok zero) = Wrote written output output' (listening_line port) × LeavesSink told faults faults'
+  Serves (Ok (suc zero)) = TellsNoPort ⊎ (TellsNoOutput ⊎ TellsWhy)
+  Serves (Ok (suc (suc more))) = ⊥
   -- an allocation failed, before the port was written or after it
-  ServesAt port output output' faults faults' (Err refused) = (LeavesSink written output output' ⊎ Wrote written output output' (listening_line port)) × LeavesSink told faults faults'
-
-  -- for any port of the listener
-  abbrev pub Serves : Sink O → Sink O → Sink E → Sink E → Result ℕ NoMemory → Type 0
-  Serves output output' faults faults' result = (port : ℕ) × (port < 2 ^ 16) × ServesAt port output output' faults faults' result
+  Serves (Err refused) = (LeavesSink written output output' ⊎ Wrote written output output' (listening_line port)) × LeavesSink told faults faults'

@@ -8,13 +8,17 @@ use zk_log::{Sink, Source};
 use zk_log_commands::TURNS;
 use zk_path::NoMemory;
 
-/// How the connections ended.
+/// How the connections ended, and then the servers.
 #[derive(Clone, Copy, Debug, PartialEq, Eq)]
 pub(crate) enum Served {
     /// All were served.
     All,
     /// The listener returned no further connection.
     Unheard,
+    /// The numbers of calls, receipts and events differ, or a call is not in the chronicle.
+    Miscounted,
+    /// The receipt at this index, from 0 on, does not match its record, or repeats one.
+    Mismatched(usize),
 }
 
 /// Serves `connections` connections in order. An error on one ends only that one, except for an

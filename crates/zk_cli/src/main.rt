@@ -5,6 +5,7 @@
 
 mod accepting;
 mod clock;
+mod fault_lines;
 mod listening;
 mod port;
 mod servers;

@@ -7,11 +7,11 @@ use std::alloc::Global;
 use std::net::TcpListener;
 use zk_path::NoMemory;
 
-/// The port of an open listener, if the system returns it.
-pub(crate) fn port_of(listener: &TcpListener) -> Option<u16> {
+/// Whether the system says that the listener has this port.
+pub(crate) fn has_port(listener: &TcpListener, port: u16) -> bool {
     match listener.local_addr() {
-        Ok(address) => Some(address.port()),
-        Err(_) => None,
+        Ok(address) => address.port() == port,
+        Err(_) => false,
     }
 }
 

@@ -1,5 +1,6 @@
 //! Servers as threads, and connections that server 1 serves.
-ghost use Rattle.std.specs.Prelude.{◌≡◌, ◌+◌, ◌≤◌, IfOk, length};
+ghost use Rattle.std.specs.Prelude.{◌≡◌, ◌+◌, ◌≤◌, ◌++◌, ◌∷◌, [], IfOk, length};
+ghost use Rattle.zk_cli.specs.Closing.{Closes};
 
 use crate::accepting::{Served, serve_connections};
 use crate::start_barrier::StartBarrier;
@@ -11,8 +12,7 @@ use std::sync::ledger::{Blank, Ledger};
 use std::thread::Threads;
 use std::{thread, time};
 use zk_front::servers::{
-    CallLedger, CloseFault, Event, Post, Receipt, Run, Seat, Shared, Started, Unclosed, inboxes,
-    run_servers,
+    CallLedger, CloseFault, Event, Post, Receipt, Run, Seat, Shared, Started, inboxes, run_servers,
 };
 use zk_front::{Clock, Remote, ServiceFault, Unstarted};
 use zk_path::NoMemory;
@@ -183,13 +183,16 @@ fn no_jobs(alloc: Global, servers: usize) -> Result<Vec<Vec<Event>>, NoMemory>
     Ok(jobs)
 }
 
-/// Closes the shared ensemble, with all seats and receipts.
+/// Closes the shared ensemble, with all seats and receipts. A rejected chronicle is returned before
+/// what the connections ended with.
 fn close<L: CallLedger, R: Wait>(
     rt: &R,
     alloc: Global,
     shared: Shared<L>,
     ended: Ended<L>,
-) -> Result<Served, NoMemory> {
+) -> Result<Served, NoMemory>
+    ensures { IfOk result (λ after. Closes (ended.run.seats.items ++ ended.seat ∷ []) (ended.run.receipts.items ++ ended.receipts.items) ended.served after) }
+{
     let Ended {
         served,
         run,
@@ -205,12 +208,11 @@ fn close<L: CallLedger, R: Wait>(
     seats.push(seat)?;
     receipts.append(&mut own)?;
     match shared.close(rt, alloc, seats, receipts) {
-        Err(
-            Unclosed {
-                fault: CloseFault::NoMemory,
-                ..
-            },
-        ) => Err(NoMemory),
-        _ => Ok(served),
+        Ok(_) => Ok(served),
+        Err(unclosed) => match unclosed.fault {
+            CloseFault::Count => Ok(Served::Miscounted),
+            CloseFault::Receipt(at) => Ok(Served::Mismatched(at)),
+            CloseFault::NoMemory => Err(NoMemory),
+        },
     }
 }

@@ -378,6 +378,8 @@ children changed. A reply is `ok` with the result, `err CODE`, `err server` or `
 A PATH stands in double quotes.
 
 Errors, on standard error after `zk: `: `listen` if the port cannot be opened or accepts no more,
-`write` and `memory`.
+`write` and `memory`; and at the end, by a defect of the program:
+  C1          calls, receipts and events differ
+  C2 INDEX    a receipt does not match its event
 
 In the source repository, docs/ERRORS.md has the codes, and docs/FORMATS.md the fields and replies."#;
