@@ -1,5 +1,7 @@
 mod Composition
+mod Fits
 mod Growing
+mod Numbers
 mod Prefixes
 mod Releases
 mod Tags

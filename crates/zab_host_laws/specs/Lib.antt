@@ -5,3 +5,4 @@ pub mod NeverBack
 pub mod Composition
 pub mod Tags
 pub mod Syncs
+pub mod Fits

@@ -1,4 +1,5 @@
 ghost use Rattle.zab_host_laws.specs.Composition.{InputsAreSteps, RestartsAreSteps};
+ghost use Rattle.zab_host_laws.specs.Fits.{HostsKeepTheirNumbers, AcceptedInputsAreSteps};
 ghost use Rattle.zab_broadcast.specs.Calls.{setting_of};
 ghost use Rattle.zab_host_laws.specs.Prefixes.{CrashesLeaveInputPrefixes};
 ghost use Rattle.zab_host_laws.specs.Releases.{ReleasesAreSteps};
@@ -18,6 +19,13 @@ use zab_recovery::hosts_are_a_run;
 pub fn inputs_are_steps<P: Primary, Q: Quorums>(_quorums: &Q)
     ensures inputs { InputsAreSteps (profile_of (Q.passes _quorums.now) P.made_of P.tag_of P.closing_of) }
     ensures starts { RestartsAreSteps (profile_of (Q.passes _quorums.now) P.made_of P.tag_of P.closing_of) }
+{}
+
+/// A host's server keeps its number, and the number of servers. So each input that a host accepts
+/// by its own contract is a step of the network.
+pub fn accepted_inputs_are_steps<P: Primary, Q: Quorums>(_quorums: &Q)
+    ensures numbers { HostsKeepTheirNumbers (profile_of (Q.passes _quorums.now) P.made_of P.tag_of P.closing_of) }
+    ensures inputs { AcceptedInputsAreSteps (profile_of (Q.passes _quorums.now) P.made_of P.tag_of P.closing_of) }
 {}
 
 /// A host's delivered list only grows while its process runs. A client that says what it has seen
