@@ -107,8 +107,8 @@ impl<P: Primary, S: Storage> Host<P, S> {
         self.apply_message(alloc, quorums, message)
     }
 
-    /// Receives any message. Stores what the server has, applies the message's rule, and stores the
-    /// change atomically.
+    /// Receives any message. Applies its rule, and stores the server's stable part atomically: a
+    /// crash recovers the change whole, with all inputs before it, or not at all.
     pub fn receive_and_store<Q: Quorums>(
         &mut self,
         alloc: Global,
@@ -122,18 +122,16 @@ impl<P: Primary, S: Storage> Host<P, S> {
         ensures outbox { OnOk result (self.new.outbox ≡ self.old.outbox ++ messages_of
             (acts_of (setting_of (Q.passes quorums.now) P.made_of P.tag_of) self.old.state (Receives message.now)).1) }
         ensures stored { OnOk result (IsStored S.may_recover self.new) }
-        ensures rejected { IfErr result (λ fault. IsRejected (setting_of (Q.passes quorums.now) P.made_of P.tag_of) self.old
-            (Receives message.now) self.new fault) }
+        ensures rejected { IfErr result (λ fault. IsRejected S.may_recover (setting_of (Q.passes quorums.now) P.made_of P.tag_of)
+            self.old (Receives message.now) self.new fault) }
         ensures crash { (found : Stable) → S.may_recover self.new.storage found
-            → S.may_recover self.old.storage found
-            ⊎ (IsPartialStore (S.may_recover self.old.storage) self.old.state.peer.stable found
-            ⊎ (found ≡ self.new.state.peer.stable)) }
+            → S.may_recover self.old.storage found ⊎ (found ≡ self.new.state.peer.stable) }
         ensures boots { S.boots self.new.storage ≡ S.boots self.old.storage }
     {
-        self.storage.store(&self.server.state().peer.stable)?;
-        self.apply_message(alloc, quorums, message)?;
+        let received = self.apply_message(alloc, quorums, message);
         self.storage
             .store_atomically(&self.server.state().peer.stable)?;
+        received?;
         Ok(())
     }
 

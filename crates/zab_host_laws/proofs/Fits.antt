@@ -163,11 +163,11 @@ step_placed : {C : Type 0} (profile : Profile C) (servers : ℕ) (c : Network C)
 step_placed profile servers c step all =
     step_all (IsPlaced servers) (placed_on servers) profile c all step
     (λ number is.
-      let one = (happens profile c (Restart number)).0 in
-      let two = (happens profile one (Crash number)).0 in
-      restarts_placed servers two number (resting two.servers number) refl
-      (crashes_placed servers one number (running one.servers number) refl
-      (restarts_placed servers c number (resting c.servers number) refl all)))
+    let one = (happens profile c (Restart number)).0 in
+    let two = (happens profile one (Crash number)).0 in
+    restarts_placed servers two number (resting two.servers number) refl
+    (crashes_placed servers one number (running one.servers number) refl
+    (restarts_placed servers c number (resting c.servers number) refl all)))
 
 -- ---- up
 
@@ -212,11 +212,11 @@ step_up : {C : Type 0} (profile : Profile C) (c : Network C) (step : Step C) →
 step_up profile c step all =
     step_all IsUp (λ number it next same up. up) profile c all step
     (λ number is.
-      let one = (happens profile c (Restart number)).0 in
-      let two = (happens profile one (Crash number)).0 in
-      restarts_up two number (resting two.servers number) refl
-      (crashes_up one number (running one.servers number) refl
-      (restarts_up c number (resting c.servers number) refl (λ other it differs is_at. all other it is_at))))
+    let one = (happens profile c (Restart number)).0 in
+    let two = (happens profile one (Crash number)).0 in
+    restarts_up two number (resting two.servers number) refl
+    (crashes_up one number (running one.servers number) refl
+    (restarts_up c number (resting c.servers number) refl (λ other it differs is_at. all other it is_at))))
 
 -- ---- the first network
 
@@ -312,6 +312,7 @@ all_fit setting servers number state (input ∷ inputs) me are mine =
 pub accepted_are_steps : {C : Type 0} (profile : Profile C) → AcceptedInputsAreSteps profile
 accepted_are_steps profile servers steps number it inputs is mine =
     let c = after_steps profile (new_network servers) steps in
-    let n = numbers_stay profile servers steps number it is in
-    (all_are profile c number it inputs is n.up (all_fit profile.setting (length c.servers) number it.state inputs n.me n.servers mine),
-    restarts_from profile c number it is n.up)
+    let n = numbers_stay profile servers steps number it is in (
+      all_are profile c number it inputs is n.up (all_fit profile.setting (length c.servers) number it.state inputs n.me n.servers mine),
+      restarts_from profile c number it is n.up,
+    )
