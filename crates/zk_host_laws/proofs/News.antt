@@ -94,7 +94,8 @@ tells_entries [] it taken trace t = subst (λ l. Tells it taken l) (sym (append-
 tells_entries (entry ∷ entries) it taken trace t =
     subst (λ l. Tells (after_entries (after_entry it entry) entries) taken l) (append_assoc trace (Delivers entry ∷ []) (map Delivers entries))
     (tells_entries entries (after_entry it entry) taken (trace ++ Delivers entry ∷ [])
-    (tells_item it (after_entry it entry) taken trace (Delivers entry) refl refl t))
+    (tells_item it (after_entry it entry) taken trace (Delivers entry) refl
+    (append_assoc it.news (map news.Event (fired_at entry.txn (watched_of it))) (news.Answer (answered entry (step it.tree entry.txn).1) ∷ [])) t))
 
 -- a read sets at most its watch
 module _ (connection : ℕ) (question : Question) (it : WatchedTreeView) where

@@ -1,5 +1,5 @@
 -- What hosts show is what their servers have delivered.
-use Rattle.std.proofs.Common.{◌≡◌, ◌≢◌, ℕ, ◌==◌, ◌≤◌, Bool, true, false, if◌then◌else◌, int_lt, List, [], ◌∷◌, ◌++◌, map, length, take, drop, refl, sym, ap, ◌∙◌, subst, subst₂, arith, lit≤, eq-eqb, take-append-drop}
+use Rattle.std.proofs.Common.{◌≡◌, ◌≢◌, ℕ, ◌==◌, ◌≤◌, Bool, true, false, if◌then◌else◌, int_lt, List, [], ◌∷◌, ◌++◌, map, length, take, drop, refl, sym, ap, ◌∙◌, subst, subst₂, arith, eq-eqb, take-append-drop}
 use Rattle.std.proofs.lemmas.Bool.Decides.{nat_tests}
 use Rattle.std.proofs.lemmas.List.{append-nil, append_assoc, take-append-le}
 use Rattle.std.proofs.lemmas.List.{take_all as take_whole}
@@ -33,7 +33,7 @@ pub record Matches (delivered : List Entry) (it : HostTree) : Type 0 where
   pub tells : Tells it.watched it.taken it.trace
 
 matches_new : (delivered : List Entry) → Matches delivered new_host
-matches_new delivered = record { within = lit≤ tt; entries = refl; tells = tells_new }
+matches_new delivered = record { within = omega arith; entries = refl; tells = tells_new }
 
 -- more is delivered
 matches_more : (before now : List Entry) (it : HostTree) → IsPrefix before now → Matches before it → Matches now it
@@ -203,19 +203,14 @@ news_follow profile grow servers actions may number =
       watches = ap (λ w. w.watches) m.tells.watched;
     }
 
-acted_both : (profile : Profile Call) (x : HostEnsemble) (a b : List Action) → after_actions profile x (a ++ b) ≡ after_actions profile (after_actions profile x a) b
-acted_both profile x [] b = refl
-acted_both profile x (action ∷ a) b = acted_both profile (after_action profile x action) a b
-
 -- a release shows all
 pub shown_now : (profile : Profile Call) (x : HostEnsemble) (number : ℕ)
     → ((after_action profile x (Releases number)).host number).shown ≡ length (delivered_of x.network number)
 shown_now profile x number =
-    ap (λ b. (if b then release (delivered_of x.network number) (x.host number) else x.host number).shown) (eq-eqb number number refl)
+    ap (λ (b : Bool). (if b then release (delivered_of x.network number) (x.host number) else x.host number).shown) (eq-eqb number number refl)
 
 pub releases_show : (profile : Profile Call) → ReleasesShowAll profile
 releases_show profile servers actions may number =
     let x = hosts_after profile servers actions in
-    ap (λ y. shown_by y number) (acted_both profile (new_hosts servers) actions (Releases number ∷ []))
-    ∙ ap (λ n. take n (delivered_of x.network number)) (shown_now profile x number)
+    ap (λ n. take n (delivered_of x.network number)) (shown_now profile x number)
     ∙ take_whole (length (delivered_of x.network number)) (delivered_of x.network number) (omega arith)

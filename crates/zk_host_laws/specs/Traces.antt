@@ -1,7 +1,7 @@
--- What a host tells its clients: the news of its trace, which has the entries that its tree has
--- delivered since the host started, the reads that it has answered, and the connections that were
--- closed. ZooKeeper Programmer's Guide, "ZooKeeper Watches" ("Semantics of Watches", "What ZooKeeper
--- Guarantees about Watches").
+-- What a host sends its clients: the news of its trace. The trace has the entries that its tree has
+-- delivered since the host started, the reads with a reply, and the connections that were closed.
+-- ZooKeeper Programmer's Guide, "ZooKeeper Watches" ("Semantics of Watches", "What ZooKeeper Guarantees
+-- about Watches").
 use Rattle.std.specs.Prelude.{ℕ, ◌==◌, not, List, [], ◌∷◌, ◌++◌, map, filter, Option, Some, None, if◌then◌else◌}
 use Rattle.std.specs.Int.{w64, cast_unsigned}
 use Rattle.zab_epoch.specs.declared.history.Entry.{Entry}

@@ -16,8 +16,8 @@ pub fn trees_show_what_is_delivered<Q: Quorums>(_quorums: &Q)
     hosts_never_go_back::<Preparer, Q>(_quorums);
 }
 
-/// A host's news since it started are what its delivered entries and answered reads bring about:
-/// each entry's events, and then its result.
+/// A host's news since it started are those of its trace: for each entry the events of the watches
+/// that earlier reads have set, and then the entry's result.
 pub fn news_follows_the_trace<Q: Quorums>(_quorums: &Q)
     ensures { NewsFollowsTheTrace (profile_by (Q.passes _quorums.now)) }
 {

@@ -75,7 +75,7 @@ fn rejects_others(alloc: Global, one: &mut EchoHost, messages: &Messages<EchoCal
     }
 }
 
-/// A host that follows host 2 sends it a message, and takes it for none of its own.
+/// Whether a host that follows host 2 rejects the message that it sends to host 2.
 fn rejects_own(alloc: Global, one: &mut EchoHost) -> bool {
     if one.follow(alloc, &QUORUMS, 2).is_err() {
         return false;

@@ -188,7 +188,7 @@ pub fn is_behind(alloc: Global, host: &mut TreeHost, seen: i64, last: i64) -> bo
     }
 }
 
-/// The news as text, each behind a space: an event's connection, kind and path, or a result's tag
+/// The news as text, each after a space: an event's connection, kind and path, or a result's tag
 /// and code.
 pub fn news_text(alloc: Global, news: &[News]) -> Result<String, NoMemory> {
     let mut text = String::new(alloc);
