@@ -5,4 +5,5 @@ mod Numbers
 mod Prefixes
 mod Releases
 mod Tags
+mod TakenSyncs
 mod Syncs

@@ -6,3 +6,4 @@ pub mod Composition
 pub mod Tags
 pub mod Syncs
 pub mod Fits
+pub mod TakenSyncs

@@ -6,6 +6,7 @@ ghost use Rattle.zab_host_laws.specs.Releases.{ReleasesAreSteps};
 ghost use Rattle.zab_host.specs.Tags.{TagsDiffer};
 ghost use Rattle.zab_host_laws.specs.Syncs.{HostSyncsAreCaught};
 ghost use Rattle.zab_host_laws.specs.Tags.{IssuedTagsAreFresh};
+ghost use Rattle.zab_host_laws.specs.TakenSyncs.{TakenSyncsChangeNothing};
 ghost use Rattle.zab_host_laws.specs.NeverBack.{HostsNeverGoBack, HostsOnlyGrow};
 ghost use Rattle.zab_model.specs.Worlds.{profile_of};
 
@@ -62,3 +63,8 @@ pub fn host_syncs_catch_up<P: Primary, Q: Quorums>(_quorums: &Q)
     syncs_catch_up::<P, Q>(_quorums);
     hosts_are_a_run::<P, Q>(_quorums);
 }
+
+/// A host does the same whether its clients have taken its completed syncs or not.
+pub fn taken_syncs_change_nothing<P: Primary, Q: Quorums>(_quorums: &Q)
+    ensures { TakenSyncsChangeNothing (setting_of (Q.passes _quorums.now) P.made_of P.tag_of) }
+{}
