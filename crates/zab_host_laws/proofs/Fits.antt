@@ -184,8 +184,8 @@ not_resting (Some other) it fault is down = ap (λ s. s.up) (same_some it other 
   where
     by_up : (b : Bool) → other.up ≡ b → other.up ≡ true
     by_up true up = up
-    by_up false no =
-        absurd (let wrong : (let r : Result ProcessState WorldFault = Ok other in r ≡ Err fault) = sym (ap (λ b. (let r : Result ProcessState WorldFault = (if b then Err faults.NotDown else Ok other) in r)) no) ∙ down in cc)
+    by_up false down_now =
+        absurd (let wrong : (let r : Result ProcessState WorldFault = Ok other in r ≡ Err fault) = sym (ap (λ b. (let r : Result ProcessState WorldFault = (if b then Err faults.NotDown else Ok other) in r)) down_now) ∙ down in cc)
 
 restarts_up : {C : Type 0} (c : Network C) (number : ℕ) (r : Result ProcessState WorldFault) → resting c.servers number ≡ r → AreUpBut number c.servers → AllAre IsUp (restarts c number r).0.servers
 restarts_up c number (Ok it) is but other at is_at =

@@ -1,5 +1,5 @@
 -- No rule changes a server's number, or the number of servers that it knows.
-use Rattle.std.proofs.Common.{◌≡◌, ℕ, ◌==◌, ◌&&◌, not, nat_lt, Bool, true, false, if◌then◌else◌, max, List, [], ◌∷◌, ◌++◌, length, Option, Some, None, Ok, refl, sym, ap, ◌∙◌, subst}
+use Rattle.std.proofs.Common.{◌≡◌, ℕ, ℤ, ◌==◌, ◌&&◌, not, nat_lt, Bool, true, false, if◌then◌else◌, max, List, [], ◌∷◌, ◌++◌, length, Option, Some, None, Ok, refl, sym, ap, ◌∙◌, subst}
 use Rattle.zab_epoch.specs.declared.history.Entry.{Entry}
 use Rattle.zab_epoch.specs.declared.message.Body.{Body}
 use Rattle.zab_epoch.specs.declared.message.Body.TheVariants.{CEpoch, NewEpoch, AckEpoch, NewLeader, AckLeader, Propose, Ack, Commit, Request, SyncAsk, SyncTell}
@@ -9,7 +9,7 @@ use Rattle.zab_epoch.specs.declared.role.Role.TheVariants as roles
 use Rattle.zab_epoch.specs.declared.votes.Vote.{Vote}
 use Rattle.zab_epoch.specs.Roles.{follows, is_choosing}
 use Rattle.zab_epoch.specs.Rules as epoch
-use Rattle.zab_epoch.specs.Tables.{marks_of}
+use Rattle.zab_epoch.specs.Tables.{marks_of, put}
 use Rattle.zab_broadcast.specs.declared.state.State.{State}
 use Rattle.zab_broadcast.specs.Calls.{Setting, is_taken}
 use Rattle.zab_broadcast.specs.Syncs.{is_asked}
@@ -28,7 +28,7 @@ same peer = record { me = refl; servers = refl }
 
 -- ---- the first two phases
 
-module _ {C : Type 0} (peer : Peer) where
+module _ (C : Type 0) (peer : Peer) where
   abbrev Stays : epoch.Acts C → Type 0
   Stays acts = Same peer acts.0
 
@@ -40,10 +40,15 @@ module _ {C : Type 0} (peer : Peer) where
   chosen heard None = record { me = refl; servers = refl }
   chosen heard (Some number) = record { me = refl; servers = refl }
 
+  hears_keep : (passes : List Bool → Bool) (heard : List (Option ℕ)) → Stays (epoch.hears passes peer heard)
+  hears_keep passes heard =
+      peer_if (passes (marks_of heard)) (epoch.chooses peer (marks_of heard) (epoch.next_epoch (max (epoch.greatest heard) peer.stable.promised)))
+      (epoch.silent (record peer { role = roles.Discover heard })) (chosen (marks_of heard) (epoch.next_epoch (max (epoch.greatest heard) peer.stable.promised)))
+      (record { me = refl; servers = refl })
+
   heard_epoch : (passes : List Bool → Bool) (from promised : ℕ) (role : Role) → Stays (epoch.c_epoch_as passes peer from promised role)
   heard_epoch passes from promised roles.Looking = same peer
-  heard_epoch passes from promised (roles.Discover heard) =
-      peer_if (passes (marks_of _)) _ _ (chosen _ _) (record { me = refl; servers = refl })
+  heard_epoch passes from promised (roles.Discover heard) = hears_keep passes (put heard from promised)
   heard_epoch passes from promised (roles.Choose votes joiners) = same peer
   heard_epoch passes from promised roles.Sync = same peer
   heard_epoch passes from promised roles.Broadcast = same peer
@@ -56,13 +61,20 @@ module _ {C : Type 0} (peer : Peer) where
       (peer_if (number == peer.stable.promised) _ _ (same peer) (same peer)))
       (same peer)
 
+  gathers_keep : (passes : List Bool → Bool) (votes : List (Option Vote)) (joiners : List (Option ℤ)) → Stays (epoch.gathers passes peer votes joiners)
+  gathers_keep passes votes joiners =
+      peer_if (passes (marks_of votes))
+      (if epoch.exceeds (epoch.vote_of peer.stable) votes then epoch.silent (record peer { role = roles.Looking }) else epoch.begins peer joiners)
+      (epoch.silent (record peer { role = roles.Choose votes joiners }))
+      (peer_if (epoch.exceeds (epoch.vote_of peer.stable) votes) (epoch.silent (record peer { role = roles.Looking })) (epoch.begins peer joiners)
+      (record { me = refl; servers = refl }) (record { me = refl; servers = refl }))
+      (record { me = refl; servers = refl })
+
   gathered : (passes : List Bool → Bool) (from : ℕ) (vote : Bool) (said : Vote) (role : Role) → Stays (epoch.ack_epoch_as passes peer from vote said role)
   gathered passes from vote said roles.Looking = same peer
   gathered passes from vote said (roles.Discover heard) = same peer
   gathered passes from vote said (roles.Choose votes joiners) =
-      peer_if (passes (marks_of _)) _ _
-      (peer_if (epoch.exceeds _ _) _ _ (record { me = refl; servers = refl }) (record { me = refl; servers = refl }))
-      (record { me = refl; servers = refl })
+      gathers_keep passes (if vote then put votes from said else votes) (put joiners from said.last)
   gathered passes from vote said roles.Sync = same peer
   gathered passes from vote said roles.Broadcast = same peer
   gathered passes from vote said (roles.Following leader synced) = same peer
@@ -70,7 +82,7 @@ module _ {C : Type 0} (peer : Peer) where
   ack_epoch : (passes : List Bool → Bool) (from number : ℕ) (vote : Bool) (said : Vote) → Stays (epoch.ack_epoch passes peer from number vote said)
   ack_epoch passes from number vote said = peer_if (number == peer.stable.promised) _ _ (gathered passes from vote said peer.role) (same peer)
 
-  new_leader : (from number : ℕ) (keep : _) (rest : List Entry) → Stays (epoch.new_leader peer from number keep rest)
+  new_leader : (from number : ℕ) (keep : ℤ) (rest : List Entry) → Stays (epoch.new_leader peer from number keep rest)
   new_leader from number keep rest =
       peer_if (follows peer.role from && (number == peer.stable.promised)) _ _
       (peer_if (epoch.goes_on peer.stable.history keep rest) _ _
@@ -126,7 +138,7 @@ module _ {C : Type 0} (setting : Setting C) (state : State) where
       by_if (number == state.peer.stable.promised) (tells_news None (length state.peer.stable.history) (settles setting.passes (raised state from count))) (state, Ok [])
       (settles_on None (length state.peer.stable.history) (raised state from count) unchanged) unchanged
 
-  appended : (call : C) (zxid : Option _) → Keeps (appends_at setting state call zxid)
+  appended : (call : C) (zxid : Option ℤ) → Keeps (appends_at setting state call zxid)
   appended call None = record { me = refl; servers = refl }
   appended call (Some zxid) =
       settles_on None (length state.peer.stable.history) (took state (setting.made state.peer.stable.history call zxid)) (record { me = refl; servers = refl })
@@ -168,14 +180,14 @@ module _ {C : Type 0} (setting : Setting C) (state : State) where
   sync_asked from number tag roles.Broadcast = by_if (number == state.peer.stable.promised) _ (state, Ok []) unchanged unchanged
 
   pub received : (from : ℕ) (body : Body C) → Keeps (receives setting from body state)
-  received from (CEpoch promised) = heard_epoch state.peer setting.passes from promised state.peer.role
-  received from (NewEpoch number) = new_epoch state.peer from number
+  received from (CEpoch promised) = heard_epoch C state.peer setting.passes from promised state.peer.role
+  received from (NewEpoch number) = new_epoch C state.peer from number
   received from (AckEpoch number vote current last) =
       by_if (is_choosing state.peer.role) _ _
-      (ack_epoch state.peer setting.passes from number vote (record { current = current; last = last }))
-      (ack_epoch state.peer setting.passes from number vote (record { current = current; last = last }))
+      (ack_epoch C state.peer setting.passes from number vote (record { current = current; last = last }))
+      (ack_epoch C state.peer setting.passes from number vote (record { current = current; last = last }))
   received from (NewLeader number keep rest) =
-      by_if (follows state.peer.role from) _ (state, Ok []) (new_leader state.peer from number keep rest) unchanged
+      by_if (follows state.peer.role from) _ (state, Ok []) (new_leader C state.peer from number keep rest) unchanged
   received from (AckLeader number count) =
       by_if (number == state.peer.stable.promised) (ack_leader_as setting.passes state from count state.peer.role) (state, Ok []) (leader_acked from count state.peer.role) unchanged
   received from (Propose number index entry) =

@@ -1,5 +1,5 @@
 -- No rule reads the completed syncs.
-use Rattle.std.proofs.Common.{◌≡◌, ℕ, ◌==◌, ◌&&◌, not, nat_lt, Bool, true, false, if◌then◌else◌, List, [], ◌∷◌, ◌++◌, length, Option, Some, None, Ok, refl, sym, ap, ◌∙◌, subst}
+use Rattle.std.proofs.Common.{◌≡◌, ℕ, ℤ, ◌==◌, ◌&&◌, not, nat_lt, Bool, true, false, if◌then◌else◌, List, [], ◌∷◌, ◌++◌, length, Option, Some, None, Ok, refl, sym, ap, ◌∙◌, subst}
 use Rattle.std.proofs.lemmas.List.{append-nil, append_assoc}
 use Rattle.zab_epoch.specs.declared.message.Body.{Body}
 use Rattle.zab_epoch.specs.declared.message.Body.TheVariants.{CEpoch, NewEpoch, AckEpoch, NewLeader, AckLeader, Propose, Ack, Commit, Request, SyncAsk, SyncTell}
@@ -77,7 +77,7 @@ module _ {C : Type 0} (setting : Setting C) (state : State) (kept : List Caught)
   acked from number count roles.Broadcast =
       by_if (number == state.peer.stable.promised) _ _ _ _ (news_on None (length state.peer.stable.history) (raised state from count) refl) none
 
-  appended : (call : C) (zxid : Option _) → Both (appends_at setting state call zxid) (appends_at setting other call zxid)
+  appended : (call : C) (zxid : Option ℤ) → Both (appends_at setting state call zxid) (appends_at setting other call zxid)
   appended call None = quiet _ _ refl refl refl
   appended call (Some zxid) =
       news_on None (length state.peer.stable.history) (took state (setting.made state.peer.stable.history call zxid)) refl
