@@ -111,8 +111,8 @@ pub fn is_displayed<F: std::fmt::Display>(alloc: Global, fault: &F, text: &str) 
 }
 
 /// Whether an input is rejected with this fault.
-pub fn is_rejected(alloc: Global, result: Result<(), HostFault>, text: &str) -> bool {
-    match result {
+pub fn is_rejected(alloc: Global, outcome: Result<(), HostFault>, text: &str) -> bool {
+    match outcome {
         Ok(()) => false,
         Err(fault) => is_displayed(alloc, &fault, text),
     }
