@@ -9,7 +9,7 @@ use Rattle.zab_epoch.specs.Entries.{txns_of}
 use Rattle.zab_host_laws.specs.NeverBack.{HostsOnlyGrow}
 use Rattle.zab_laws.specs.Prefixes.{IsPrefix}
 use Rattle.zab_laws.proofs.PrefixLaws.{prefix_length}
-use Rattle.zab_model.specs.Runs.{delivered_of}
+use Rattle.zab_model.specs.Runs.{delivered_list, delivered_of}
 use Rattle.zab_model.specs.Worlds.{Profile}
 use Rattle.zab_recovery.specs.Hosts as steps
 use Rattle.zab_recovery.specs.Hosts.{Network, Step, new_network, after_step, after_steps, MayStepAll, calls_after, syncs_after}
@@ -17,7 +17,7 @@ use Rattle.zk_host.specs.declared.news.News.{News}
 use Rattle.zk_host.specs.WatchedTrees.{WatchedTreeView, after_entries, after_read, after_close}
 use Rattle.zk_host_laws.specs.Traces.{TraceItem, Delivers, Answers, Disconnects, trace_entries, unwatched, results_in}
 use Rattle.zk_host_laws.specs.HostTrees.{HostTree, HostEnsemble, new_host, new_hosts, Action, Steps, Releases, Forgets, Reads, Closes, Takes, steps_of, release, read, close, take_news, at_host, restart, after_action, after_actions, hosts_after, shown_by}
-use Rattle.zk_host_laws.specs.Guarantees.{TreesShowWhatIsDelivered, ReleasesShowAll, NewsFollowsTheTrace}
+use Rattle.zk_host_laws.specs.Guarantees.{TreesShowWhatIsDelivered, ReleasesDeliver, ReleasesShowAll, NewsFollowsTheTrace}
 use Rattle.zk_host_laws.proofs.News.{entries_more, entries_delivered, tree_after, results_after, Tells, tells_new, tells_entries, tells_read, tells_close, tells_taken}
 use Rattle.zk_model.specs.declared.event.Question.{Question}
 use Rattle.zk_model.specs.Ensembles.{reply_of}
@@ -191,6 +191,9 @@ trees_show profile grow servers actions may number =
     let x = hosts_after profile servers actions in
     let m = all_match profile grow servers actions may number in
     record { within = m.within; tree = tree_is (delivered_of x.network number) (x.host number) m }
+
+pub releases_deliver : ReleasesDeliver
+releases_deliver x number it is = sym (ap delivered_list is)
 
 pub news_follow : (profile : Profile Call) → HostsOnlyGrow profile → NewsFollowsTheTrace profile
 news_follow profile grow servers actions may number =

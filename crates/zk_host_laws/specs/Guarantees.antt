@@ -1,15 +1,17 @@
 -- What clients of hosts see, after any actions of any number of hosts.
 -- ZooKeeper Programmer's Guide, "Consistency Guarantees" ("Single System Image", "Timeliness") and
 -- "ZooKeeper Watches".
-use Rattle.std.specs.Prelude.{◌≡◌, ◌⊎◌, ℕ, ◌≤◌, ◌≤ℤ◌, false, int_lt, List, [], ◌∷◌, ◌++◌, length}
+use Rattle.std.specs.Prelude.{◌≡◌, ◌⊎◌, ℕ, ◌≤◌, ◌≤ℤ◌, false, int_lt, List, ◌++◌, length, Some}
 use Rattle.std.specs.List.{Contains}
 use Rattle.zab_broadcast.specs.declared.syncs.Caught.{Caught}
 use Rattle.zab_epoch.specs.declared.history.Entry.{Entry}
 use Rattle.zab_epoch.specs.Entries.{txns_of}
 use Rattle.zab_host_laws.specs.Syncs.{SyncsAreCaught}
 use Rattle.zab_laws.specs.Prefixes.{IsPrefix}
+use Rattle.zab_model.specs.ProcessStates.{ProcessState}
 use Rattle.zab_model.specs.Runs.{delivered_of, delivered_after, syncs_of}
-use Rattle.zab_model.specs.Worlds.{Profile}
+use Rattle.zab_model.specs.Worlds.{Profile, server_at}
+use Rattle.zk_host.specs.Delivered.{delivered_in}
 use Rattle.zk_host_laws.specs.HostTrees.{HostTree, HostEnsemble, Action, Releases, MayAct, after_action, hosts_after, shown_by}
 use Rattle.zk_host_laws.specs.Traces.{unwatched, after_trace, trace_entries, trace_news, results_in}
 use Rattle.zk_model.specs.declared.event.Question.{Question}
@@ -34,6 +36,12 @@ pub record ShowsDelivered (x : HostEnsemble) (number : ℕ) : Type 0 where
 
 abbrev pub TreesShowWhatIsDelivered : Profile Call → Type 0
 TreesShowWhatIsDelivered profile = AtEachHost profile ShowsDelivered
+
+-- What a host's release delivers by its contract is what its server on the network has delivered.
+abbrev pub ReleasesDeliver : Type 0
+ReleasesDeliver =
+    (x : HostEnsemble) (number : ℕ) (it : ProcessState) → server_at x.network.servers number ≡ Some it
+    → delivered_in it.state ≡ delivered_of x.network number
 
 -- After a release these are all that the server has delivered.
 abbrev pub ReleasesShowAll : Profile Call → Type 0

@@ -1,4 +1,4 @@
-ghost use Rattle.zk_host_laws.specs.Guarantees.{TreesShowWhatIsDelivered, ReleasesShowAll, NewsFollowsTheTrace, TreesAgree, ReadsNeverGoBack, SyncedReadsAreCurrent};
+ghost use Rattle.zk_host_laws.specs.Guarantees.{TreesShowWhatIsDelivered, ReleasesDeliver, ReleasesShowAll, NewsFollowsTheTrace, TreesAgree, ReadsNeverGoBack, SyncedReadsAreCurrent};
 ghost use Rattle.zk_model.specs.Ensembles.{profile_by};
 
 use zab_agreement_laws::runs_agree;
@@ -11,6 +11,7 @@ use zk_model::Preparer;
 /// A host's tree is the table's over what its server has delivered up to its last release.
 pub fn trees_show_what_is_delivered<Q: Quorums>(_quorums: &Q)
     ensures shown { TreesShowWhatIsDelivered (profile_by (Q.passes _quorums.now)) }
+    ensures delivered { ReleasesDeliver }
     ensures released { ReleasesShowAll (profile_by (Q.passes _quorums.now)) }
 {
     hosts_never_go_back::<Preparer, Q>(_quorums);

@@ -68,8 +68,9 @@ fn hosts_deliver_sync_and_restart(rt: HostRuntime) {
 fn rejects_others(alloc: Global, one: &mut EchoHost, messages: &Messages<EchoCall>) -> bool {
     match find(messages, 0) {
         Some(message) => {
-            let result = one.receive_and_store(alloc, &QUORUMS, message);
-            message.addressee == 2 && matches!(result, Err(ReceiveFault::Host(HostFault::NoServer)))
+            let outcome = one.receive_and_store(alloc, &QUORUMS, message);
+            message.addressee == 2
+                && matches!(outcome, Err(ReceiveFault::Host(HostFault::NoServer)))
         }
         None => false,
     }

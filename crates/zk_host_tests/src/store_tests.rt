@@ -39,12 +39,11 @@ fn push(history: &mut History, entry: Entry) -> Result<(), NoMemory> {
     Err(NoMemory)
 }
 
-/// A stable part with the zxids 1 to `count`, whose tags are ten times these.
-fn stable_with(alloc: Global, count: u8) -> Option<Stable> {
+/// A stable part with entries of these tags and zxids.
+fn stable_with(alloc: Global, entries: &[(u64, i64)]) -> Option<Stable> {
     let mut history = History::new(alloc);
-    for number in 0..count {
-        let zxid = i64::from(number) + 1;
-        if push(&mut history, entry(zxid.cast_unsigned() * 10, zxid)).is_err() {
+    for (tag, zxid) in entries {
+        if push(&mut history, entry(*tag, *zxid)).is_err() {
             return None;
         }
     }
@@ -80,7 +79,9 @@ fn has_after_one(alloc: Global, storage: &MemoryStorage, tags: &[u64]) -> bool {
 
 /// Whether a store keeps two entries, and then three, and returns those after the first.
 fn keeps(alloc: Global, storage: &mut MemoryStorage) -> bool {
-    match (stable_with(alloc, 2), stable_with(alloc, 3)) {
+    let two = stable_with(alloc, &[(10, 1), (20, 2)]);
+    let three = stable_with(alloc, &[(10, 1), (20, 2), (30, 3)]);
+    match (two, three) {
         (Some(two), Some(three)) => {
             has(alloc, storage, 0, 0, &[])
                 && storage.store(&two).is_ok()
