@@ -78,13 +78,14 @@ fn has_after_one(alloc: Global, storage: &MemoryStorage, tags: &[u64]) -> bool {
 }
 
 /// Whether a store keeps two entries, and then three, and returns those after the first.
+#[tactic(auto, using(zab_host::proofs::Growth::none_stored))]
 fn keeps(alloc: Global, storage: &mut MemoryStorage) -> bool {
     let two = stable_with(alloc, &[(10, 1), (20, 2)]);
     let three = stable_with(alloc, &[(10, 1), (20, 2), (30, 3)]);
     match (two, three) {
         (Some(two), Some(three)) => {
             has(alloc, storage, 0, 0, &[])
-                && storage.store(&two).is_ok()
+                && storage.store(&two, 0).is_ok()
                 && has(alloc, storage, 3, 2, &[10, 20])
                 && storage.store_atomically(&three).is_ok()
                 && has(alloc, storage, 3, 2, &[10, 20, 30])
