@@ -40,27 +40,30 @@ TreesShowWhatIsDelivered profile = AtEachHost profile ShowsDelivered
 -- What a host's release delivers by its contract is what its server on the network has delivered.
 abbrev pub ReleasesDeliver : Type 0
 ReleasesDeliver =
-    (x : HostEnsemble) (number : ℕ) (it : ProcessState) → server_at x.network.servers number ≡ Some it
+    (x : HostEnsemble) (number : ℕ) (it : ProcessState)
+    → server_at x.network.servers number ≡ Some it
     → delivered_in it.state ≡ delivered_of x.network number
 
 -- After a release these are all that the server has delivered.
 abbrev pub ReleasesShowAll : Profile Call → Type 0
 ReleasesShowAll profile =
-    AtEachHost profile (λ x number. shown_by (after_action profile x (Releases number)) number ≡ delivered_of x.network number)
+    AtEachHost profile
+    (λ x number. shown_by (after_action profile x (Releases number)) number ≡ delivered_of x.network number)
 
 -- ---- news
 
 -- The news since a host started, taken or not, are those of its trace. The trace's entries are
 -- those of the tree. The results among the news are the table's, one for each entry, in order.
-pub record FollowsTheTrace (x : HostEnsemble) (number : ℕ) : Type 0 where
-  pub entries : trace_entries (x.host number).trace ≡ shown_by x number
-  pub news : (x.host number).taken ++ (x.host number).watched.news ≡ trace_news (x.host number).trace
-  pub results : results_in ((x.host number).taken ++ (x.host number).watched.news) ≡ answered_of (shown_by x number)
+pub record FollowsTheTrace (it : HostTree) (shown : List Entry) : Type 0 where
+  pub entries : trace_entries it.trace ≡ shown
+  pub news : it.taken ++ it.watched.news ≡ trace_news it.trace
+  pub results : results_in (it.taken ++ it.watched.news) ≡ answered_of shown
   -- the watches that still wait
-  pub watches : (x.host number).watched.watches ≡ (after_trace unwatched (x.host number).trace).watches
+  pub watches : it.watched.watches ≡ (after_trace unwatched it.trace).watches
 
 abbrev pub NewsFollowsTheTrace : Profile Call → Type 0
-NewsFollowsTheTrace profile = AtEachHost profile FollowsTheTrace
+NewsFollowsTheTrace profile =
+    AtEachHost profile (λ x number. FollowsTheTrace (x.host number) (shown_by x number))
 
 -- ---- one order
 
@@ -73,7 +76,9 @@ AtTwoMoments profile Fact =
 -- Of what two hosts show, each at any time, one is a prefix of the other.
 abbrev pub Agree : HostEnsemble → HostEnsemble → Type 0
 Agree earlier later =
-    (p q : ℕ) → IsPrefix (shown_by earlier p) (shown_by later q) ⊎ IsPrefix (shown_by later q) (shown_by earlier p)
+    (p q : ℕ)
+    → IsPrefix (shown_by earlier p) (shown_by later q)
+    ⊎ IsPrefix (shown_by later q) (shown_by earlier p)
 
 abbrev pub TreesAgree : Profile Call → Type 0
 TreesAgree profile = AtTwoMoments profile Agree
@@ -104,8 +109,10 @@ ReadsNeverGoBack profile = AtTwoMoments profile NeverGoesBack
 -- epoch had delivered when the sync was taken.
 pub record SyncsAreShown (profile : Profile Call) (servers : ℕ) (x : HostEnsemble) : Type 0 where
   pub run : SyncsAreCaught profile servers x.network
-  pub shown : (number : ℕ) (it : Caught) (has : Contains (syncs_of x.network number) it) → it.length ≤ (x.host number).shown
-      → IsPrefix (delivered_after profile servers run.events (run.caught number it has).place (run.caught number it has).leader)
+  pub shown : (number : ℕ) (it : Caught) (has : Contains (syncs_of x.network number) it)
+      → it.length ≤ (x.host number).shown
+      → IsPrefix
+      (delivered_after profile servers run.events (run.caught number it has).place (run.caught number it has).leader)
       (shown_by x number)
   -- the host's next release shows them
   pub released : (number : ℕ) (it : Caught) → Contains (syncs_of x.network number) it

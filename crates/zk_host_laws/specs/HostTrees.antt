@@ -105,21 +105,23 @@ abbrev pub restart : Step Call → (ℕ → HostTree) → ℕ → HostTree
 restart (Restarts number) host = at_host number (λ it. new_host) host
 restart step host = host
 
+-- a host changes, and no server
+abbrev pub changes : HostEnsemble → ℕ → (HostTree → HostTree) → HostEnsemble
+changes x number change = record { network = x.network; host = at_host number change x.host }
+
 abbrev pub after_action : Profile Call → HostEnsemble → Action → HostEnsemble
-after_action profile x (Steps step) = record { network = after_step profile x.network step; host = restart step x.host }
-after_action profile x (Releases number) =
-    record { network = x.network; host = at_host number (release (delivered_of x.network number)) x.host }
-after_action profile x (Forgets number) =
-    record { network = x.network; host = at_host number (λ it. new_host) x.host }
-after_action profile x (Reads number connection question) =
-    record { network = x.network; host = at_host number (read connection question) x.host }
-after_action profile x (Closes number connection) =
-    record { network = x.network; host = at_host number (close connection) x.host }
-after_action profile x (Takes number) = record { network = x.network; host = at_host number take_news x.host }
+after_action profile x (Steps step) =
+    record { network = after_step profile x.network step; host = restart step x.host }
+after_action profile x (Releases number) = changes x number (release (delivered_of x.network number))
+after_action profile x (Forgets number) = changes x number (λ it. new_host)
+after_action profile x (Reads number connection question) = changes x number (read connection question)
+after_action profile x (Closes number connection) = changes x number (close connection)
+after_action profile x (Takes number) = changes x number take_news
 
 abbrev pub after_actions : Profile Call → HostEnsemble → List Action → HostEnsemble
 after_actions profile x [] = x
-after_actions profile x (action ∷ actions) = after_actions profile (after_action profile x action) actions
+after_actions profile x (action ∷ actions) =
+    after_actions profile (after_action profile x action) actions
 
 -- `n` hosts after actions
 abbrev pub hosts_after : Profile Call → ℕ → List Action → HostEnsemble
