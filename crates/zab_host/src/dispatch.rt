@@ -6,6 +6,8 @@ ghost use Rattle.zab_epoch.specs.Shortness.{IsShortBody};
 ghost use Rattle.zab_broadcast.specs.Calls.{setting_of};
 ghost use Rattle.zab_broadcast.specs.Guards.{EndsBelow};
 ghost use Rattle.zab_model.specs.Worlds.{receives};
+ghost use Rattle.zab_broadcast.specs.Rules.{submit};
+ghost use Rattle.zab_host.specs.Growth.{GrowsByOne};
 ghost use Rattle.zab_host.specs.Hosts.{IsAppendOnlyBody};
 
 use std::alloc::Global;
@@ -34,6 +36,43 @@ pub fn is_append_only<C>(body: &Body<C>) -> bool
         body,
         Body::CEpoch { .. } | Body::NewEpoch { .. } | Body::AckEpoch { .. } | Body::NewLeader { .. }
     )
+}
+
+/// Applies the rule of a message that appends at most one entry.
+#[tactic(auto, using(crate::proofs::Growth::receive_grows))]
+pub(crate) fn dispatch_append_only<P: Primary, Q: Quorums>(
+    alloc: Global,
+    quorums: &Q,
+    server: &mut Server<P>,
+    from: usize,
+    body: &Body<P::Call>,
+) -> Result<Messages<P::Call>, RuleFault>
+    requires below { EndsBelow server.old }
+    requires short { IsShortBody body.now }
+    requires append_only { IsAppendOnlyBody body.now }
+    ensures acts { result ≢ Err faults.NoMemory → (server.new, result)
+        ≡ receives (setting_of (Q.passes quorums.now) P.made_of P.tag_of) from body.now server.old }
+    ensures unchanged { result ≡ Err faults.NoMemory → server.new ≡ server.old }
+    ensures grows { GrowsByOne server.old.peer.stable server.new.peer.stable }
+{
+    dispatch(alloc, quorums, server, from, body)
+}
+
+/// Submits a client's call.
+#[tactic(auto, using(crate::proofs::Growth::submit_grows))]
+pub(crate) fn submit<P: Primary, Q: Quorums>(
+    alloc: Global,
+    quorums: &Q,
+    server: &mut Server<P>,
+    call: P::Call,
+) -> Result<Messages<P::Call>, RuleFault>
+    requires below { EndsBelow server.old }
+    ensures acts { result ≢ Err faults.NoMemory → (server.new, result)
+        ≡ submit (setting_of (Q.passes quorums.now) P.made_of P.tag_of) server.old call }
+    ensures unchanged { result ≡ Err faults.NoMemory → server.new ≡ server.old }
+    ensures grows { GrowsByOne server.old.peer.stable server.new.peer.stable }
+{
+    server.submit(alloc, quorums, call)
 }
 
 /// Applies a message's rule to its server, and returns the server's messages.

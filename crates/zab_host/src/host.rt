@@ -1,4 +1,4 @@
-use crate::dispatch::{dispatch, ends_below};
+use crate::dispatch::{dispatch, dispatch_append_only, ends_below, submit};
 use crate::fault::{HostFault, ReceiveFault};
 use crate::storage::{Storage, StoreFault};
 use std::alloc::Global;
@@ -13,6 +13,8 @@ pub struct Host<P: Primary, S: Storage> {
     server: Server<P>,
     outbox: Messages<P::Call>,
     storage: S,
+    /// How many entries of the server's history are stored.
+    stored: usize,
 }
 
 impl<P: Primary + Drop, S: Storage + Drop> Drop for Host<P, S> {
@@ -21,16 +23,20 @@ impl<P: Primary + Drop, S: Storage + Drop> Drop for Host<P, S> {
             server: _,
             outbox: _,
             storage: _,
+            stored: _,
         } = self;
     }
 }
 
 impl<P: Primary, S: Storage> Model for Host<P, S> {
+    ghost use Rattle.zab_host.specs.Durability.{IsStoredUpTo};
     ghost use Rattle.zab_host.specs.Hosts.{HostView, host};
 
     ghost Value = { HostView P.Call S };
 
     ghost view = { λ it. host it.server it.outbox it.storage };
+
+    ghost invariant = { λ it. IsStoredUpTo (S.may_recover it.storage) it.stored it.server.peer.stable };
 }
 
 impl<P: Primary, S: Storage> Host<P, S> {
@@ -38,12 +44,15 @@ impl<P: Primary, S: Storage> Host<P, S> {
     ghost use Rattle.zab_epoch.specs.declared.stable.Stable.{Stable};
     ghost use Rattle.zab_epoch.specs.Shortness.{IsShortBody};
     ghost use Rattle.zab_broadcast.specs.Calls.{setting_of};
+    ghost use Rattle.zab_broadcast.specs.Guards.{EndsBelow};
     ghost use Rattle.zab_broadcast.specs.Rules.{restored, is_serving};
+    ghost use Rattle.zab_host.specs.declared.fault.HostFault.TheVariants as faults;
     ghost use Rattle.zab_host.specs.Hosts.{acts_of, messages_of, IsAppendOnlyBody, Receives, Submits, Syncs, Leads, Follows, StepsTo, IsRejected, IsStored};
     ghost use Rattle.zab_host.specs.Durability.{IsDurable, IsPartialStore};
 
     /// Starts a host on what its store recovers. It has delivered nothing, follows no leader, and
     /// has no messages.
+    #[tactic(auto, using(crate::proofs::Growth::all_stored))]
     pub fn start(
         alloc: Global,
         servers: usize,
@@ -57,10 +66,12 @@ impl<P: Primary, S: Storage> Host<P, S> {
     {
         let mut storage = storage;
         let stable = storage.load(alloc)?;
+        let stored = stable.history.len();
         Ok(Host {
             server: Server::restored(alloc, servers, me, stable),
             outbox: Messages::new(alloc),
             storage,
+            stored,
         })
     }
 
@@ -72,6 +83,7 @@ impl<P: Primary, S: Storage> Host<P, S> {
             server,
             outbox,
             storage,
+            stored: _,
         } = self;
         drop(server);
         drop(outbox);
@@ -93,6 +105,7 @@ impl<P: Primary, S: Storage> Host<P, S> {
     }
 
     /// Receives a message that appends at most one entry.
+    #[tactic(auto, using(crate::proofs::Growth::still_stored))]
     pub fn receive<Q: Quorums>(
         &mut self,
         alloc: Global,
@@ -104,11 +117,15 @@ impl<P: Primary, S: Storage> Host<P, S> {
         ensures { StepsTo (setting_of (Q.passes quorums.now) P.made_of P.tag_of) self.old
             (Receives message.now) self.new result }
     {
-        self.apply_message(alloc, quorums, message)
+        self.admit(message)?;
+        let server = &mut self.server;
+        let messages = dispatch_append_only(alloc, quorums, server, message.sender, &message.body)?;
+        self.outbox.append(messages)?;
+        Ok(())
     }
 
-    /// Receives any message. Stores what the server has, applies the message's rule, and stores the
-    /// change atomically.
+    /// Receives any message. Applies its rule, and stores the server's stable part atomically: a
+    /// crash recovers the change whole, with all inputs before it, or not at all.
     pub fn receive_and_store<Q: Quorums>(
         &mut self,
         alloc: Global,
@@ -122,21 +139,70 @@ impl<P: Primary, S: Storage> Host<P, S> {
         ensures outbox { OnOk result (self.new.outbox ≡ self.old.outbox ++ messages_of
             (acts_of (setting_of (Q.passes quorums.now) P.made_of P.tag_of) self.old.state (Receives message.now)).1) }
         ensures stored { OnOk result (IsStored S.may_recover self.new) }
-        ensures rejected { IfErr result (λ fault. IsRejected (setting_of (Q.passes quorums.now) P.made_of P.tag_of) self.old
-            (Receives message.now) self.new fault) }
+        ensures rejected { IfErr result (λ fault. IsRejected S.may_recover (setting_of (Q.passes quorums.now) P.made_of P.tag_of)
+            self.old (Receives message.now) self.new fault) }
         ensures crash { (found : Stable) → S.may_recover self.new.storage found
-            → S.may_recover self.old.storage found
-            ⊎ (IsPartialStore (S.may_recover self.old.storage) self.old.state.peer.stable found
-            ⊎ (found ≡ self.new.state.peer.stable)) }
+            → S.may_recover self.old.storage found ⊎ (found ≡ self.new.state.peer.stable) }
         ensures boots { S.boots self.new.storage ≡ S.boots self.old.storage }
     {
-        self.storage.store(&self.server.state().peer.stable)?;
-        self.apply_message(alloc, quorums, message)?;
-        self.storage
-            .store_atomically(&self.server.state().peer.stable)?;
+        let received = self.apply_message(alloc, quorums, message);
+        self.store_atomically()?;
+        received?;
         Ok(())
     }
 
+    /// Stores what the server has: the entries that are not stored yet.
+    #[tactic(auto, using(crate::proofs::Growth::none_stored, crate::proofs::Growth::all_stored))]
+    fn store(&mut self) -> Result<(), StoreFault>
+        ensures stored { OnOk result (IsStored S.may_recover self.new) }
+        ensures state { self.new.state ≡ self.old.state }
+        ensures outbox { self.new.outbox ≡ self.old.outbox }
+        ensures crash { (found : Stable) → S.may_recover self.new.storage found
+            → S.may_recover self.old.storage found
+            ⊎ IsPartialStore (S.may_recover self.old.storage) self.old.state.peer.stable found }
+        ensures boots { S.boots self.new.storage ≡ S.boots self.old.storage }
+    {
+        let stored = replace(&mut self.stored, 0);
+        let stable = &self.server.state().peer.stable;
+        self.storage.store(stable, stored)?;
+        self.stored = stable.history.len();
+        Ok(())
+    }
+
+    /// Stores what the server has, atomically.
+    #[tactic(auto, using(crate::proofs::Growth::none_stored, crate::proofs::Growth::all_stored))]
+    fn store_atomically(&mut self) -> Result<(), StoreFault>
+        ensures stored { OnOk result (IsStored S.may_recover self.new) }
+        ensures state { self.new.state ≡ self.old.state }
+        ensures outbox { self.new.outbox ≡ self.old.outbox }
+        ensures crash { (found : Stable) → S.may_recover self.new.storage found
+            → S.may_recover self.old.storage found ⊎ (found ≡ self.old.state.peer.stable) }
+        ensures boots { S.boots self.new.storage ≡ S.boots self.old.storage }
+    {
+        self.stored = 0;
+        let stable = &self.server.state().peer.stable;
+        self.storage.store_atomically(stable)?;
+        self.stored = stable.history.len();
+        Ok(())
+    }
+
+    /// Rejects a message for another server, or one that is out of order.
+    fn admit(&self, message: &Message<P::Call>) -> Result<(), HostFault>
+        ensures mine { OnOk result (message.now.addressee ≡ self.now.state.peer.me) }
+        ensures below { OnOk result (EndsBelow self.now.state) }
+        ensures rejected { IfErr result (λ fault. (fault ≡ faults.NoServer) ⊎ (fault ≡ faults.OutOfOrder)) }
+    {
+        let state = self.server.state();
+        if message.addressee != state.peer.me {
+            return Err(HostFault::NoServer);
+        }
+        if !ends_below(state) {
+            return Err(HostFault::OutOfOrder);
+        }
+        Ok(())
+    }
+
+    #[tactic(auto, using(crate::proofs::Growth::none_stored))]
     fn apply_message<Q: Quorums>(
         &mut self,
         alloc: Global,
@@ -148,13 +214,8 @@ impl<P: Primary, S: Storage> Host<P, S> {
             (Receives message.now) self.new result }
         ensures storage { self.new.storage ≡ self.old.storage }
     {
-        let state = self.server.state();
-        if message.addressee != state.peer.me {
-            return Err(HostFault::NoServer);
-        }
-        if !ends_below(state) {
-            return Err(HostFault::OutOfOrder);
-        }
+        self.admit(message)?;
+        self.stored = 0;
         let server = &mut self.server;
         let messages = dispatch(alloc, quorums, server, message.sender, &message.body)?;
         self.outbox.append(messages)?;
@@ -162,6 +223,7 @@ impl<P: Primary, S: Storage> Host<P, S> {
     }
 
     /// Submits a client's call. No other call has its tag.
+    #[tactic(auto, using(crate::proofs::Growth::still_stored))]
     pub fn submit<Q: Quorums>(
         &mut self,
         alloc: Global,
@@ -174,13 +236,14 @@ impl<P: Primary, S: Storage> Host<P, S> {
         if !ends_below(self.server.state()) {
             return Err(HostFault::OutOfOrder);
         }
-        let messages = self.server.submit(alloc, quorums, call)?;
+        let messages = submit(alloc, quorums, &mut self.server, call)?;
         self.outbox.append(messages)?;
         Ok(())
     }
 
     /// Asks the server's leader how much it has delivered, for a client's sync. No other sync has
     /// this tag.
+    #[tactic(auto, using(crate::proofs::Growth::sync_keeps))]
     pub fn sync<Q: Quorums>(
         &mut self,
         alloc: Global,
@@ -196,6 +259,7 @@ impl<P: Primary, S: Storage> Host<P, S> {
     }
 
     /// Begins to lead.
+    #[tactic(auto, using(crate::proofs::Growth::lead_keeps))]
     pub fn lead<Q: Quorums>(&mut self, alloc: Global, _quorums: &Q) -> Result<(), HostFault>
         ensures { StepsTo (setting_of (Q.passes _quorums.now) P.made_of P.tag_of) self.old
             Leads self.new result }
@@ -206,6 +270,7 @@ impl<P: Primary, S: Storage> Host<P, S> {
     }
 
     /// Begins to follow a leader.
+    #[tactic(auto, using(crate::proofs::Growth::follow_keeps))]
     pub fn follow<Q: Quorums>(
         &mut self,
         alloc: Global,
@@ -237,8 +302,7 @@ impl<P: Primary, S: Storage> Host<P, S> {
             ⊎ IsPartialStore (S.may_recover self.old.storage) self.old.state.peer.stable found }
         ensures boots { S.boots self.new.storage ≡ S.boots self.old.storage }
     {
-        let stable = &self.server.state().peer.stable;
-        self.storage.store(stable)?;
+        self.store()?;
         Ok(replace(&mut self.outbox, Messages::new(alloc)))
     }
 

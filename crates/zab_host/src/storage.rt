@@ -21,7 +21,7 @@ pub enum StoreFault {
 pub trait Storage: Drop {
     ghost use Rattle.std.specs.Prelude.{◌≡◌, ◌≤◌, ◌+◌, ◌⊎◌, drop, IfOk, OnOk};
     ghost use Rattle.zab_epoch.specs.declared.stable.Stable.{Stable};
-    ghost use Rattle.zab_host.specs.Durability.{IsDurable, IsPartialStore};
+    ghost use Rattle.zab_host.specs.Durability.{IsDurable, IsPartialStore, IsStoredUpTo};
 
     /// The stable parts that recovery may find after a crash now.
     ghost may_recover: { Self → Stable → Type 0 };
@@ -31,9 +31,11 @@ pub trait Storage: Drop {
 
     ghost use Rattle.std.specs.Prelude.{ℕ};
 
-    /// Stores a stable part. After `Ok` each crash recovers it. A crash before that, or after an
-    /// error, recovers what it could recover before, or a part of the write.
-    fn store(&mut self, stable: &Stable) -> Result<(), StoreFault>
+    /// Stores a stable part, of which the first `kept` entries are stored already; `kept` may be 0.
+    /// After `Ok` each crash recovers it. A crash before that, or after an error, recovers what it
+    /// could recover before, or a part of the write.
+    fn store(&mut self, stable: &Stable, kept: usize) -> Result<(), StoreFault>
+        requires kept { IsStoredUpTo (may_recover self.old) kept stable.now }
         ensures stored { OnOk result (IsDurable stable.now (may_recover self.new)) }
         ensures crash { (found : Stable) → may_recover self.new found
             → may_recover self.old found ⊎ IsPartialStore (may_recover self.old) stable.now found }

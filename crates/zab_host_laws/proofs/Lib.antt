@@ -1,6 +1,9 @@
 mod Composition
+mod Fits
 mod Growing
+mod Numbers
 mod Prefixes
 mod Releases
 mod Tags
+mod TakenSyncs
 mod Syncs

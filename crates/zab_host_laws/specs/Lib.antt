@@ -5,3 +5,5 @@ pub mod NeverBack
 pub mod Composition
 pub mod Tags
 pub mod Syncs
+pub mod Fits
+pub mod TakenSyncs

@@ -1,10 +1,12 @@
 ghost use Rattle.zab_host_laws.specs.Composition.{InputsAreSteps, RestartsAreSteps};
+ghost use Rattle.zab_host_laws.specs.Fits.{HostsKeepTheirNumbers, AcceptedInputsAreSteps};
 ghost use Rattle.zab_broadcast.specs.Calls.{setting_of};
 ghost use Rattle.zab_host_laws.specs.Prefixes.{CrashesLeaveInputPrefixes};
 ghost use Rattle.zab_host_laws.specs.Releases.{ReleasesAreSteps};
 ghost use Rattle.zab_host.specs.Tags.{TagsDiffer};
 ghost use Rattle.zab_host_laws.specs.Syncs.{HostSyncsAreCaught};
 ghost use Rattle.zab_host_laws.specs.Tags.{IssuedTagsAreFresh};
+ghost use Rattle.zab_host_laws.specs.TakenSyncs.{TakenSyncsChangeNothing};
 ghost use Rattle.zab_host_laws.specs.NeverBack.{HostsNeverGoBack, HostsOnlyGrow};
 ghost use Rattle.zab_model.specs.Worlds.{profile_of};
 
@@ -18,6 +20,13 @@ use zab_recovery::hosts_are_a_run;
 pub fn inputs_are_steps<P: Primary, Q: Quorums>(_quorums: &Q)
     ensures inputs { InputsAreSteps (profile_of (Q.passes _quorums.now) P.made_of P.tag_of P.closing_of) }
     ensures starts { RestartsAreSteps (profile_of (Q.passes _quorums.now) P.made_of P.tag_of P.closing_of) }
+{}
+
+/// A host's server keeps its number, and the number of servers. So each input that a host accepts
+/// by its own contract is a step of the network.
+pub fn accepted_inputs_are_steps<P: Primary, Q: Quorums>(_quorums: &Q)
+    ensures numbers { HostsKeepTheirNumbers (profile_of (Q.passes _quorums.now) P.made_of P.tag_of P.closing_of) }
+    ensures inputs { AcceptedInputsAreSteps (profile_of (Q.passes _quorums.now) P.made_of P.tag_of P.closing_of) }
 {}
 
 /// A host's delivered list only grows while its process runs. A client that says what it has seen
@@ -54,3 +63,8 @@ pub fn host_syncs_catch_up<P: Primary, Q: Quorums>(_quorums: &Q)
     syncs_catch_up::<P, Q>(_quorums);
     hosts_are_a_run::<P, Q>(_quorums);
 }
+
+/// A host does the same whether its clients have taken its completed syncs or not.
+pub fn taken_syncs_change_nothing<P: Primary, Q: Quorums>(_quorums: &Q)
+    ensures { TakenSyncsChangeNothing (setting_of (Q.passes _quorums.now) P.made_of P.tag_of) }
+{}

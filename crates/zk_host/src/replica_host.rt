@@ -121,8 +121,8 @@ impl<S: Storage> ReplicaHost<S> {
         self.host.receive(alloc, quorums, message)
     }
 
-    /// Receives any message. Stores what the server has, applies the message's rule, and stores the
-    /// change atomically.
+    /// Receives any message. Applies its rule, and stores the server's stable part atomically: a
+    /// crash recovers the change whole, with all inputs before it, or not at all.
     pub fn receive_and_store<Q: Quorums>(
         &mut self,
         alloc: Global,
@@ -136,12 +136,10 @@ impl<S: Storage> ReplicaHost<S> {
         ensures outbox { OnOk result (self.new.host.outbox ≡ self.old.host.outbox ++ messages_of
             (acts_of (profile_by (Q.passes quorums.now)).setting self.old.host.state (Receives message.now)).1) }
         ensures stored { OnOk result (IsStored S.may_recover self.new.host) }
-        ensures rejected { IfErr result (λ fault. IsRejected (profile_by (Q.passes quorums.now)).setting self.old.host
-            (Receives message.now) self.new.host fault) }
+        ensures rejected { IfErr result (λ fault. IsRejected S.may_recover (profile_by (Q.passes quorums.now)).setting
+            self.old.host (Receives message.now) self.new.host fault) }
         ensures crash { (found : Stable) → S.may_recover self.new.host.storage found
-            → S.may_recover self.old.host.storage found
-            ⊎ (IsPartialStore (S.may_recover self.old.host.storage) self.old.host.state.peer.stable found
-            ⊎ (found ≡ self.new.host.state.peer.stable)) }
+            → S.may_recover self.old.host.storage found ⊎ (found ≡ self.new.host.state.peer.stable) }
         ensures boots { S.boots self.new.host.storage ≡ S.boots self.old.host.storage }
         ensures rest { (self.new.tree ≡ self.old.tree) × ((self.new.shown ≡ self.old.shown) × (self.new.tags ≡ self.old.tags)) }
     {

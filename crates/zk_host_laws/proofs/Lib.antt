@@ -1,0 +1,4 @@
+mod News
+mod Showing
+mod Orders
+mod Syncs
