@@ -101,7 +101,7 @@ all_looked zxid all stored i le so_far = so_far ∙ ap (latest_of zxid) (at_end 
 
 -- ---- what a draft settles to
 
-abbrev Lent : Type 0
+abbrev pub Lent : Type 0
 Lent = Bor (List ℕ) × Bor DraftNode
 
 abbrev lent : List Lent → List (List ℕ × DraftNode)
