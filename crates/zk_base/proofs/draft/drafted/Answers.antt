@@ -21,7 +21,7 @@ returns-in_err-insert_stored-clause-exact c =
     let i = c.loop-one.one-index in
     let accesses = c.args.accesses.now in
     let all = drafted_fault accesses finite.empty stored in
-    let p = err_from_is_err_and c.from_residual.result c.from_residual.ensures.1 in
+    let p = err_from_is_err_and c.from_residual-in_err-insert_stored.result c.from_residual-in_err-insert_stored.ensures.1 in
     rw (p.1, p.2) (fails_too (stored_fault c.loop-one.drafts c.one-item.result) all c.in_err-insert_stored.field-0.0 (stored_badly accesses c.loop-one.drafts all stored i c.one-item.result c.loop-one-test.true c.one-item.is c.loop-one.invariant.1) c.in_err-insert_stored.ensures.exact)
 
 pub returns-clause-drafted : goal.returns-clause-drafted

@@ -36,7 +36,7 @@ returns-in_err-insert-clause-exact c =
     let i = c.loop-one.one-index in
     let old = c.loop-one.table.state.nodes in
     let all = tree_fault (map entry_of c.args.entries.now) in
-    let p = err_from_is_err_and c.from_residual.result c.from_residual.ensures.1 in
+    let p = err_from_is_err_and c.from_residual-in_err-insert.result c.from_residual-in_err-insert.ensures.1 in
     rw (p.1, p.2) (fails_too (node_fault old c.one-item.result.1.now) all c.in_err-insert.field-0.0 (node_badly old all others i c.one-item.result c.loop-one-test.true c.one-item.is c.loop-one.invariant.4) c.in_err-insert.ensures.exact)
 
 pub returns-clause-nodes : goal.returns-clause-nodes
