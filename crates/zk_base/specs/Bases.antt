@@ -1,6 +1,6 @@
 -- The state that a snapshot holds: the draft of its nodes, and the table that the draft settles to.
 use Rattle.std.specs.Prelude.{◌≡◌, ◌||◌, ◌&&◌, int_le, int_lt, ℕ, ℤ, pos, negsuc, List, [], ◌∷◌, Bool, true, false, Option, Some, None, Result, Ok, Err, if◌then◌else◌}
-use Rattle.std.specs.FinMap.{entries, get, insert, empty, contains_key}
+use Rattle.std.specs.FinMap.{entries, insert, empty, contains_key}
 use Rattle.std.specs.Int.{w64, cast_unsigned}
 use Rattle.std.specs.Option.{option_or}
 use Rattle.std.specs.Ordering.{int_eq}

@@ -1,7 +1,7 @@
-use Rattle.std.proofs.Common.{rules, sym, ap}
+use Rattle.std.proofs.Common.{sym}
 use Rattle.std.proofs.lemmas.Result.{err_from_is_err_and}
 use Rattle.std.specs.FinMap as finite
-use Rattle.zk_base.specs.Bases.{drafted, stored_fault, drafted_fault}
+use Rattle.zk_base.specs.Bases.{stored_fault, drafted_fault}
 use Rattle.zk_base.proofs.Failing.{fails_too, stored_well, stored_badly, all_well}
 use Rattle.zk_base.proofs.Turning.{drafts_on, all_drafted}
 use Rattle.zk_base.proofs.draft.drafted.Goals as goal

@@ -1,7 +1,7 @@
-use Rattle.std.proofs.Common.{◌≡◌, rules, sym, ap, ◌∙◌, ◌∷◌, ◌+◌, drop, map}
+use Rattle.std.proofs.Common.{◌≡◌, rules, ◌∙◌, ◌∷◌, ◌+◌, drop, map}
 use Rattle.std.proofs.lemmas.Result.{err_from_is_err_and}
 use Rattle.std.specs.FinMap as finite
-use Rattle.zk_base.specs.Bases.{settled, root_fault, node_fault, tree_fault}
+use Rattle.zk_base.specs.Bases.{root_fault, node_fault, tree_fault}
 use Rattle.zk_base.specs.Drafts.{entry_of}
 use Rattle.zk_base.proofs.Failing.{fails_too, root_well, root_badly, node_well, node_badly, nodes_well}
 use Rattle.zk_base.proofs.Turning.{next_is, settles, settle_all}
