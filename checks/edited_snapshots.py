@@ -34,6 +34,9 @@ GZIP = b"\x1f\x8b"
 SNAPPY = b"\x82SNAPPY\0"
 HEADER = b"ZKSN\0\0\0\x02"
 
+# the fields of `StatPersisted` between the mzxid and the pzxid: times, versions and the owner
+STAT = ("!q", "!q", "!i", "!i", "!i", "!q")
+
 
 class Fault(Exception):
     """Why bytes are no snapshot."""
@@ -114,7 +117,7 @@ class Reader:
         self.int64()
         self.zxid()
         self.zxid()
-        for kind in "!q!q!i!i!i!q".replace("!", " !").split():
+        for kind in STAT:
             self.number(kind)
         self.zxid()
         self.nodes.append((start, self.at))
@@ -198,7 +201,7 @@ class Parts:
         return sealed(first + self.claim) if self.claim else first
 
 
-# an edit, by a source of random numbers
+# changes a snapshot, by a source of random numbers
 Edit = Callable[[Parts, random.Random], bytes]
 
 
