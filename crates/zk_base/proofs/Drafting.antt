@@ -1,5 +1,5 @@
 -- A change of one draft.
-use Rattle.std.proofs.Common.{◌≡◌, ℕ, List, Option, Some, None, refl, sym, ap, ◌∙◌}
+use Rattle.std.proofs.Common.{◌≡◌, ℕ, List, Some, None, sym, ap, ◌∙◌}
 use Rattle.std.specs.FinMap as finite
 use Rattle.zk_base.specs.declared.draft_node.DraftNode.{DraftNode}
 use Rattle.zk_base.specs.Drafts.{DraftMap, changed, changed_found}

@@ -1,3 +1,4 @@
 pub mod Drafting
+pub mod Failing
 pub mod Maps
 pub mod Turning

@@ -1,13 +1,12 @@
 -- Lists, element by element, as loops iterate over them.
-use Rattle.std.proofs.Common.{◌≡◌, ℕ, ℤ, ◌+◌, ◌<◌, ◌≤◌, Bool, true, false, cond, List, [], ◌∷◌, map, length, drop, get_or, Option, Some, None, w64, to_z, of_z, refl, sym, ap, ◌∙◌, arith}
-use Rattle.std.proofs.lemmas.Bool.{false≢true, false_from_ne_true}
+use Rattle.std.proofs.Common.{◌≡◌, ℕ, ℤ, ◌+◌, ◌<◌, ◌≤◌, true, false, List, [], ◌∷◌, map, length, drop, get_or, Option, Some, None, w64, to_z, of_z, refl, sym, ap, ◌∙◌, arith}
+use Rattle.std.proofs.lemmas.Bool.{false_from_ne_true}
 use Rattle.std.proofs.lemmas.Bool.Decides.{Decides-int_eq}
 use Rattle.std.proofs.lemmas.List.{drop_more, nil_from_length, length-drop}
 use Rattle.std.specs.Borrow.{Bor}
 use Rattle.std.specs.FinMap.{insert, remove}
 use Rattle.std.specs.Int.{cast_unsigned}
 use Rattle.std.specs.Ordering.{int_eq}
-use Rattle.zk_acl.specs.declared.acl.Acl.{Acl}
 use Rattle.zk_table.specs.States.{NodeMap, SessionMap}
 use Rattle.zk_snapshot.specs.declared.snapshot.Access.{Access}
 use Rattle.zk_snapshot.specs.declared.snapshot.Lease.{Lease}
@@ -101,7 +100,7 @@ all_looked zxid all stored i le so_far = so_far ∙ ap (latest_of zxid) (at_end 
 
 -- ---- what a draft settles to
 
-abbrev Lent : Type 0
+abbrev pub Lent : Type 0
 Lent = Bor (List ℕ) × Bor DraftNode
 
 abbrev lent : List Lent → List (List ℕ × DraftNode)

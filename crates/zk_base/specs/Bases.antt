@@ -1,13 +1,16 @@
 -- The state that a snapshot holds: the draft of its nodes, and the table that the draft settles to.
-use Rattle.std.specs.Prelude.{◌≡◌, ◌||◌, ◌&&◌, int_le, int_lt, ℕ, ℤ, pos, negsuc, List, [], ◌∷◌, Bool, true, false, Option, Some, None, if◌then◌else◌}
-use Rattle.std.specs.FinMap.{entries, get, insert, empty}
+use Rattle.std.specs.Prelude.{◌≡◌, ◌||◌, ◌&&◌, int_le, int_lt, ℕ, ℤ, pos, negsuc, List, [], ◌∷◌, Bool, true, false, Option, Some, None, Result, Ok, Err, if◌then◌else◌}
+use Rattle.std.specs.FinMap.{entries, insert, empty, contains_key}
 use Rattle.std.specs.Int.{w64, cast_unsigned}
+use Rattle.std.specs.Option.{option_or}
 use Rattle.std.specs.Ordering.{int_eq}
+use Rattle.std.specs.Str.{bytes_eq}
 use Rattle.zk_acl.specs.declared.acl.Acl.{Acl}
 use Rattle.zk_path.specs.Paths.{parent_of}
 use Rattle.zk_txn.specs.declared.node.Node.{Node}
 use Rattle.zk_txn.specs.Nodes.{open_to_all}
 use Rattle.zk_table.specs.States.{NodeMap, SessionMap, State}
+use Rattle.zk_fold.specs.NodeIndexes.{can_insert}
 use Rattle.zk_snapshot.specs.declared.snapshot.Access.{Access}
 use Rattle.zk_snapshot.specs.declared.snapshot.Claim.{Claim}
 use Rattle.zk_snapshot.specs.declared.snapshot.Contents.{Contents}
@@ -17,6 +20,9 @@ use Rattle.zk_snapshot.specs.declared.snapshot.Stored.{Stored}
 use Rattle.zk_base.specs.declared.draft.Draft.{Draft}
 use Rattle.zk_base.specs.declared.draft_node.DraftNode.{DraftNode}
 use Rattle.zk_base.specs.declared.exact.Exact.{Exact}
+use Rattle.zk_base.specs.declared.fault.BaseFault.{BaseFault}
+use Rattle.zk_base.specs.declared.fault.BaseFault.TheVariants as faults
+use Rattle.zk_snapshot.specs.Snapshots.{slash}
 use Rattle.zk_base.specs.Drafts.{DraftMap, later, as_parent, changed}
 
 -- ---- nodes
@@ -84,6 +90,60 @@ pub record IsSettled (draft : Draft) (last : ℤ) (state : State) : Type 0 where
   pub nodes : settled empty (entries draft.nodes) ≡ Some state.nodes
   pub sessions : state.sessions ≡ draft.sessions
   pub last_zxid : state.last ≡ last
+
+-- ---- when there is no state
+
+-- the fault that is returned, unless allocation fails
+abbrev pub IsFault : Option BaseFault → BaseFault → Type 0
+IsFault fault faults.NoMemory = Unit {0}
+IsFault fault failed = fault ≡ Some failed
+
+-- a call fails if there is a fault, and with this fault, unless allocation fails
+abbrev pub FailsBy : {X : Type 0} → Option BaseFault → Result X BaseFault → Type 0
+FailsBy fault (Ok x) = fault ≡ None
+FailsBy fault (Err failed) = IsFault fault failed
+
+abbrev pub parent_fault : DraftMap → Option (List ℕ) → Option BaseFault
+parent_fault drafts None = None
+parent_fault drafts (Some above) = if contains_key drafts above then None else Some faults.Tree
+
+-- a path occurs twice, or before its parent
+abbrev pub stored_fault : DraftMap → Stored → Option BaseFault
+stored_fault drafts s = if contains_key drafts s.path then Some faults.Tree else parent_fault drafts (parent_of s.path)
+
+-- the fault of the first stored node that has one
+unfoldable pub drafted_fault : List Access → DraftMap → List Stored → Option BaseFault
+drafted_fault accesses drafts [] = None
+drafted_fault accesses drafts (s ∷ stored) = option_or (stored_fault drafts s) (drafted_fault accesses (with_stored accesses drafts s) stored)
+
+-- the fault of a snapshot
+abbrev pub snapshot_fault : Contents → Option BaseFault
+snapshot_fault contents = drafted_fault contents.accesses empty contents.nodes
+
+-- a node's list is not known
+abbrev pub list_fault : DraftNode → Option BaseFault
+list_fault draft = if draft.lacks_acl then Some faults.Access else None
+
+-- the first node is the root, which has no owner
+abbrev pub root_fault : DraftNode → Option BaseFault
+root_fault draft = option_or (list_fault draft) (if bytes_eq draft.path slash && int_eq draft.node.owner (pos 0) then None else Some faults.Tree)
+
+-- each other node is below one that takes children
+abbrev pub node_fault : NodeMap → DraftNode → Option BaseFault
+node_fault nodes draft = option_or (list_fault draft) (if can_insert nodes draft.path then None else Some faults.Tree)
+
+unfoldable pub nodes_fault : NodeMap → List (List ℕ × DraftNode) → Option BaseFault
+nodes_fault nodes [] = None
+nodes_fault nodes (e ∷ es) = option_or (node_fault nodes e.1) (nodes_fault (insert nodes e.1.path e.1.node) es)
+
+-- the fault of the first node, in the order of paths, that has one
+abbrev pub tree_fault : List (List ℕ × DraftNode) → Option BaseFault
+tree_fault [] = Some faults.Tree
+tree_fault (e ∷ es) = option_or (root_fault e.1) (nodes_fault (insert empty e.1.path e.1.node) es)
+
+-- the fault of a draft
+abbrev pub draft_fault : Draft → Option BaseFault
+draft_fault draft = tree_fault (entries draft.nodes)
 
 -- ---- from which zxid on a replay of the snapshot is exact
 

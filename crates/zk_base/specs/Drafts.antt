@@ -2,12 +2,10 @@
 -- the window.
 use Rattle.std.specs.Prelude.{ℕ, ℤ, pos, List, [], ◌∷◌, ◌++◌, Bool, true, false, Option, Some, None, nat_eq, int_lt, if◌then◌else◌}
 use Rattle.std.specs.Borrow.{Bor}
-use Rattle.std.specs.FinMap as finite
 use Rattle.std.specs.FinMap.{FinMap, entries, get, insert, remove}
 use Rattle.std.specs.List.{starts_with}
 use Rattle.std.specs.Ordering.{int_eq}
 use Rattle.zk_acl.specs.declared.acl.Acl.{Acl}
-use Rattle.zk_path.specs.Paths.{parent_of}
 use Rattle.zk_txn.specs.declared.node.Node.{Node}
 use Rattle.zk_txn.specs.declared.txn.Txn.{Txn}
 use Rattle.zk_txn.specs.Nodes as nodes

@@ -3,7 +3,7 @@ ghost use Rattle.std.specs.FinMap as finite;
 ghost use Rattle.std.specs.Int.{w64, cast_unsigned};
 ghost use Rattle.zk_path.specs.Paths.{parent_of};
 ghost use Rattle.zk_txn.specs.Nodes.{open_to_all};
-ghost use Rattle.zk_base.specs.Bases.{listed, acl_of, shown_owner, node_with, draft_with, draft_of, parent_marked, with_stored, drafted, sessions_of, IsDraftOf};
+ghost use Rattle.zk_base.specs.Bases.{listed, acl_of, shown_owner, node_with, draft_with, draft_of, parent_marked, with_stored, drafted, sessions_of, parent_fault, stored_fault, drafted_fault, snapshot_fault, FailsBy, IsDraftOf};
 
 use crate::draft_node::DraftNode;
 use crate::draft_nodes::DraftNodes;
@@ -109,7 +109,8 @@ fn draft_of(
 
 /// Records at its parent that a node is put at a path. Fails if the parent is missing.
 fn mark_parent(drafts: &mut DraftNodes, path: &Path) -> Result<(), BaseFault>
-    ensures { OnOk result (drafts.new ≡ parent_marked drafts.old (parent_of path.now)) }
+    ensures marked { OnOk result (drafts.new ≡ parent_marked drafts.old (parent_of path.now)) }
+    ensures exact { FailsBy (parent_fault drafts.old (parent_of path.now)) result }
 {
     let Some(above) = path.parent() else {
         return Ok(());
@@ -130,7 +131,8 @@ fn insert_stored(
     stored: &Stored,
 ) -> Result<(), BaseFault>
     requires { open_acl.now ≡ open_to_all }
-    ensures { OnOk result (drafts.new ≡ with_stored accesses.now drafts.old stored.now) }
+    ensures inserted { OnOk result (drafts.new ≡ with_stored accesses.now drafts.old stored.now) }
+    ensures exact { FailsBy (stored_fault drafts.old stored.now) result }
 {
     if drafts.contains(stored.path.text()) {
         return Err(BaseFault::Tree);
@@ -143,7 +145,8 @@ fn insert_stored(
 
 /// The stored nodes.
 fn drafted(alloc: Global, accesses: &[Access], stored: &[Stored]) -> Result<DraftNodes, BaseFault>
-    ensures { IfOk result (λ drafts. drafts ≡ drafted accesses.now finite.empty stored.now) }
+    ensures drafted { IfOk result (λ drafts. drafts ≡ drafted accesses.now finite.empty stored.now) }
+    ensures exact { FailsBy (drafted_fault accesses.now finite.empty stored.now) result }
 {
     let first = Node::first(alloc)?;
     let mut drafts = DraftNodes::new(alloc);
@@ -182,7 +185,8 @@ impl Draft {
     /// Builds the draft of a snapshot. Fails with [`BaseFault::Tree`] if a path occurs twice or
     /// before its parent.
     pub fn of(alloc: Global, contents: &Contents) -> Result<Draft, BaseFault>
-        ensures { IfOk result (λ draft. IsDraftOf contents.now draft) }
+        ensures drafted { IfOk result (λ draft. IsDraftOf contents.now draft) }
+        ensures exact { FailsBy (snapshot_fault contents.now) result }
     {
         let nodes = drafted(
             alloc,

@@ -8,8 +8,8 @@ use zk_path::NoMemory;
 /// Why a snapshot holds no state. Each prints as its name.
 #[derive(Clone, Copy, Debug, PartialEq, Eq, Error)]
 pub enum BaseFault {
-    /// The nodes are not a tree: no root, a path twice, or a parent that is missing or has an
-    /// owner.
+    /// The nodes are not a tree: no root, a path twice, or a parent that is missing, has an owner
+    /// or counts -1 creates.
     #[error("S7")]
     Tree,
     /// A node refers to an access control list that neither the file nor the log holds.

@@ -1,7 +1,7 @@
 ghost use Rattle.std.specs.Prelude.{◌≡◌, false, Some, IfOk, OnOk, map};
 ghost use Rattle.std.specs.FinMap as finite;
 ghost use Rattle.zk_base.specs.Drafts.{entry_of};
-ghost use Rattle.zk_base.specs.Bases.{settled, IsSettled};
+ghost use Rattle.zk_base.specs.Bases.{settled, list_fault, node_fault, root_fault, tree_fault, draft_fault, FailsBy, IsSettled};
 
 use crate::draft::Draft;
 use crate::draft_node::DraftNode;
@@ -14,6 +14,7 @@ use zk_table::Node;
 fn node_of(draft: &DraftNode) -> Result<Node, BaseFault>
     ensures node { IfOk result (λ node. node ≡ draft.now.node) }
     ensures known { OnOk result (draft.now.lacks_acl ≡ false) }
+    ensures exact { FailsBy (list_fault draft.now) result }
 {
     if draft.lacks_acl {
         return Err(BaseFault::Access);
@@ -28,6 +29,7 @@ fn insert(table: &mut Fold, draft: &DraftNode) -> Result<(), BaseFault>
     ensures sessions { table.new.state.sessions ≡ table.old.state.sessions }
     ensures last { table.new.state.last ≡ table.old.state.last }
     ensures failed { table.new.failed ≡ table.old.failed }
+    ensures exact { FailsBy (node_fault table.old.state.nodes draft.now) result }
 {
     let node = node_of(draft)?;
     if !table.can_insert(&draft.path) {
@@ -48,6 +50,7 @@ fn rooted(
     ensures sessions { IfOk result (λ table. table.state.sessions ≡ sessions) }
     ensures last { IfOk result (λ table. table.state.last ≡ last) }
     ensures failed { IfOk result (λ table. table.failed ≡ false) }
+    ensures exact { FailsBy (root_fault draft.now) result }
 {
     let node = node_of(draft)?;
     if draft.path.text() != "/" || node.owner != 0 {
@@ -67,6 +70,7 @@ fn table_of(
     ensures sessions { IfOk result (λ table. table.state.sessions ≡ sessions) }
     ensures last { IfOk result (λ table. table.state.last ≡ last) }
     ensures failed { IfOk result (λ table. table.failed ≡ false) }
+    ensures exact { FailsBy (tree_fault (map entry_of entries.now)) result }
 {
     let Some((root, others)) = entries.split_first() else {
         return Err(BaseFault::Tree);
@@ -81,10 +85,11 @@ fn table_of(
 /// The table in the state of a draft whose window ends at the zxid `last`.
 ///
 /// Fails with [`BaseFault::Access`] if a node's access control list is not known, and with
-/// [`BaseFault::Tree`] if the nodes are not a tree.
+/// [`BaseFault::Tree`] if the nodes are not a tree: by the first such node in the order of paths.
 pub fn settle(alloc: Global, draft: Draft, last: i64) -> Result<Fold, BaseFault>
     ensures settled { IfOk result (λ table. IsSettled draft last table.state) }
     ensures failed { IfOk result (λ table. table.failed ≡ false) }
+    ensures exact { FailsBy (draft_fault draft) result }
 {
     let Draft { nodes, sessions } = draft;
     let entries = nodes.entries()?;

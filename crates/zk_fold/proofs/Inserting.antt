@@ -1,6 +1,6 @@
 -- A node that stood there all along: its parent is counted anew and keeps its numbers.
-use Rattle.std.proofs.Common.{◌≡◌, ◌≢◌, ℕ, ℤ, pos, negsuc, Bool, true, false, cond, List, Option, Some, None, is_some, unwrap_or, refl, sym, ap, ◌∙◌}
-use Rattle.std.proofs.lemmas.Bool.{false≢true, false_from_ne_true}
+use Rattle.std.proofs.Common.{◌≡◌, ◌≢◌, ◌&&◌, ℕ, ℤ, pos, negsuc, Bool, true, false, not, cond, nat_eq, List, Option, Some, None, is_some, unwrap_or, w32, to_z, of_z, refl, sym, ap, ◌∙◌}
+use Rattle.std.proofs.lemmas.Bool.{false≢true, false_from_ne_true, eqb-true, eqb-false}
 use Rattle.std.proofs.lemmas.Bool.Decides.{Decides-int_eq}
 use Rattle.std.proofs.lemmas.Cmp.{nat_list_cmp_total}
 use Rattle.std.specs.FinMap as finite
@@ -10,13 +10,13 @@ use Rattle.std.specs.Prelude.{option_and_then}
 use Rattle.zk_path.specs.Paths.{parent_of}
 use Rattle.zk_txn.specs.Codes.{node_exists, no_children_for_ephemerals}
 use Rattle.zk_txn.specs.declared.node.Node.{Node}
-use Rattle.zk_txn.specs.Nodes.{with_child, next_creates}
+use Rattle.zk_txn.specs.Nodes.{with_child}
 use Rattle.zk_table.specs.Operations.{create_fault, parent_fault}
 use Rattle.zk_table.specs.States.{NodeMap, path_cmp, changed_above, changed_found}
 use Rattle.zk_tree.proofs.Kept.{path_cmp-IsAntisymmetric, insert_same}
 use Rattle.zk_tree.proofs.Lists.{same_is}
 use Rattle.zk_fold.specs.declared.node_table.Slot.{Slot}
-use Rattle.zk_fold.specs.NodeIndexes.{put_below, put_unless, CanInsert}
+use Rattle.zk_fold.specs.NodeIndexes.{put_below, put_unless, CanInsert, takes_children, can_insert_below, can_insert}
 use Rattle.zk_fold.specs.Slots.{SlotMap, nodes_at}
 use Rattle.zk_fold.proofs.Counting.{get-nodes_at, contains-nodes_at}
 
@@ -82,3 +82,29 @@ may m n path above place view below free is owner creates = record {
   persistent = owner;
   counted = creates;
 }
+
+-- ---- the test, of what the code looks up
+
+-- where a slot's node is looked up, and whether the path is taken
+tested : (m : SlotMap) (n : NodeMap) (path : List ℕ) (above : Option (List ℕ)) (taken : Bool) → nodes_at m ≡ n → parent_of path ≡ above → finite.contains_key m path ≡ taken → can_insert n path ≡ (not taken && can_insert_below (nodes_at m) above)
+tested m n path above taken view below is =
+    ap (λ k. can_insert k path) (sym view)
+    ∙ ap (λ b. not b && can_insert_below (nodes_at m) (parent_of path)) (contains-nodes_at m path ∙ is)
+    ∙ ap (λ p. not taken && can_insert_below (nodes_at m) p) below
+
+pub taken_path : (m : SlotMap) (n : NodeMap) (path : List ℕ) → nodes_at m ≡ n → finite.contains_key m path ≡ true → false ≡ can_insert n path
+taken_path m n path view is = sym (tested m n path (parent_of path) true view refl is)
+
+pub above_all : (m : SlotMap) (n : NodeMap) (path : List ℕ) → nodes_at m ≡ n → parent_of path ≡ None → finite.contains_key m path ≡ false → false ≡ can_insert n path
+above_all m n path view below is = sym (tested m n path None false view below is)
+
+pub takes : (m : SlotMap) (n : NodeMap) (path above : List ℕ) (there : Option Slot) → nodes_at m ≡ n → Some above ≡ parent_of path → finite.contains_key m path ≡ false → finite.get m above ≡ there → takes_children (node_at there) ≡ can_insert n path
+takes m n path above there view below is found =
+    sym (tested m n path (Some above) false view (sym below) is ∙ ap takes_children (get-nodes_at m above ∙ ap node_at found))
+
+-- -1 is the greatest number of 32 bits
+pub last_count : (z : ℤ) → to_z w32 (of_z w32 z) ≡ z → nat_eq (of_z w32 z) 4294967295 ≡ int_eq z (negsuc 0)
+last_count z same = elim (nat_eq (of_z w32 z) 4294967295) as (λ b. nat_eq (of_z w32 z) 4294967295 ≡ b → b ≡ int_eq z (negsuc 0)) [
+  | true ↦ λ e. sym ((Decides-int_eq z (negsuc 0)).1 (sym same ∙ ap (to_z w32) (eqb-true (of_z w32 z) 4294967295 e)))
+  | false ↦ λ e. sym (false_from_ne_true (int_eq z (negsuc 0)) (λ i. eqb-false (of_z w32 z) 4294967295 e (ap (of_z w32) ((Decides-int_eq z (negsuc 0)).0 i))))
+] refl

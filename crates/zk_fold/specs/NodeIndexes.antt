@@ -1,7 +1,8 @@
 -- The effect of a create on the nodes.
-use Rattle.std.specs.Prelude.{◌≡◌, ◌≢◌, ℕ, ℤ, pos, negsuc, List, false, Option, Some, None}
+use Rattle.std.specs.Prelude.{◌≡◌, ◌≢◌, ◌&&◌, ℕ, ℤ, pos, negsuc, List, Bool, false, not, Option, Some, None}
 use Rattle.std.specs.FinMap as finite
 use Rattle.std.specs.FinMap.{get, contains_key}
+use Rattle.std.specs.Ordering.{int_eq}
 use Rattle.zk_path.specs.Paths.{parent_of}
 use Rattle.zk_txn.specs.declared.node.Node.{Node}
 use Rattle.zk_txn.specs.Nodes.{with_child}
@@ -25,3 +26,16 @@ pub record CanInsert (nodes : NodeMap) (path : List ℕ) : Type 0 where
   pub free : contains_key nodes path ≡ false
   pub persistent : parent.owner ≡ pos 0
   pub counted : parent.creates ≢ negsuc 0
+
+-- whether a node exists, has no owner and can count one more
+abbrev pub takes_children : Option Node → Bool
+takes_children None = false
+takes_children (Some parent) = int_eq parent.owner (pos 0) && not (int_eq parent.creates (negsuc 0))
+
+abbrev pub can_insert_below : NodeMap → Option (List ℕ) → Bool
+can_insert_below nodes None = false
+can_insert_below nodes (Some above) = takes_children (get nodes above)
+
+-- whether a path is such a path
+abbrev pub can_insert : NodeMap → List ℕ → Bool
+can_insert nodes path = not (contains_key nodes path) && can_insert_below nodes (parent_of path)

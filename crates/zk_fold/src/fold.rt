@@ -4,7 +4,7 @@ ghost use Rattle.zk_table.specs.Multis.{multi};
 ghost use Rattle.zk_table.specs.States.{start_state};
 ghost use Rattle.zk_table.specs.Steps.{close_session, step};
 ghost use Rattle.zk_tree.specs.Entries.{lent, entries_of};
-ghost use Rattle.zk_fold.specs.NodeIndexes.{CanInsert};
+ghost use Rattle.zk_fold.specs.NodeIndexes.{CanInsert, can_insert};
 
 use crate::node_index::NodeIndex;
 use crate::sessions::Sessions;
@@ -81,7 +81,8 @@ impl Fold {
     /// Whether the path is free and its parent takes children: it has no owner, and does not count
     /// -1 of them.
     pub fn can_insert(&self, path: &Path) -> bool
-        ensures { IsTrue result → CanInsert self.now.state.nodes path.now }
+        ensures room { IsTrue result → CanInsert self.now.state.nodes path.now }
+        ensures exact { result ≡ can_insert self.now.state.nodes path.now }
     {
         self.nodes.can_insert(path)
     }

@@ -6,7 +6,7 @@ ghost use Rattle.zk_table.specs.Operations.{create_fault, delete_fault, without}
 ghost use Rattle.zk_table.specs.States.{start_state, children_of, owned_by, changed};
 ghost use Rattle.zk_tree.specs.Entries.{lent, entries_of};
 ghost use Rattle.zk_tree.specs.Trees.{IsTree};
-ghost use Rattle.zk_fold.specs.NodeIndexes.{put_below, CanInsert};
+ghost use Rattle.zk_fold.specs.NodeIndexes.{put_below, CanInsert, can_insert};
 
 use crate::node_table::NodeTable;
 use crate::owners::Owners;
@@ -114,7 +114,8 @@ impl NodeIndex {
     /// Whether the path is free and its parent takes children: it has no owner, and does not count
     /// -1 of them.
     pub(crate) fn can_insert(&self, path: &Path) -> bool
-        ensures { IsTrue result → CanInsert self.now path.now }
+        ensures room { IsTrue result → CanInsert self.now path.now }
+        ensures exact { result ≡ can_insert self.now path.now }
     {
         if self.places.get(path.text()).is_some() {
             return false;

@@ -1,11 +1,12 @@
 -- A history that continues from a snapshot: its window is replayed on a draft, and later records
 -- are applied to the table.
-use Rattle.std.specs.Prelude.{◌≡◌, ℤ, Bool, true, false, int_le}
+use Rattle.std.specs.Prelude.{◌≡◌, ℤ, Bool, true, false, int_le, Option, None, if◌then◌else◌}
 use Rattle.zk_table.specs.States.{State}
 use Rattle.zk_table.specs.Steps.{step}
 use Rattle.zk_newer_records.specs.declared.newer_record.NewerRecord.{NewerRecord}
-use Rattle.zk_base.specs.Bases.{IsSettled}
+use Rattle.zk_base.specs.Bases.{IsSettled, draft_fault}
 use Rattle.zk_base.specs.declared.draft.Draft.{Draft}
+use Rattle.zk_base.specs.declared.fault.BaseFault.{BaseFault}
 use Rattle.zk_replay.specs.Rules.{nodes_replayed, sessions_replayed}
 use Rattle.zk_replay.specs.declared.stage.Stage.{Stage}
 use Rattle.zk_replay.specs.declared.stage.Stage.TheVariants as stages
@@ -44,3 +45,15 @@ Takes (stages.Table table) exact record_of new = IsTableIn (step table.state rec
 abbrev pub IsRestored : Stage → State → Type 0
 IsRestored (stages.Window draft last) state = IsSettled draft last state
 IsRestored (stages.Table table) state = state ≡ table.state
+
+-- ---- when there is none
+
+-- the fault with which a record is rejected: the draft's, if the record ends the window
+abbrev pub take_fault : Stage → ℤ → NewerRecord → Option BaseFault
+take_fault (stages.Window draft last) exact record_of = if int_le record_of.txn.zxid exact then None else draft_fault draft
+take_fault (stages.Table table) exact record_of = None
+
+-- the draft's fault, if the records end in the window
+abbrev pub finish_fault : Stage → Option BaseFault
+finish_fault (stages.Window draft last) = draft_fault draft
+finish_fault (stages.Table table) = None

@@ -1,10 +1,9 @@
 -- The effect of a window's transactions on the draft of a snapshot. Each overwrites what it writes;
 -- the old value has no effect.
-use Rattle.std.specs.Prelude.{ℕ, ℤ, negsuc, List, [], ◌∷◌, Bool, Option, Some, None, if◌then◌else◌}
+use Rattle.std.specs.Prelude.{ℕ, ℤ, negsuc, List, [], ◌∷◌, Option, Some, None, if◌then◌else◌}
 use Rattle.std.specs.FinMap.{contains_key, insert, remove}
 use Rattle.std.specs.Int.{w64, cast_unsigned}
 use Rattle.std.specs.List.{list_any}
-use Rattle.zk_acl.specs.declared.acl.Acl.{Acl}
 use Rattle.zk_path.specs.Paths.{parent_of}
 use Rattle.zk_txn.specs.declared.node.Node.{Node}
 use Rattle.zk_txn.specs.declared.sub.Sub.{Sub}

@@ -1,8 +1,9 @@
 //! A history that continues from a snapshot.
 
-ghost use Rattle.std.specs.Prelude.{◌≡◌, false, IfOk};
+ghost use Rattle.std.specs.Prelude.{◌≡◌, false, IfOk, None};
 ghost use Rattle.zk_table.specs.Steps.{step};
-ghost use Rattle.zk_replay.specs.Restoring.{Takes, IsTableIn, IsRestored};
+ghost use Rattle.zk_base.specs.Bases.{FailsBy};
+ghost use Rattle.zk_replay.specs.Restoring.{Takes, IsTableIn, IsRestored, take_fault, finish_fault};
 
 use crate::window::replay;
 use std::alloc::Global;
@@ -21,7 +22,8 @@ pub enum Stage {
 
 /// Applies a record to the table.
 fn advance(table: Fold, newer: &NewerRecord) -> Result<Stage, BaseFault>
-    ensures { IfOk result (IsTableIn (step table.state newer.now.txn).0) }
+    ensures applied { IfOk result (IsTableIn (step table.state newer.now.txn).0) }
+    ensures exact { FailsBy None result }
 {
     let mut table = table;
     if table.has_failed() {
@@ -40,7 +42,8 @@ pub fn take(
     exact: i64,
     newer: &NewerRecord,
 ) -> Result<Stage, BaseFault>
-    ensures { IfOk result (Takes stage exact newer.now) }
+    ensures taken { IfOk result (Takes stage exact newer.now) }
+    ensures exact { FailsBy (take_fault stage exact newer.now) result }
 {
     match stage {
         Stage::Window { draft, last } => {
@@ -57,9 +60,11 @@ pub fn take(
     }
 }
 
-/// Returns the table after the last record.
+/// Returns the table after the last record. In the window the draft is settled, which fails with
+/// [`BaseFault::Tree`] or [`BaseFault::Access`] if it holds no state.
 pub fn finish(alloc: Global, stage: Stage) -> Result<Fold, BaseFault>
-    ensures { IfOk result (λ table. IsRestored stage table.state) }
+    ensures restored { IfOk result (λ table. IsRestored stage table.state) }
+    ensures exact { FailsBy (finish_fault stage) result }
 {
     match stage {
         Stage::Window { draft, last } => settle(alloc, draft, last),

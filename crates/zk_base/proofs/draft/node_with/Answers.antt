@@ -1,4 +1,4 @@
-use Rattle.std.proofs.Common.{◌≡◌, w32, w64, to_z, of_z, rules, refl, sym, ap, ◌∙◌}
+use Rattle.std.proofs.Common.{◌≡◌, w32, w64, to_z, of_z, rules, refl, ap, ◌∙◌}
 use Rattle.zk_base.specs.Bases.{shown_owner}
 use Rattle.zk_base.proofs.draft.node_with.Goals as goal
 

@@ -1,4 +1,4 @@
-use Rattle.std.proofs.Common.{◌≡◌, w64, to_z, of_z, rules, sym}
+use Rattle.std.proofs.Common.{◌≡◌, w64, to_z, of_z, rules}
 use Rattle.zk_base.specs.Bases.{latest_of}
 use Rattle.zk_base.proofs.Turning.{latest_on, all_looked}
 use Rattle.zk_base.proofs.exact.latest_of.Goals as goal

@@ -1,4 +1,3 @@
-use Rattle.std.proofs.Common.{rules}
 use Rattle.zk_replay.proofs.Turns.{applies_on, all_applied}
 use Rattle.zk_replay.proofs.rules.apply_parts.Goals as goal
 

@@ -1,4 +1,4 @@
-use Rattle.std.proofs.Common.{◌≡◌, w32, w64, to_z, of_z, rules, sym, ap, subst, ◌∙◌, Option, Some, None}
+use Rattle.std.proofs.Common.{◌≡◌, w32, w64, to_z, of_z, rules, sym, ap, subst, ◌∙◌}
 use Rattle.std.specs.Prelude.{OnOk}
 use Rattle.std.specs.Option.{option_copied}
 use Rattle.zk_fold.proofs.Inserting.{somewhere, parent_is, stood_by}
