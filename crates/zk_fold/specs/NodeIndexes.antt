@@ -36,6 +36,6 @@ abbrev pub can_insert_below : NodeMap → Option (List ℕ) → Bool
 can_insert_below nodes None = false
 can_insert_below nodes (Some above) = takes_children (get nodes above)
 
--- whether a path is such a path
+-- whether a node can be inserted at a path: the test of `CanInsert`
 abbrev pub can_insert : NodeMap → List ℕ → Bool
 can_insert nodes path = not (contains_key nodes path) && can_insert_below nodes (parent_of path)
