@@ -1,0 +1,127 @@
+//! Whole directories.
+ghost use Rattle.std.specs.Prelude.{◌≡◌};
+ghost use Rattle.zk_restore.specs.Directories.{IsRestored, ReadsLog, ReadsLogs};
+
+use crate::fault::{DirectoryFault, RestoreFault};
+use crate::restoration::{Base, Restore};
+use std::alloc::Global;
+use zk_fold::Fold;
+use zk_log::Ending;
+use zk_log_files::read_log_file;
+
+/// The state that a directory holds.
+#[derive(Drop)]
+pub struct Restored {
+    pub table: Fold,
+    /// How many of the logs were read.
+    pub read: usize,
+    /// How the last of these ends; `None` if there is none, or if it is broken after all entries
+    /// that were asked for.
+    pub ending: Option<Ending>,
+}
+
+/// How far logs were read.
+#[derive(Drop)]
+struct Progress<'a> {
+    restore: Restore<'a>,
+    /// How many files.
+    read: usize,
+    /// How the last one ends.
+    ending: Option<Ending>,
+}
+
+/// A log that was read.
+#[derive(Drop)]
+struct Step<'a> {
+    restore: Restore<'a>,
+    ending: Option<Ending>,
+    /// Whether reading goes on with the next file.
+    goes_on: bool,
+}
+
+/// Reads a log.
+fn read_log<'a>(
+    alloc: Global,
+    restore: Restore<'a>,
+    bytes: &'a [u8],
+) -> Result<Step<'a>, RestoreFault>
+    ensures { ReadsLog restore bytes.now result }
+{
+    let file = read_log_file(alloc, bytes)?;
+    let (restore, goes_on) = restore.take_file(alloc, &file)?;
+    let ending = match &file.outcome {
+        Ok(ending) => Some(*ending),
+        Err(_) => None,
+    };
+    Ok(Step {
+        restore,
+        ending,
+        goes_on,
+    })
+}
+
+/// Reads the logs in order, until all that was asked for was taken.
+fn read_logs<'a>(
+    alloc: Global,
+    restore: Restore<'a>,
+    logs: &[&'a [u8]],
+) -> Result<Progress<'a>, DirectoryFault>
+    ensures { ReadsLogs restore logs.now result }
+{
+    let mut restore = restore;
+    let mut read = 0usize;
+    let mut ending = None;
+    for bytes in logs {
+        let step = match read_log(alloc, restore, *bytes) {
+            Ok(step) => step,
+            Err(fault) => return Err(DirectoryFault { log: read, fault }),
+        };
+        restore = step.restore;
+        ending = step.ending;
+        read += 1;
+        if !step.goes_on {
+            return Ok(Progress {
+                restore,
+                read,
+                ending,
+            });
+        }
+    }
+    Ok(Progress {
+        restore,
+        read,
+        ending,
+    })
+}
+
+/// Restores the state that logs lead to, from a base up to the zxid `upto` or to the end of the
+/// logs. `logs` has the bytes of the log files, in order of name, from the one in which the entries
+/// after the base begin ([`zk_directory::first_log`]).
+///
+/// Fails as [`Restore::new`], [`Restore::take_file`] and [`Restore::finish`] do.
+pub fn restore<'a>(
+    alloc: Global,
+    base: Base<'_>,
+    upto: Option<i64>,
+    logs: &[&'a [u8]],
+) -> Result<Restored, DirectoryFault>
+    ensures { IsRestored base upto logs.now result }
+{
+    let start = match Restore::new(alloc, base, upto) {
+        Ok(start) => start,
+        Err(fault) => return Err(DirectoryFault { log: 0, fault }),
+    };
+    let Progress {
+        restore,
+        read,
+        ending,
+    } = read_logs(alloc, start, logs)?;
+    match restore.finish(alloc) {
+        Ok(table) => Ok(Restored {
+            table,
+            read,
+            ending,
+        }),
+        Err(fault) => Err(DirectoryFault { log: read, fault }),
+    }
+}
