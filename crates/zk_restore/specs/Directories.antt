@@ -6,11 +6,13 @@ use Rattle.zk_table.specs.States.{State}
 use Rattle.zk_base.specs.Bases.{IsDraftOf}
 use Rattle.zk_base.specs.declared.draft.Draft.{Draft}
 use Rattle.zk_directory.specs.Chains.{history_of}
+use Rattle.zk_log.specs.declared.loaded.Ending.{Ending}
 use Rattle.zk_log_files.specs.LogFiles.{IsLogFile}
 use Rattle.zk_log_files.specs.declared.file.LogFile.{LogFile}
+use Rattle.zk_log_files.specs.declared.file.LogFileFault.{LogFileFault}
 use Rattle.zk_newer_records.specs.declared.newer_record.NewerRecord.{NewerRecord}
 use Rattle.zk_restore.specs.Joins.{Reading, read_file}
-use Rattle.zk_restore.specs.Restorations.{IsAfterFile, Replays, exact_of, is_before, is_early, reading_of, start_of}
+use Rattle.zk_restore.specs.Restorations.{IsAfterFile, IsFaultOf, Replays, exact_of, is_before, is_early, reading_of, start_of}
 use Rattle.zk_restore.specs.States.{IsStateFrom, txn_of}
 use Rattle.zk_restore.specs.declared.directory.Progress.{Progress}
 use Rattle.zk_restore.specs.declared.directory.Restored.{Restored}
@@ -35,6 +37,15 @@ unfoldable pub read_files : Result Reading RestoreFault → List LogFile → Res
 read_files (Err fault) files = Err fault
 read_files (Ok reading) [] = Ok reading
 read_files (Ok reading) (file ∷ files) = read_files (if reading.is_over then Ok reading else read_file reading file) files
+
+abbrev pub ending_of : Result Ending LogFileFault → Option Ending
+ending_of (Ok ending) = Some ending
+ending_of (Err fault) = None
+
+-- how the last file ends, unless it is broken
+unfoldable pub last_ending : Option Ending → List LogFile → Option Ending
+last_ending ending [] = ending
+last_ending ending (file ∷ files) = last_ending (ending_of file.outcome) files
 
 -- no file was read yet
 abbrev pub start_reading : Base → Option ℤ → Reading
@@ -62,6 +73,7 @@ pub record Restores (base : Base) (upto : Option ℤ) (logs : List (Bor (List �
   pub enough : (restored.read ≡ length logs) ⊎ (reading.is_over ≡ true)
   pub long : is_before reading.history.position (exact_of base) ≡ false
   pub state : IsStateOf base reading.records restored.table.state
+  pub ending : restored.ending ≡ last_ending None files
 
 -- the logs were read up to the fault
 pub record Breaks (base : Base) (upto : Option ℤ) (logs : List (Bor (List ℕ))) (log : ℕ) (fault : RestoreFault) : Type 0 where
@@ -81,8 +93,8 @@ pub record Ends (base : Base) (upto : Option ℤ) (logs : List (Bor (List ℕ)))
   pub short : is_before reading.history.position (exact_of base) ≡ true
 
 abbrev pub FailsBy : Base → Option ℤ → List (Bor (List ℕ)) → ℕ → RestoreFault → Type 0
-FailsBy base upto logs log (faults.Early zxid) = (is_early base upto ≡ true) × (zxid ≡ exact_of base)
-FailsBy base upto logs log (faults.Short zxid) = Ends base upto logs log × (zxid ≡ exact_of base)
+FailsBy base upto logs log (faults.Early exact) = (is_early base upto ≡ true) × (exact ≡ exact_of base)
+FailsBy base upto logs log (faults.Short exact) = Ends base upto logs log × (exact ≡ exact_of base)
 FailsBy base upto logs log faults.NoMemory = is_early base upto ≡ false
 FailsBy base upto logs log faults.Tree = is_early base upto ≡ false
 FailsBy base upto logs log faults.Access = is_early base upto ≡ false
@@ -99,42 +111,36 @@ pub record IsAfterLog (old : Restore) (bytes : List ℕ) (step : Step) : Type 0 
   pub file : LogFile
   pub of_bytes : IsLogFile bytes file
   pub after : IsAfterFile old file step.restore step.goes_on
-
--- a log was read up to its fault
-abbrev pub BreaksIn : Restore → List ℕ → RestoreFault → Type 0
-BreaksIn old bytes fault = (file : LogFile) × IsLogFile bytes file × (read_file (reading_of old) file ≡ Err fault)
+  pub ending : step.ending ≡ ending_of file.outcome
 
 abbrev pub ReadsLog : Restore → List ℕ → Result Step RestoreFault → Type 0
 ReadsLog old bytes (Ok step) = IsAfterLog old bytes step
 ReadsLog old bytes (Err faults.NoMemory) = Unit {0}
-ReadsLog old bytes (Err faults.Tree) = Unit {0}
-ReadsLog old bytes (Err faults.Access) = Unit {0}
-ReadsLog old bytes (Err fault) = BreaksIn old bytes fault
+ReadsLog old bytes (Err fault) = (file : LogFile) × IsLogFile bytes file × IsFaultOf (read_file (reading_of old) file) fault
 
--- logs were read
-pub record AreRead (old : Restore) (logs : List (Bor (List ℕ))) (read : ℕ) (new : Restore) : Type 0 where
+-- logs were read; reading is over, or goes on
+pub record AreRead (old : Restore) (logs : List (Bor (List ℕ))) (read : ℕ) (new : Restore) (over : Bool) (ending : Option Ending) : Type 0 where
   pub files : List LogFile
   pub of_logs : AreLogFiles (take read logs) files
-  pub reading : Reading
-  pub of_files : read_files (Ok (reading_of old)) files ≡ Ok reading
-  pub history : history_of new.chain ≡ reading.history
+  pub records : List NewerRecord
+  pub of_files : read_files (Ok (reading_of old)) files ≡ Ok (record { history = history_of new.chain; records = records; is_over = over })
   pub exact : new.exact ≡ old.exact
-  pub stage : Replays old.stage old.exact reading.records new.stage
+  pub stage : Replays old.stage old.exact records new.stage
+  pub last : ending ≡ last_ending None files
 
 pub record AreAllRead (old : Restore) (logs : List (Bor (List ℕ))) (progress : Progress) : Type 0 where
-  pub after : AreRead old logs progress.read progress.restore
-  pub enough : (progress.read ≡ length logs) ⊎ (after.reading.is_over ≡ true)
+  pub over : Bool
+  pub after : AreRead old logs progress.read progress.restore over progress.ending
+  pub enough : (progress.read ≡ length logs) ⊎ (over ≡ true)
 
 -- logs were read up to a fault
 pub record AreBroken (old : Restore) (logs : List (Bor (List ℕ))) (log : ℕ) (fault : RestoreFault) : Type 0 where
   pub files : List LogFile
   pub of_logs : AreLogFiles (take (log + 1) logs) files
-  pub of_files : read_files (Ok (reading_of old)) files ≡ Err fault
+  pub of_files : IsFaultOf (read_files (Ok (reading_of old)) files) fault
 
 abbrev pub FailsIn : Restore → List (Bor (List ℕ)) → ℕ → RestoreFault → Type 0
 FailsIn old logs log faults.NoMemory = Unit {0}
-FailsIn old logs log faults.Tree = Unit {0}
-FailsIn old logs log faults.Access = Unit {0}
 FailsIn old logs log fault = AreBroken old logs log fault
 
 abbrev pub ReadsLogs : Restore → List (Bor (List ℕ)) → Result Progress DirectoryFault → Type 0

@@ -59,6 +59,7 @@ abbrev pub Begins : Base → Option ℤ → Result Restore RestoreFault → Type
 Begins base upto (Ok restore) = IsBegun base upto restore
 Begins base upto (Err (faults.Early zxid)) = (is_early base upto ≡ true) × (zxid ≡ exact_of base)
 Begins base upto (Err faults.Tree) = is_early base upto ≡ false
+Begins base upto (Err faults.Access) = is_early base upto ≡ false
 Begins base upto (Err faults.NoMemory) = is_early base upto ≡ false
 Begins base upto (Err fault) = ⊥
 
@@ -69,17 +70,20 @@ StageAfter Take old exact newer new = Takes old exact newer new
 StageAfter turn old exact newer new = new ≡ old
 
 pub record IsAfterEntry (old : Restore) (entry : FileEntry) (new : Restore) (turn : Turn) : Type 0 where
-  pub decision : decision (history_of old.chain) entry ≡ Ok turn
+  pub decided : decision (history_of old.chain) entry ≡ Ok turn
   pub history : history_of new.chain ≡ after_turn (history_of old.chain) (told_of entry) turn
   pub exact : new.exact ≡ old.exact
   pub stage : StageAfter turn old.stage old.exact entry.newer new.stage
 
 abbrev pub Goes : Restore → FileEntry → Result (Restore × Turn) RestoreFault → Type 0
-Goes old entry (Ok (new, turn)) = IsAfterEntry old entry new turn
-Goes old entry (Err faults.NoMemory) = Unit {0}
+Goes old entry (Ok next) = IsAfterEntry old entry next.0 next.1
+Goes old entry (Err (faults.Purged first)) = decision (history_of old.chain) entry ≡ Err (faults.Purged first)
+Goes old entry (Err (faults.Gap from to)) = decision (history_of old.chain) entry ≡ Err (faults.Gap from to)
+Goes old entry (Err (faults.Differs at)) = decision (history_of old.chain) entry ≡ Err (faults.Differs at)
 Goes old entry (Err faults.Tree) = decision (history_of old.chain) entry ≡ Ok Take
 Goes old entry (Err faults.Access) = decision (history_of old.chain) entry ≡ Ok Take
-Goes old entry (Err fault) = decision (history_of old.chain) entry ≡ Err fault
+Goes old entry (Err faults.NoMemory) = Unit {0}
+Goes old entry (Err fault) = ⊥
 
 -- ---- entries in order
 
@@ -98,12 +102,18 @@ pub record IsAfterFile (old : Restore) (file : LogFile) (new : Restore) (goes_on
   pub exact : new.exact ≡ old.exact
   pub stage : Replays old.stage old.exact records new.stage
 
+-- a fault of the logs is the first one; those of a snapshot come as its window ends
+abbrev pub IsFaultOf : Result Reading RestoreFault → RestoreFault → Type 0
+IsFaultOf read faults.NoMemory = Unit {0}
+IsFaultOf read faults.Tree = Unit {0}
+IsFaultOf read faults.Access = Unit {0}
+IsFaultOf read (faults.Early exact) = ⊥
+IsFaultOf read (faults.Short exact) = ⊥
+IsFaultOf read fault = read ≡ Err fault
+
 abbrev pub GoesThrough : Restore → LogFile → Result (Restore × Bool) RestoreFault → Type 0
-GoesThrough old file (Ok (new, goes_on)) = IsAfterFile old file new goes_on
-GoesThrough old file (Err faults.NoMemory) = Unit {0}
-GoesThrough old file (Err faults.Tree) = Unit {0}
-GoesThrough old file (Err faults.Access) = Unit {0}
-GoesThrough old file (Err fault) = read_file (reading_of old) file ≡ Err fault
+GoesThrough old file (Ok next) = IsAfterFile old file next.0 next.1
+GoesThrough old file (Err fault) = IsFaultOf (read_file (reading_of old) file) fault
 
 -- ---- the end
 

@@ -1,13 +1,13 @@
 //! Whole directories.
 ghost use Rattle.std.specs.Prelude.{◌≡◌};
-ghost use Rattle.zk_restore.specs.Directories.{IsRestored, ReadsLog, ReadsLogs};
+ghost use Rattle.zk_restore.specs.Directories.{IsRestored, ReadsLog, ReadsLogs, ending_of};
 
 use crate::fault::{DirectoryFault, RestoreFault};
 use crate::restoration::{Base, Restore};
 use std::alloc::Global;
 use zk_fold::Fold;
 use zk_log::Ending;
-use zk_log_files::read_log_file;
+use zk_log_files::{LogFile, read_log_file};
 
 /// The state that a directory holds.
 #[derive(Drop)]
@@ -39,6 +39,16 @@ struct Step<'a> {
     goes_on: bool,
 }
 
+/// How a log file ends, unless it is broken.
+fn ending_of(file: &LogFile<'_>) -> Option<Ending>
+    ensures { result ≡ ending_of file.now.outcome }
+{
+    match &file.outcome {
+        Ok(ending) => Some(*ending),
+        Err(_) => None,
+    }
+}
+
 /// Reads a log.
 fn read_log<'a>(
     alloc: Global,
@@ -49,18 +59,15 @@ fn read_log<'a>(
 {
     let file = read_log_file(alloc, bytes)?;
     let (restore, goes_on) = restore.take_file(alloc, &file)?;
-    let ending = match &file.outcome {
-        Ok(ending) => Some(*ending),
-        Err(_) => None,
-    };
     Ok(Step {
         restore,
-        ending,
+        ending: ending_of(&file),
         goes_on,
     })
 }
 
 /// Reads the logs in order, until all that was asked for was taken.
+#[tactic(auto, using(crate::proofs::Files::none_read, crate::proofs::Files::one_read, crate::proofs::Files::log_broken))]
 fn read_logs<'a>(
     alloc: Global,
     restore: Restore<'a>,
@@ -72,14 +79,18 @@ fn read_logs<'a>(
     let mut read = 0usize;
     let mut ending = None;
     for bytes in logs {
-        let step = match read_log(alloc, restore, *bytes) {
+        let Step {
+            restore: next,
+            ending: last,
+            goes_on,
+        } = match read_log(alloc, restore, *bytes) {
             Ok(step) => step,
             Err(fault) => return Err(DirectoryFault { log: read, fault }),
         };
-        restore = step.restore;
-        ending = step.ending;
+        restore = next;
+        ending = last;
         read += 1;
-        if !step.goes_on {
+        if !goes_on {
             return Ok(Progress {
                 restore,
                 read,
@@ -99,6 +110,7 @@ fn read_logs<'a>(
 /// after the base begin ([`zk_directory::first_log`]).
 ///
 /// Fails as [`Restore::new`], [`Restore::take_file`] and [`Restore::finish`] do.
+#[tactic(auto, using(crate::proofs::Wholes::restores, crate::proofs::Wholes::start_fails, crate::proofs::Wholes::logs_fail, crate::proofs::Wholes::end_fails))]
 pub fn restore<'a>(
     alloc: Global,
     base: Base<'_>,

@@ -21,10 +21,7 @@ fn fault_at(at: u64, fault: ChainFault) -> RestoreFault
 
 /// Takes the next entry of the log files, which are read in order, and returns the decision on it.
 /// A fault leaves the chain unchanged.
-pub fn take_entry<'a>(
-    chain: &mut Chain<'a>,
-    entry: &FileEntry<'a>,
-) -> Result<Turn, RestoreFault>
+pub fn take_entry<'a>(chain: &mut Chain<'a>, entry: &FileEntry<'a>) -> Result<Turn, RestoreFault>
     ensures { TakesEntry (history_of chain.old) entry.now result (history_of chain.new) }
 {
     let told = LogEntry {

@@ -1,6 +1,6 @@
 //! A restoration under way.
-ghost use Rattle.std.specs.Prelude.{◌≡◌, IfOk};
-ghost use Rattle.zk_restore.specs.Restorations.{Begins, Finishes, Goes, GoesThrough};
+ghost use Rattle.std.specs.Prelude.{◌≡◌};
+ghost use Rattle.zk_restore.specs.Restorations.{Begins, Finishes, Goes, GoesThrough, is_before};
 
 use crate::fault::RestoreFault;
 use crate::joining::{check_end, take_entry};
@@ -35,10 +35,12 @@ pub struct Restore<'a> {
     stage: Stage,
 }
 
-/// Whether the state is asked for before the zxid from which a snapshot is exact.
-fn is_early(upto: Option<i64>, exact: i64) -> bool {
-    match upto {
-        Some(upto) => upto < exact,
+/// Whether a zxid comes before the one from which a snapshot is exact; none is the end of the logs.
+fn is_before(zxid: Option<i64>, exact: i64) -> bool
+    ensures { result ≡ is_before zxid exact }
+{
+    match zxid {
+        Some(zxid) => zxid < exact,
         None => false,
     }
 }
@@ -69,7 +71,7 @@ impl<'a> Restore<'a> {
                 zxid,
                 exact,
             } => {
-                if is_early(upto, exact) {
+                if is_before(upto, exact) {
                     return Err(RestoreFault::Early { exact });
                 }
                 let draft = Draft::of(alloc, contents)?;
@@ -89,6 +91,7 @@ impl<'a> Restore<'a> {
     /// Fails with [`RestoreFault::Purged`], [`RestoreFault::Gap`] or [`RestoreFault::Differs`] if
     /// the entry does not continue the history. The first entry after a snapshot's window fails
     /// with [`RestoreFault::Tree`] or [`RestoreFault::Access`] if the window leads to no state.
+    #[tactic(auto, using(crate::proofs::Joined::entry_fails, crate::proofs::Joined::stage_fails))]
     pub fn take(
         self,
         alloc: Global,
@@ -125,6 +128,7 @@ impl<'a> Restore<'a> {
     ///
     /// Fails as [`Restore::take`] does, and with [`RestoreFault::Log`] if the file is broken after
     /// its entries, and a later entry is asked for.
+    #[tactic(auto, using(crate::proofs::Joined::none_taken, crate::proofs::Joined::one_taken, crate::proofs::Joined::over_at, crate::proofs::Joined::to_the_end, crate::proofs::Joined::end_broken, crate::proofs::Joined::entry_broken))]
     pub fn take_file(
         self,
         alloc: Global,
@@ -157,9 +161,7 @@ impl<'a> Restore<'a> {
             exact,
             stage,
         } = self;
-        if let Some(position) = chain.position
-            && position < exact
-        {
+        if is_before(chain.position, exact) {
             return Err(RestoreFault::Short { exact });
         }
         Ok(finish(alloc, stage)?)

@@ -1,0 +1,182 @@
+-- Files, one after another.
+use Rattle.std.proofs.Common.{◌≡◌, ◌⊎◌, ℕ, ℤ, ◌+◌, ◌<◌, ◌≤◌, Bool, true, false, cond, List, [], ◌∷◌, ◌++◌, length, take, get_or, map, Option, Some, None, Result, Ok, Err, refl, sym, ap, ◌∙◌, subst, append_assoc, append-nil, arith}
+use Rattle.std.proofs.lemmas.List.{take_more}
+use Rattle.std.specs.Borrow.{Bor}
+use Rattle.std.specs.Prelude.{not}
+use Rattle.zk_directory.specs.Chains.{History, history_of}
+use Rattle.zk_directory.specs.declared.chain.Turn.{Turn}
+use Rattle.zk_directory.specs.declared.chain.Turn.TheVariants.{Take, Skip, Stop}
+use Rattle.zk_log.specs.declared.loaded.Ending.{Ending}
+use Rattle.zk_log_files.specs.LogFiles.{IsLogFile}
+use Rattle.zk_log_files.specs.declared.file.FileEntry.{FileEntry}
+use Rattle.zk_log_files.specs.declared.file.LogFile.{LogFile}
+use Rattle.zk_newer_records.specs.declared.newer_record.NewerRecord.{NewerRecord}
+use Rattle.zk_replay.specs.declared.stage.Stage.{Stage}
+use Rattle.zk_restore.proofs.Joined.{broken, going, none_left, read_on}
+use Rattle.zk_restore.proofs.Leading.{joined, no_records}
+use Rattle.zk_restore.specs.Directories.{AreBroken, AreLogFiles, AreRead, FailsIn, IsAfterLog, ReadsLog, ending_of, last_ending, read_files}
+use Rattle.zk_restore.specs.Joins.{Reading, decision, end_of, ended_by, is_wanted, read_by, read_end, read_entries, read_entry, read_file, told_of, with_turn}
+use Rattle.zk_restore.specs.Restorations.{IsAfterFile, IsFaultOf, Replays, reading_of}
+use Rattle.zk_restore.specs.declared.directory.Step.{Step}
+use Rattle.zk_restore.specs.declared.fault.RestoreFault.{RestoreFault}
+use Rattle.zk_restore.specs.declared.fault.RestoreFault.TheVariants as faults
+use Rattle.zk_restore.specs.declared.restoration.Restore.{Restore}
+
+-- ---- records that were taken before
+
+abbrev pub behind : List NewerRecord → Reading → Reading
+behind front reading = record { history = reading.history; records = front ++ reading.records; is_over = reading.is_over }
+
+abbrev pub all_behind : List NewerRecord → Result Reading RestoreFault → Result Reading RestoreFault
+all_behind front (Ok reading) = Ok (behind front reading)
+all_behind front (Err fault) = Err fault
+
+turn_behind : (front : List NewerRecord) (reading : Reading) (entry : FileEntry) (d : Result Turn RestoreFault) → read_by (behind front reading) entry d ≡ all_behind front (read_by reading entry d)
+turn_behind front reading entry (Err fault) = refl
+turn_behind front reading entry (Ok Take) =
+    ap (λ l. let r : Reading = record { history = (with_turn reading entry Take).history; records = l; is_over = false } in let x : Result Reading RestoreFault = Ok r in x) (append_assoc front reading.records (entry.newer ∷ []))
+turn_behind front reading entry (Ok Skip) = refl
+turn_behind front reading entry (Ok Stop) = refl
+
+entry_by : (over : Bool) (front : List NewerRecord) (reading : Reading) (entry : FileEntry)
+    → cond over (Ok (behind front reading)) (read_by (behind front reading) entry (decision reading.history entry)) ≡ all_behind front (cond over (Ok reading) (read_by reading entry (decision reading.history entry)))
+entry_by true front reading entry = refl
+entry_by false front reading entry = turn_behind front reading entry (decision reading.history entry)
+
+entries_behind : (front : List NewerRecord) (x : Result Reading RestoreFault) (entries : List FileEntry) → read_entries (all_behind front x) entries ≡ all_behind front (read_entries x entries)
+entries_behind front (Err fault) entries = broken fault entries ∙ ap (all_behind front) (sym (broken fault entries))
+entries_behind front (Ok reading) [] = none_left (behind front reading) ∙ ap (all_behind front) (sym (none_left reading))
+entries_behind front (Ok reading) (entry ∷ entries) =
+    read_on (behind front reading) entry entries
+    ∙ ap (λ y. read_entries y entries) (entry_by reading.is_over front reading entry)
+    ∙ entries_behind front (read_entry reading entry) entries
+    ∙ ap (all_behind front) (sym (read_on reading entry entries))
+
+ended_behind : (front : List NewerRecord) (reading : Reading) (end : Result (Unit {0}) RestoreFault) → ended_by (behind front reading) end ≡ all_behind front (ended_by reading end)
+ended_behind front reading (Ok none) = refl
+ended_behind front reading (Err fault) = refl
+
+end_by : (over : Bool) (front : List NewerRecord) (reading : Reading) (end : Result (Unit {0}) RestoreFault)
+    → cond over (Ok (behind front reading)) (ended_by (behind front reading) end) ≡ all_behind front (cond over (Ok reading) (ended_by reading end))
+end_by true front reading end = refl
+end_by false front reading end = ended_behind front reading end
+
+end_behind : (front : List NewerRecord) (x : Result Reading RestoreFault) (file : LogFile) → read_end file (all_behind front x) ≡ all_behind front (read_end file x)
+end_behind front (Err fault) file = refl
+end_behind front (Ok reading) file = end_by reading.is_over front reading (end_of (is_wanted reading.history) file.outcome)
+
+pub file_behind : (front : List NewerRecord) (reading : Reading) (file : LogFile) → read_file (behind front reading) file ≡ all_behind front (read_file reading file)
+file_behind front reading file =
+    ap (read_end file) (entries_behind front (Ok reading) file.entries.items)
+    ∙ end_behind front (read_entries (Ok reading) file.entries.items) file
+
+-- ---- one file more
+
+no_files : (x : Result Reading RestoreFault) → read_files x [] ≡ x
+unfolding read_files
+no_files (Ok reading) = refl
+no_files (Err fault) = refl
+
+files_broken : (fault : RestoreFault) (files : List LogFile) → read_files (Err fault) files ≡ Err fault
+unfolding read_files
+files_broken fault files = refl
+
+files_on : (reading : Reading) (file : LogFile) (files : List LogFile) → read_files (Ok reading) (file ∷ files) ≡ read_files (cond reading.is_over (Ok reading) (read_file reading file)) files
+unfolding read_files
+files_on reading file files = refl
+
+then_files : (x : Result Reading RestoreFault) (files more : List LogFile) → read_files x (files ++ more) ≡ read_files (read_files x files) more
+then_files (Err fault) files more = files_broken fault (files ++ more) ∙ sym (ap (λ y. read_files y more) (files_broken fault files) ∙ files_broken fault more)
+then_files (Ok reading) [] more = ap (λ y. read_files y more) (sym (no_files (Ok reading)))
+then_files (Ok reading) (file ∷ files) more =
+    files_on reading file (files ++ more)
+    ∙ then_files (cond reading.is_over (Ok reading) (read_file reading file)) files more
+    ∙ ap (λ y. read_files y more) (sym (files_on reading file files))
+
+-- the next file, after others
+next_file : (start : Result Reading RestoreFault) (files : List LogFile) (file : LogFile) (history : History) (records : List NewerRecord) (last : Result Reading RestoreFault)
+    → read_files start files ≡ Ok (going history records) → read_file (going history []) file ≡ last → read_files start (files ++ file ∷ []) ≡ all_behind records last
+next_file start files file history records last so_far one =
+    then_files start files (file ∷ [])
+    ∙ ap (λ y. read_files y (file ∷ [])) so_far
+    ∙ files_on (going history records) file []
+    ∙ no_files (read_file (going history records) file)
+    ∙ ap (λ l. read_file (going history l) file) (sym (append-nil records))
+    ∙ file_behind records (going history []) file
+    ∙ ap (all_behind records) one
+
+more_files : (logs : List (Bor (List ℕ))) (files : List LogFile) (bytes : Bor (List ℕ)) (file : LogFile) → AreLogFiles logs files → IsLogFile bytes.now file → AreLogFiles (logs ++ bytes ∷ []) (files ++ file ∷ [])
+more_files [] [] bytes file are is = (is, tt)
+more_files [] (other ∷ files) bytes file are is = absurd are
+more_files (other ∷ logs) [] bytes file are is = absurd are
+more_files (other ∷ logs) (one ∷ files) bytes file are is = (are.0, more_files logs files bytes file are.1 is)
+
+taken_more : (logs : List (Bor (List ℕ))) (i : ℕ) (bytes : Bor (List ℕ)) (files : List LogFile) (file : LogFile) → i < length logs → bytes ≡ get_or logs i bytes → AreLogFiles (take i logs) files → IsLogFile bytes.now file
+    → AreLogFiles (take (i + 1) logs) (files ++ file ∷ [])
+taken_more logs i bytes files file lt is are one =
+    subst (λ l. AreLogFiles l (files ++ file ∷ [])) (sym (take_more logs i bytes lt ∙ ap (λ b. take i logs ++ b ∷ []) (sym is))) (more_files (take i logs) files bytes file are one)
+
+no_ending : (ending : Option Ending) → last_ending ending [] ≡ ending
+unfolding last_ending
+no_ending ending = refl
+
+ending_on : (ending : Option Ending) (file : LogFile) (files : List LogFile) → last_ending ending (file ∷ files) ≡ last_ending (ending_of file.outcome) files
+unfolding last_ending
+ending_on ending file files = refl
+
+ends_with : (ending : Option Ending) (files : List LogFile) (file : LogFile) → last_ending ending (files ++ file ∷ []) ≡ ending_of file.outcome
+ends_with ending [] file = ending_on ending file [] ∙ no_ending (ending_of file.outcome)
+ends_with ending (one ∷ files) file = ending_on ending one (files ++ file ∷ []) ∙ ends_with (ending_of one.outcome) files file
+
+-- no file yet
+pub none_read : (start : Restore) (logs : List (Bor (List ℕ))) → AreRead start logs 0 start false None
+none_read start logs = record {
+  files = [];
+  of_logs = tt;
+  records = [];
+  of_files = no_files (Ok (reading_of start));
+  exact = refl;
+  stage = no_records start.stage start.exact;
+  last = sym (no_ending None);
+}
+
+-- one more was read
+pub one_read : (start old : Restore) (logs : List (Bor (List ℕ))) (i : ℕ) (bytes : Bor (List ℕ)) (step : Step) (ending : Option Ending) → i < length logs → bytes ≡ get_or logs i bytes → AreRead start logs i old false ending → IsAfterLog old bytes.now step
+    → AreRead start logs (i + 1) step.restore (not step.goes_on) step.ending
+one_read start old logs i bytes step ending lt is so_far after = record {
+  files = so_far.files ++ after.file ∷ [];
+  of_logs = taken_more logs i bytes so_far.files after.file lt is so_far.of_logs after.of_bytes;
+  records = so_far.records ++ after.after.records;
+  of_files = next_file (Ok (reading_of start)) so_far.files after.file (history_of old.chain) so_far.records _ so_far.of_files after.after.read;
+  exact = after.after.exact ∙ so_far.exact;
+  stage = joined start.stage old.stage step.restore.stage start.exact so_far.records after.after.records so_far.stage (subst (λ z. Replays old.stage z after.after.records step.restore.stage) so_far.exact after.after.stage);
+  last = after.ending ∙ sym (ends_with None so_far.files after.file);
+}
+
+fault_behind : (front : List NewerRecord) (read all : Result Reading RestoreFault) (fault : RestoreFault) → IsFaultOf read fault → (read ≡ Err fault → all ≡ Err fault) → IsFaultOf all fault
+fault_behind front read all (faults.Purged first) f told = told f
+fault_behind front read all (faults.Gap from to) f told = told f
+fault_behind front read all (faults.Differs at) f told = told f
+fault_behind front read all (faults.Short exact) f told = absurd f
+fault_behind front read all (faults.Early exact) f told = absurd f
+fault_behind front read all (faults.Log broken) f told = told f
+fault_behind front read all faults.Tree f told = tt
+fault_behind front read all faults.Access f told = tt
+fault_behind front read all faults.NoMemory f told = tt
+
+-- the next one is broken
+pub one_broken : (start old : Restore) (logs : List (Bor (List ℕ))) (i : ℕ) (bytes : Bor (List ℕ)) (fault : RestoreFault) (ending : Option Ending) (file : LogFile) → i < length logs → bytes ≡ get_or logs i bytes → AreRead start logs i old false ending
+    → IsLogFile bytes.now file → IsFaultOf (read_file (reading_of old) file) fault → AreBroken start logs i fault
+one_broken start old logs i bytes fault ending file lt is so_far of_bytes broken = record {
+  files = so_far.files ++ file ∷ [];
+  of_logs = taken_more logs i bytes so_far.files file lt is so_far.of_logs of_bytes;
+  of_files =
+      fault_behind so_far.records (read_file (reading_of old) file) (read_files (Ok (reading_of start)) (so_far.files ++ file ∷ [])) fault broken
+      (λ e. next_file (Ok (reading_of start)) so_far.files file (history_of old.chain) so_far.records (Err fault) so_far.of_files e);
+}
+
+-- as the contract of the call says it
+pub log_broken : (start old : Restore) (logs : List (Bor (List ℕ))) (i : ℕ) (bytes : Bor (List ℕ)) (fault : RestoreFault) (ending : Option Ending) → i < length logs → bytes ≡ get_or logs i bytes → AreRead start logs i old false ending → ReadsLog old bytes.now (Err fault)
+    → FailsIn start logs i fault
+log_broken start old logs i bytes faults.NoMemory ending lt is so_far r = tt
+log_broken start old logs i bytes fault ending lt is so_far r = one_broken start old logs i bytes fault ending r.0 lt is so_far r.1 r.2
