@@ -12,9 +12,10 @@ use Rattle.zk_log_files.specs.declared.file.FileEntry.{FileEntry}
 use Rattle.zk_log_files.specs.declared.file.LogFile.{LogFile}
 use Rattle.zk_newer_records.specs.declared.newer_record.NewerRecord.{NewerRecord}
 use Rattle.zk_replay.specs.declared.stage.Stage.{Stage}
-use Rattle.zk_restore.proofs.Joined.{broken, going, none_left, read_on}
+use Rattle.zk_restore.proofs.Joined.{going, none_left, read_step}
 use Rattle.zk_restore.proofs.Leading.{joined, no_records}
-use Rattle.zk_restore.specs.Directories.{AreBroken, AreLogFiles, AreRead, FailsIn, IsAfterLog, ReadsLog, ending_of, last_ending, read_files}
+use Rattle.zk_restore.specs.Directories.{AreBroken, AreLogFiles, AreRead, FailsIn, IsAfterLog, ReadsLog, ending_of, last_ending, read_files, read_next}
+use Rattle.zk_restore.specs.Joins as joins
 use Rattle.zk_restore.specs.Joins.{Reading, decision, end_of, ended_by, is_wanted, read_by, read_end, read_entries, read_entry, read_file, told_of, with_turn}
 use Rattle.zk_restore.specs.Restorations.{IsAfterFile, IsFaultOf, Replays, reading_of}
 use Rattle.zk_restore.specs.declared.directory.Step.{Step}
@@ -43,14 +44,17 @@ entry_by : (over : Bool) (front : List NewerRecord) (reading : Reading) (entry :
 entry_by true front reading entry = refl
 entry_by false front reading entry = turn_behind front reading entry (decision reading.history entry)
 
-entries_behind : (front : List NewerRecord) (x : Result Reading RestoreFault) (entries : List FileEntry) → read_entries (all_behind front x) entries ≡ all_behind front (read_entries x entries)
-entries_behind front (Err fault) entries = broken fault entries ∙ ap (all_behind front) (sym (broken fault entries))
-entries_behind front (Ok reading) [] = none_left (behind front reading) ∙ ap (all_behind front) (sym (none_left reading))
-entries_behind front (Ok reading) (entry ∷ entries) =
-    read_on (behind front reading) entry entries
-    ∙ ap (λ y. read_entries y entries) (entry_by reading.is_over front reading entry)
-    ∙ entries_behind front (read_entry reading entry) entries
-    ∙ ap (all_behind front) (sym (read_on reading entry entries))
+next_behind : (front : List NewerRecord) (read : Result Reading RestoreFault) (entry : FileEntry) → joins.read_next (all_behind front read) entry ≡ all_behind front (joins.read_next read entry)
+next_behind front (Ok reading) entry = entry_by reading.is_over front reading entry
+next_behind front (Err fault) entry = refl
+
+entries_behind : (front : List NewerRecord) (read : Result Reading RestoreFault) (entries : List FileEntry) → read_entries (all_behind front read) entries ≡ all_behind front (read_entries read entries)
+entries_behind front read [] = none_left (all_behind front read) ∙ ap (all_behind front) (sym (none_left read))
+entries_behind front read (entry ∷ entries) =
+    read_step (all_behind front read) entry entries
+    ∙ ap (λ y. read_entries y entries) (next_behind front read entry)
+    ∙ entries_behind front (joins.read_next read entry) entries
+    ∙ ap (all_behind front) (sym (read_step read entry entries))
 
 ended_behind : (front : List NewerRecord) (reading : Reading) (end : Result (Unit {0}) RestoreFault) → ended_by (behind front reading) end ≡ all_behind front (ended_by reading end)
 ended_behind front reading (Ok none) = refl
@@ -72,26 +76,20 @@ file_behind front reading file =
 
 -- ---- one file more
 
-no_files : (x : Result Reading RestoreFault) → read_files x [] ≡ x
+no_files : (read : Result Reading RestoreFault) → read_files read [] ≡ read
 unfolding read_files
-no_files (Ok reading) = refl
-no_files (Err fault) = refl
+no_files read = refl
 
-files_broken : (fault : RestoreFault) (files : List LogFile) → read_files (Err fault) files ≡ Err fault
+files_on : (read : Result Reading RestoreFault) (file : LogFile) (files : List LogFile) → read_files read (file ∷ files) ≡ read_files (read_next read file) files
 unfolding read_files
-files_broken fault files = refl
+files_on read file files = refl
 
-files_on : (reading : Reading) (file : LogFile) (files : List LogFile) → read_files (Ok reading) (file ∷ files) ≡ read_files (cond reading.is_over (Ok reading) (read_file reading file)) files
-unfolding read_files
-files_on reading file files = refl
-
-then_files : (x : Result Reading RestoreFault) (files more : List LogFile) → read_files x (files ++ more) ≡ read_files (read_files x files) more
-then_files (Err fault) files more = files_broken fault (files ++ more) ∙ sym (ap (λ y. read_files y more) (files_broken fault files) ∙ files_broken fault more)
-then_files (Ok reading) [] more = ap (λ y. read_files y more) (sym (no_files (Ok reading)))
-then_files (Ok reading) (file ∷ files) more =
-    files_on reading file (files ++ more)
-    ∙ then_files (cond reading.is_over (Ok reading) (read_file reading file)) files more
-    ∙ ap (λ y. read_files y more) (sym (files_on reading file files))
+then_files : (read : Result Reading RestoreFault) (files more : List LogFile) → read_files read (files ++ more) ≡ read_files (read_files read files) more
+then_files read [] more = ap (λ y. read_files y more) (sym (no_files read))
+then_files read (file ∷ files) more =
+    files_on read file (files ++ more)
+    ∙ then_files (read_next read file) files more
+    ∙ ap (λ y. read_files y more) (sym (files_on read file files))
 
 -- the next file, after others
 next_file : (start : Result Reading RestoreFault) (files : List LogFile) (file : LogFile) (history : History) (records : List NewerRecord) (last : Result Reading RestoreFault)
@@ -99,7 +97,7 @@ next_file : (start : Result Reading RestoreFault) (files : List LogFile) (file :
 next_file start files file history records last so_far one =
     then_files start files (file ∷ [])
     ∙ ap (λ y. read_files y (file ∷ [])) so_far
-    ∙ files_on (going history records) file []
+    ∙ files_on (Ok (going history records)) file []
     ∙ no_files (read_file (going history records) file)
     ∙ ap (λ l. read_file (going history l) file) (sym (append-nil records))
     ∙ file_behind records (going history []) file

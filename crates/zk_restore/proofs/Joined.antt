@@ -16,7 +16,7 @@ use Rattle.zk_log_files.specs.declared.file.LogFileFault.{LogFileFault}
 use Rattle.zk_newer_records.specs.declared.newer_record.NewerRecord.{NewerRecord}
 use Rattle.zk_replay.specs.Restoring.{Takes}
 use Rattle.zk_restore.proofs.Leading.{no_records, one_more}
-use Rattle.zk_restore.specs.Joins.{Reading, TakesEntry, decided, decision, end_of, ended_by, fault_of_base, is_wanted, read_by, read_end, read_entries, read_entry, read_file, told_of, with_turn}
+use Rattle.zk_restore.specs.Joins.{Reading, TakesEntry, decided, decision, end_of, ended_by, fault_of_base, is_wanted, read_by, read_end, read_entries, read_entry, read_file, read_next, told_of, with_turn}
 use Rattle.zk_restore.specs.Restorations.{Goes, GoesThrough, IsAfterEntry, IsAfterFile, IsFaultOf, Replays, reading_of}
 use Rattle.zk_restore.specs.declared.fault.RestoreFault.{RestoreFault}
 use Rattle.zk_restore.specs.declared.fault.RestoreFault.TheVariants as faults
@@ -39,17 +39,21 @@ pub read_on : (reading : Reading) (entry : FileEntry) (entries : List FileEntry)
 unfolding read_entries
 read_on reading entry entries = refl
 
-pub none_left : (reading : Reading) → read_entries (Ok reading) [] ≡ Ok reading
+pub read_step : (read : Result Reading RestoreFault) (entry : FileEntry) (entries : List FileEntry) → read_entries read (entry ∷ entries) ≡ read_entries (read_next read entry) entries
 unfolding read_entries
-none_left reading = refl
+read_step read entry entries = refl
+
+pub none_left : (read : Result Reading RestoreFault) → read_entries read [] ≡ read
+unfolding read_entries
+none_left read = refl
 
 pub broken : (fault : RestoreFault) (entries : List FileEntry) → read_entries (Err fault) entries ≡ Err fault
-unfolding read_entries
-broken fault entries = refl
+broken fault [] = none_left (Err fault)
+broken fault (entry ∷ entries) = read_step (Err fault) entry entries ∙ broken fault entries
 
 -- reading that is over stays so
 pub stays_over : (history : History) (records : List NewerRecord) (entries : List FileEntry) → read_entries (Ok (over history records)) entries ≡ Ok (over history records)
-stays_over history records [] = none_left (over history records)
+stays_over history records [] = none_left (Ok (over history records))
 stays_over history records (entry ∷ entries) = read_on (over history records) entry entries ∙ stays_over history records entries
 
 -- one entry more
@@ -160,7 +164,7 @@ all_read : (start restore : Restore) (file : LogFile) (i : ℕ) → length file.
 all_read start restore file i le w =
     w.read
     ∙ ap (read_entries (Ok (going (history_of restore.chain) w.records))) (at_end file.entries.items i le)
-    ∙ none_left (going (history_of restore.chain) w.records)
+    ∙ none_left (Ok (going (history_of restore.chain) w.records))
 
 pub to_the_end : (start restore : Restore) (file : LogFile) (i : ℕ) (none : Unit {0}) → length file.entries.items ≤ i → IsWithin start file i restore → end_of (is_wanted (history_of restore.chain)) file.outcome ≡ Ok none → IsAfterFile start file restore true
 to_the_end start restore file i none le w end =

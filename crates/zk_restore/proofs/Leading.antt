@@ -18,16 +18,13 @@ use Rattle.zk_restore.specs.States.{IsStateAfter, IsStateFrom, after_window, in_
 -- ---- records in order
 
 pub no_records : (stage : Stage) (exact : ℤ) → Replays stage exact [] stage
-unfolding Replays
 no_records stage exact = refl
 
 pub one_more : (old middle new : Stage) (exact : ℤ) (records : List NewerRecord) (newer : NewerRecord) → Replays old exact records middle → Takes middle exact newer new → Replays old exact (records ++ newer ∷ []) new
-unfolding Replays
 one_more old middle new exact [] newer r t = (new, subst (λ (s : Stage). Takes s exact newer new) r t, refl)
 one_more old middle new exact (first ∷ records) newer r t = (r.0, r.1, one_more r.0 middle new exact records newer r.2 t)
 
 pub joined : (old middle new : Stage) (exact : ℤ) (records more : List NewerRecord) → Replays old exact records middle → Replays middle exact more new → Replays old exact (records ++ more) new
-unfolding Replays
 joined old middle new exact [] more r s = subst (λ (m : Stage). Replays m exact more new) r s
 joined old middle new exact (first ∷ records) more r s = (r.0, r.1, joined r.0 middle new exact records more r.2 s)
 
@@ -40,7 +37,6 @@ table_on (stages.Window draft last) first exact records end state t rest leads =
 table_on (stages.Table next) first exact records end state t rest leads = leads next rest ∙ ap (λ z. state_after z (map txn_of records)) t.0
 
 pub leads_table : (table : FoldView) (exact : ℤ) (records : List NewerRecord) (end : Stage) (state : State) → Replays (stages.Table table) exact records end → IsRestored end state → state ≡ state_after table.state (map txn_of records)
-unfolding Replays
 leads_table table exact [] end state r s = subst (λ (e : Stage). IsRestored e state) r s
 leads_table table exact (newer ∷ records) end state r s =
     table_on r.0 (step table.state newer.txn).0 exact records end state r.1 r.2 (λ next rest. leads_table next exact records end state rest s)
@@ -140,7 +136,6 @@ either_on true middle draft last exact newer records end state e t rest s leads 
 either_on false middle draft last exact newer records end state e t rest s leads = leaves_on middle draft last exact newer records end state e t rest s
 
 pub leads_window : (draft : Draft) (last exact : ℤ) (records : List NewerRecord) (end : Stage) (state : State) → Replays (stages.Window draft last) exact records end → IsRestored end state → IsStateFrom draft last exact records state
-unfolding Replays
 leads_window draft last exact [] end state r s =
     ends_here draft last exact [] state state (nothing_in exact) (subst (λ (e : Stage). IsRestored e state) r s) (ap (λ l. state_after state (map txn_of l)) (sym (nothing_after exact)))
 leads_window draft last exact (newer ∷ records) end state r s =

@@ -32,11 +32,14 @@ AreLogFiles [] [] = Unit {0}
 AreLogFiles (bytes ∷ logs) (file ∷ files) = IsLogFile bytes.now file × AreLogFiles logs files
 AreLogFiles logs files = ⊥
 
--- reads files in order, up to the first fault
+abbrev pub read_next : Result Reading RestoreFault → LogFile → Result Reading RestoreFault
+read_next (Ok reading) file = if reading.is_over then Ok reading else read_file reading file
+read_next (Err fault) file = Err fault
+
+-- files in order, up to the first fault
 unfoldable pub read_files : Result Reading RestoreFault → List LogFile → Result Reading RestoreFault
-read_files (Err fault) files = Err fault
-read_files (Ok reading) [] = Ok reading
-read_files (Ok reading) (file ∷ files) = read_files (if reading.is_over then Ok reading else read_file reading file) files
+read_files read [] = read
+read_files read (file ∷ files) = read_files (read_next read file) files
 
 abbrev pub ending_of : Result Ending LogFileFault → Option Ending
 ending_of (Ok ending) = Some ending

@@ -88,7 +88,7 @@ Goes old entry (Err fault) = ⊥
 -- ---- entries in order
 
 -- the stage after records
-unfoldable pub Replays : Stage → ℤ → List NewerRecord → Stage → Type 0
+abbrev pub Replays : Stage → ℤ → List NewerRecord → Stage → Type 0
 Replays old exact [] new = new ≡ old
 Replays old exact (newer ∷ records) new = (middle : Stage) × Takes old exact newer middle × Replays middle exact records new
 
