@@ -1,5 +1,5 @@
 -- Files, one after another.
-use Rattle.std.proofs.Common.{◌≡◌, ◌⊎◌, ℕ, ℤ, ◌+◌, ◌<◌, ◌≤◌, Bool, true, false, cond, List, [], ◌∷◌, ◌++◌, length, take, get_or, map, Option, Some, None, Result, Ok, Err, refl, sym, ap, ◌∙◌, subst, append_assoc, append-nil, arith}
+use Rattle.std.proofs.Common.{◌≡◌, ◌⊎◌, ℕ, ℤ, ◌+◌, ◌<◌, ◌≤◌, Bool, true, false, cond, inr, List, [], ◌∷◌, ◌++◌, length, take, get_or, map, Option, Some, None, Result, Ok, Err, refl, sym, ap, ◌∙◌, subst, append_assoc, append-nil, arith}
 use Rattle.std.proofs.lemmas.List.{take_more}
 use Rattle.std.specs.Borrow.{Bor}
 use Rattle.std.specs.Prelude.{not}
@@ -14,10 +14,10 @@ use Rattle.zk_newer_records.specs.declared.newer_record.NewerRecord.{NewerRecord
 use Rattle.zk_replay.specs.declared.stage.Stage.{Stage}
 use Rattle.zk_restore.proofs.Joined.{going, none_left, read_step}
 use Rattle.zk_restore.proofs.Leading.{joined, no_records}
-use Rattle.zk_restore.specs.Directories.{AreBroken, AreLogFiles, AreRead, FailsIn, IsAfterLog, ReadsLog, ending_of, last_ending, read_files, read_next}
+use Rattle.zk_restore.specs.Directories.{AreAllRead, AreBroken, AreLogFiles, AreRead, FailsIn, IsAfterLog, ReadsLog, ending_of, last_ending, read_files, read_next}
 use Rattle.zk_restore.specs.Joins as joins
 use Rattle.zk_restore.specs.Joins.{Reading, decision, end_of, ended_by, is_wanted, read_by, read_end, read_entries, read_entry, read_file, told_of, with_turn}
-use Rattle.zk_restore.specs.Restorations.{IsAfterFile, IsFaultOf, Replays, reading_of}
+use Rattle.zk_restore.specs.Restorations.{GoesThrough, IsAfterFile, IsFaultOf, Replays, reading_of}
 use Rattle.zk_restore.specs.declared.directory.Step.{Step}
 use Rattle.zk_restore.specs.declared.fault.RestoreFault.{RestoreFault}
 use Rattle.zk_restore.specs.declared.fault.RestoreFault.TheVariants as faults
@@ -109,10 +109,12 @@ more_files [] (other ∷ files) bytes file are is = absurd are
 more_files (other ∷ logs) [] bytes file are is = absurd are
 more_files (other ∷ logs) (one ∷ files) bytes file are is = (are.0, more_files logs files bytes file are.1 is)
 
-taken_more : (logs : List (Bor (List ℕ))) (i : ℕ) (bytes : Bor (List ℕ)) (files : List LogFile) (file : LogFile) → i < length logs → bytes ≡ get_or logs i bytes → AreLogFiles (take i logs) files → IsLogFile bytes.now file
-    → AreLogFiles (take (i + 1) logs) (files ++ file ∷ [])
-taken_more logs i bytes files file lt is are one =
-    subst (λ l. AreLogFiles l (files ++ file ∷ [])) (sym (take_more logs i bytes lt ∙ ap (λ b. take i logs ++ b ∷ []) (sym is))) (more_files (take i logs) files bytes file are one)
+-- what a loop has in place of a log that is not there
+abbrev pub no_bytes : Bor (List ℕ)
+no_bytes = record { ref_ptr = (0, 0); now = [] }
+
+pub taken_more : (logs : List (Bor (List ℕ))) (i : ℕ) (files : List LogFile) (file : LogFile) → i < length logs → AreLogFiles (take i logs) files → IsLogFile (get_or logs i no_bytes).now file → AreLogFiles (take (i + 1) logs) (files ++ file ∷ [])
+taken_more logs i files file lt are one = subst (λ l. AreLogFiles l (files ++ file ∷ [])) (sym (take_more logs i no_bytes lt)) (more_files (take i logs) files (get_or logs i no_bytes) file are one)
 
 no_ending : (ending : Option Ending) → last_ending ending [] ≡ ending
 unfolding last_ending
@@ -139,16 +141,31 @@ none_read start logs = record {
 }
 
 -- one more was read
-pub one_read : (start old : Restore) (logs : List (Bor (List ℕ))) (i : ℕ) (bytes : Bor (List ℕ)) (step : Step) (ending : Option Ending) → i < length logs → bytes ≡ get_or logs i bytes → AreRead start logs i old false ending → IsAfterLog old bytes.now step
+one_read : (start old : Restore) (logs : List (Bor (List ℕ))) (i : ℕ) (step : Step) (ending : Option Ending) → i < length logs → AreRead start logs i old false ending → IsAfterLog old (get_or logs i no_bytes).now step
     → AreRead start logs (i + 1) step.restore (not step.goes_on) step.ending
-one_read start old logs i bytes step ending lt is so_far after = record {
+one_read start old logs i step ending lt so_far after = record {
   files = so_far.files ++ after.file ∷ [];
-  of_logs = taken_more logs i bytes so_far.files after.file lt is so_far.of_logs after.of_bytes;
+  of_logs = taken_more logs i so_far.files after.file lt so_far.of_logs after.of_bytes;
   records = so_far.records ++ after.after.records;
   of_files = next_file (Ok (reading_of start)) so_far.files after.file (history_of old.chain) so_far.records _ so_far.of_files after.after.read;
   exact = after.after.exact ∙ so_far.exact;
   stage = joined start.stage old.stage step.restore.stage start.exact so_far.records after.after.records so_far.stage (subst (λ z. Replays old.stage z after.after.records step.restore.stage) so_far.exact after.after.stage);
   last = after.ending ∙ sym (ends_with None so_far.files after.file);
+}
+
+-- as a loop counts
+pub next_read : (start old : Restore) (logs : List (Bor (List ℕ))) (read i : ℕ) (step : Step) (ending : Option Ending) → read ≡ i → i < length logs → AreRead start logs read old false ending → IsAfterLog old (get_or logs i no_bytes).now step
+    → AreRead start logs (read + 1) step.restore (not step.goes_on) step.ending
+next_read start old logs read i step ending e lt so_far after =
+    one_read start old logs read step ending (subst (λ n. n < length logs) (sym e) lt) so_far (subst (λ n. IsAfterLog old (get_or logs n no_bytes).now step) (sym e) after)
+
+-- reading is over
+pub last_read : (start old : Restore) (logs : List (Bor (List ℕ))) (read i : ℕ) (step : Step) (ending : Option Ending) → read ≡ i → i < length logs → AreRead start logs read old false ending → IsAfterLog old (get_or logs i no_bytes).now step
+    → step.goes_on ≡ false → AreAllRead start logs (record { restore = step.restore; read = read + 1; ending = step.ending })
+last_read start old logs read i step ending e lt so_far after over = record {
+  over = not step.goes_on;
+  after = next_read start old logs read i step ending e lt so_far after;
+  enough = inr (ap not over);
 }
 
 fault_behind : (front : List NewerRecord) (read all : Result Reading RestoreFault) (fault : RestoreFault) → IsFaultOf read fault → (read ≡ Err fault → all ≡ Err fault) → IsFaultOf all fault
@@ -163,18 +180,26 @@ fault_behind front read all faults.Access f told = tt
 fault_behind front read all faults.NoMemory f told = tt
 
 -- the next one is broken
-pub one_broken : (start old : Restore) (logs : List (Bor (List ℕ))) (i : ℕ) (bytes : Bor (List ℕ)) (fault : RestoreFault) (ending : Option Ending) (file : LogFile) → i < length logs → bytes ≡ get_or logs i bytes → AreRead start logs i old false ending
-    → IsLogFile bytes.now file → IsFaultOf (read_file (reading_of old) file) fault → AreBroken start logs i fault
-one_broken start old logs i bytes fault ending file lt is so_far of_bytes broken = record {
+one_broken : (start old : Restore) (logs : List (Bor (List ℕ))) (i : ℕ) (fault : RestoreFault) (ending : Option Ending) (file : LogFile) → i < length logs → AreRead start logs i old false ending → IsLogFile (get_or logs i no_bytes).now file
+    → IsFaultOf (read_file (reading_of old) file) fault → AreBroken start logs i fault
+one_broken start old logs i fault ending file lt so_far of_bytes broken = record {
   files = so_far.files ++ file ∷ [];
-  of_logs = taken_more logs i bytes so_far.files file lt is so_far.of_logs of_bytes;
+  of_logs = taken_more logs i so_far.files file lt so_far.of_logs of_bytes;
   of_files =
       fault_behind so_far.records (read_file (reading_of old) file) (read_files (Ok (reading_of start)) (so_far.files ++ file ∷ [])) fault broken
       (λ e. next_file (Ok (reading_of start)) so_far.files file (history_of old.chain) so_far.records (Err fault) so_far.of_files e);
 }
 
 -- as the contract of the call says it
-pub log_broken : (start old : Restore) (logs : List (Bor (List ℕ))) (i : ℕ) (bytes : Bor (List ℕ)) (fault : RestoreFault) (ending : Option Ending) → i < length logs → bytes ≡ get_or logs i bytes → AreRead start logs i old false ending → ReadsLog old bytes.now (Err fault)
-    → FailsIn start logs i fault
-log_broken start old logs i bytes faults.NoMemory ending lt is so_far r = tt
-log_broken start old logs i bytes fault ending lt is so_far r = one_broken start old logs i bytes fault ending r.0 lt is so_far r.1 r.2
+pub log_broken : (start old : Restore) (logs : List (Bor (List ℕ))) (i : ℕ) (fault : RestoreFault) (ending : Option Ending) → i < length logs → AreRead start logs i old false ending → ReadsLog old (get_or logs i no_bytes).now (Err fault) → FailsIn start logs i fault
+log_broken start old logs i faults.NoMemory ending lt so_far r = tt
+log_broken start old logs i fault ending lt so_far r = one_broken start old logs i fault ending r.0 lt so_far r.1 r.2
+
+pub next_broken : (start old : Restore) (logs : List (Bor (List ℕ))) (read i : ℕ) (fault : RestoreFault) (ending : Option Ending) → read ≡ i → i < length logs → AreRead start logs read old false ending → ReadsLog old (get_or logs i no_bytes).now (Err fault) → FailsIn start logs read fault
+next_broken start old logs read i fault ending e lt so_far r =
+    log_broken start old logs read fault ending (subst (λ n. n < length logs) (sym e) lt) so_far (subst (λ n. ReadsLog old (get_or logs n no_bytes).now (Err fault)) (sym e) r)
+
+-- a file that is broken, or does not continue the history
+pub log_fails : (old : Restore) (bytes : List ℕ) (file : LogFile) (fault : RestoreFault) → IsLogFile bytes file → GoesThrough old file (Err fault) → ReadsLog old bytes (Err fault)
+log_fails old bytes file faults.NoMemory is g = tt
+log_fails old bytes file fault is g = (file, is, g)

@@ -55,7 +55,7 @@ fn read_log<'a>(
     restore: Restore<'a>,
     bytes: &'a [u8],
 ) -> Result<Step<'a>, RestoreFault>
-    ensures { ReadsLog restore bytes.now result }
+    ensures { ReadsLog restore.entry bytes.now result }
 {
     let file = read_log_file(alloc, bytes)?;
     let (restore, goes_on) = restore.take_file(alloc, &file)?;
@@ -67,15 +67,15 @@ fn read_log<'a>(
 }
 
 /// Reads the logs in order, until all that was asked for was taken.
-#[tactic(auto, using(crate::proofs::Files::none_read, crate::proofs::Files::one_read, crate::proofs::Files::log_broken))]
+#[tactic(auto, using(crate::proofs::Files::none_read))]
 fn read_logs<'a>(
     alloc: Global,
-    restore: Restore<'a>,
+    start: Restore<'a>,
     logs: &[&'a [u8]],
 ) -> Result<Progress<'a>, DirectoryFault>
-    ensures { ReadsLogs restore logs.now result }
+    ensures { ReadsLogs start.entry logs.now result }
 {
-    let mut restore = restore;
+    let mut restore = start;
     let mut read = 0usize;
     let mut ending = None;
     for bytes in logs {
@@ -117,7 +117,7 @@ pub fn restore<'a>(
     upto: Option<i64>,
     logs: &[&'a [u8]],
 ) -> Result<Restored, DirectoryFault>
-    ensures { IsRestored base upto logs.now result }
+    ensures { IsRestored base.entry upto logs.now result }
 {
     let start = match Restore::new(alloc, base, upto) {
         Ok(start) => start,

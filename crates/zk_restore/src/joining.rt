@@ -1,7 +1,7 @@
 //! The entries of log files, joined into one history.
 ghost use Rattle.std.specs.Prelude.{◌≡◌};
 ghost use Rattle.zk_directory.specs.Chains.{history_of};
-ghost use Rattle.zk_restore.specs.Joins.{TakesEntry, end_of, fault_at, is_complete, is_wanted};
+ghost use Rattle.zk_restore.specs.Joins.{TakesEntry, end_of, fault_at, is_wanted};
 
 use crate::fault::RestoreFault;
 use zk_directory::{Chain, ChainFault, LogEntry, Turn};

@@ -56,7 +56,7 @@ impl<'a> Restore<'a> {
         base: Base<'_>,
         upto: Option<i64>,
     ) -> Result<Restore<'a>, RestoreFault>
-        ensures { Begins base upto result }
+        ensures { Begins base.entry upto result }
     {
         match base {
             Base::Empty => Ok(Restore {
@@ -97,7 +97,7 @@ impl<'a> Restore<'a> {
         alloc: Global,
         entry: &FileEntry<'a>,
     ) -> Result<(Restore<'a>, Turn), RestoreFault>
-        ensures { Goes self entry.now result }
+        ensures { Goes self.entry entry.now result }
     {
         let Restore {
             chain,
@@ -128,13 +128,13 @@ impl<'a> Restore<'a> {
     ///
     /// Fails as [`Restore::take`] does, and with [`RestoreFault::Log`] if the file is broken after
     /// its entries, and a later entry is asked for.
-    #[tactic(auto, using(crate::proofs::Joined::none_taken, crate::proofs::Joined::one_taken, crate::proofs::Joined::over_at, crate::proofs::Joined::to_the_end, crate::proofs::Joined::end_broken, crate::proofs::Joined::entry_broken))]
+    #[tactic(auto, using(crate::proofs::Joined::none_taken, crate::proofs::Joined::to_the_end))]
     pub fn take_file(
         self,
         alloc: Global,
         file: &LogFile<'a>,
     ) -> Result<(Restore<'a>, bool), RestoreFault>
-        ensures { GoesThrough self file.now result }
+        ensures { GoesThrough self.entry file.now result }
     {
         let mut restore = self;
         for entry in &file.entries {
@@ -154,7 +154,7 @@ impl<'a> Restore<'a> {
     /// snapshot is exact, and with [`RestoreFault::Tree`] or [`RestoreFault::Access`] if its window
     /// leads to no state.
     pub fn finish(self, alloc: Global) -> Result<Fold, RestoreFault>
-        ensures { Finishes self result }
+        ensures { Finishes self.entry result }
     {
         let Restore {
             chain,

@@ -6,5 +6,5 @@ use Rattle.zk_restore.proofs.directory.read_logs.Given as goal
 abbrev pub invariant-loop-bytes : goal.invariant-loop-bytes
 invariant-loop-bytes l = record {
   counted : l.read ≡ l.bytes-index;
-  so_far : AreRead l.fn.restore l.logs l.read l.restore false l.ending;
+  so_far : AreRead l.fn.start l.fn.logs l.read l.restore false l.ending;
 }
