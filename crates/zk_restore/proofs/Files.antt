@@ -1,5 +1,5 @@
 -- Files, one after another.
-use Rattle.std.proofs.Common.{◌≡◌, ◌⊎◌, ℕ, ℤ, ◌+◌, ◌<◌, ◌≤◌, Bool, true, false, cond, inr, List, [], ◌∷◌, ◌++◌, length, take, get_or, map, Option, Some, None, Result, Ok, Err, refl, sym, ap, ◌∙◌, subst, append_assoc, append-nil, arith}
+use Rattle.std.proofs.Common.{◌≡◌, ℕ, ◌+◌, ◌<◌, Bool, true, false, cond, inr, List, [], ◌∷◌, ◌++◌, length, take, get_or, Option, None, Result, Ok, Err, refl, sym, ap, ◌∙◌, subst, append_assoc, append-nil}
 use Rattle.std.proofs.lemmas.List.{take_more}
 use Rattle.std.specs.Borrow.{Bor}
 use Rattle.std.specs.Prelude.{not}
@@ -11,13 +11,12 @@ use Rattle.zk_log_files.specs.LogFiles.{IsLogFile}
 use Rattle.zk_log_files.specs.declared.file.FileEntry.{FileEntry}
 use Rattle.zk_log_files.specs.declared.file.LogFile.{LogFile}
 use Rattle.zk_newer_records.specs.declared.newer_record.NewerRecord.{NewerRecord}
-use Rattle.zk_replay.specs.declared.stage.Stage.{Stage}
 use Rattle.zk_restore.proofs.Joined.{going, none_left, read_step}
 use Rattle.zk_restore.proofs.Leading.{joined, no_records}
 use Rattle.zk_restore.specs.Directories.{AreAllRead, AreBroken, AreLogFiles, AreRead, FailsIn, IsAfterLog, ReadsLog, ending_of, last_ending, read_files, read_next}
 use Rattle.zk_restore.specs.Joins as joins
 use Rattle.zk_restore.specs.Joins.{Reading, decision, end_of, ended_by, is_wanted, read_by, read_end, read_entries, read_entry, read_file, told_of, with_turn}
-use Rattle.zk_restore.specs.Restorations.{GoesThrough, IsAfterFile, IsFaultOf, Replays, reading_of}
+use Rattle.zk_restore.specs.Restorations.{GoesThrough, IsFaultOf, Replays, reading_of}
 use Rattle.zk_restore.specs.declared.directory.Step.{Step}
 use Rattle.zk_restore.specs.declared.fault.RestoreFault.{RestoreFault}
 use Rattle.zk_restore.specs.declared.fault.RestoreFault.TheVariants as faults

@@ -1,6 +1,5 @@
 -- The entries of a file, one after another.
-use Rattle.std.proofs.Common.{◌≡◌, ◌≢◌, ℕ, ℤ, ◌+◌, ◌<◌, ◌≤◌, Bool, true, false, cond, List, [], ◌∷◌, ◌++◌, length, drop, get_or, Result, Ok, Err, refl, sym, ap, ◌∙◌, subst, append_assoc}
-use Rattle.std.specs.Prelude.{not}
+use Rattle.std.proofs.Common.{◌≡◌, ◌≢◌, ℕ, ◌+◌, ◌<◌, ◌≤◌, Bool, true, false, List, [], ◌∷◌, ◌++◌, length, drop, get_or, Result, Ok, Err, refl, sym, ap, ◌∙◌, subst}
 use Rattle.zk_base.proofs.Turning.{next_is, at_end}
 use Rattle.zk_base.specs.declared.fault.BaseFault.{BaseFault}
 use Rattle.zk_base.specs.declared.fault.BaseFault.TheVariants as bases
@@ -16,7 +15,7 @@ use Rattle.zk_log_files.specs.declared.file.LogFileFault.{LogFileFault}
 use Rattle.zk_newer_records.specs.declared.newer_record.NewerRecord.{NewerRecord}
 use Rattle.zk_replay.specs.Restoring.{Takes}
 use Rattle.zk_restore.proofs.Leading.{no_records, one_more}
-use Rattle.zk_restore.specs.Joins.{Reading, TakesEntry, decided, decision, end_of, ended_by, fault_of_base, is_wanted, read_by, read_end, read_entries, read_entry, read_file, read_next, told_of, with_turn}
+use Rattle.zk_restore.specs.Joins.{Reading, TakesEntry, decided, decision, end_of, ended_by, fault_of_base, is_wanted, read_by, read_end, read_entries, read_entry, read_file, read_next, told_of}
 use Rattle.zk_restore.specs.Restorations.{Goes, GoesThrough, IsAfterEntry, IsAfterFile, IsFaultOf, Replays, reading_of}
 use Rattle.zk_restore.specs.declared.fault.RestoreFault.{RestoreFault}
 use Rattle.zk_restore.specs.declared.fault.RestoreFault.TheVariants as faults

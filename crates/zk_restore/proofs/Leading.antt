@@ -1,5 +1,5 @@
 -- Stages, record by record, and the state that they lead to.
-use Rattle.std.proofs.Common.{◌≡◌, ℤ, Bool, true, false, cond, List, [], ◌∷◌, ◌++◌, map, refl, sym, ap, ◌∙◌, subst}
+use Rattle.std.proofs.Common.{◌≡◌, ℤ, Bool, true, false, List, [], ◌∷◌, ◌++◌, map, refl, sym, ap, ◌∙◌, subst}
 use Rattle.std.specs.Prelude.{int_le}
 use Rattle.zk_table.specs.Histories.{state_after}
 use Rattle.zk_table.specs.States.{State}
@@ -9,7 +9,7 @@ use Rattle.zk_base.specs.declared.draft.Draft.{Draft}
 use Rattle.zk_fold.specs.Folds.{FoldView}
 use Rattle.zk_newer_records.specs.declared.newer_record.NewerRecord.{NewerRecord}
 use Rattle.zk_replay.specs.Restoring.{IsReplayed, IsRestored, IsTableIn, LeavesWindow, StaysInWindow, Takes, TakesInWindow}
-use Rattle.zk_replay.specs.Rules.{nodes_replayed, sessions_replayed}
+use Rattle.zk_replay.specs.Rules.{nodes_replayed}
 use Rattle.zk_replay.specs.declared.stage.Stage.{Stage}
 use Rattle.zk_replay.specs.declared.stage.Stage.TheVariants as stages
 use Rattle.zk_restore.specs.Restorations.{Replays}

@@ -1,17 +1,15 @@
 -- From the first file to the state.
-use Rattle.std.proofs.Common.{◌≡◌, ◌⊎◌, ℕ, ℤ, ◌+◌, Bool, true, false, List, [], length, map, take, Option, Result, Ok, Err, refl, sym, ap, ◌∙◌, subst}
+use Rattle.std.proofs.Common.{◌≡◌, ◌⊎◌, ℕ, ℤ, ◌+◌, Bool, true, false, List, [], length, map, take, Option, Result, Ok, Err, sym, ap, ◌∙◌, subst}
 use Rattle.std.specs.Borrow.{Bor}
 use Rattle.zk_table.specs.Histories.{state_after}
 use Rattle.zk_table.specs.States.{State}
 use Rattle.zk_directory.specs.Chains.{history_of}
-use Rattle.zk_fold.specs.Folds.{FoldView}
 use Rattle.zk_log_files.specs.declared.file.LogFile.{LogFile}
 use Rattle.zk_newer_records.specs.declared.newer_record.NewerRecord.{NewerRecord}
-use Rattle.zk_replay.specs.Restoring.{IsTableIn}
 use Rattle.zk_replay.specs.declared.stage.Stage.{Stage}
 use Rattle.zk_replay.specs.declared.stage.Stage.TheVariants as stages
 use Rattle.zk_restore.proofs.Leading.{leads}
-use Rattle.zk_restore.specs.Directories.{AreAllRead, AreBroken, AreLogFiles, AreRead, Breaks, Ends, FailsBy, FailsIn, IsStateOf, Restores, read_files, reading_by}
+use Rattle.zk_restore.specs.Directories.{AreAllRead, AreLogFiles, Breaks, Ends, FailsBy, FailsIn, IsStateOf, Restores, read_files, reading_by}
 use Rattle.zk_restore.specs.Joins.{Reading}
 use Rattle.zk_restore.specs.Restorations.{Begins, Finishes, IsBegun, IsFinished, IsFirstStage, exact_of, is_before, is_short, reading_of}
 use Rattle.zk_restore.specs.States.{IsStateAfter, IsStateFrom, txn_of}

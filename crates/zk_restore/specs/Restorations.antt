@@ -4,7 +4,7 @@ use Rattle.zk_table.specs.States.{start_state}
 use Rattle.zk_base.specs.Bases.{IsDraftOf}
 use Rattle.zk_directory.specs.Chains.{History, after_turn, history_of}
 use Rattle.zk_directory.specs.declared.chain.Turn.{Turn}
-use Rattle.zk_directory.specs.declared.chain.Turn.TheVariants.{Take, Skip, Stop}
+use Rattle.zk_directory.specs.declared.chain.Turn.TheVariants.{Take}
 use Rattle.zk_fold.specs.Folds.{FoldView}
 use Rattle.zk_log_files.specs.declared.file.FileEntry.{FileEntry}
 use Rattle.zk_log_files.specs.declared.file.LogFile.{LogFile}

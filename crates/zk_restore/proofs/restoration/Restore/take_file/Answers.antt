@@ -2,7 +2,7 @@ use Rattle.std.proofs.Common.{◌≡◌, ◌≢◌, ◌<◌, ◌≤◌, rules, l
 use Rattle.std.proofs.lemmas.Result.{err_from_is_err_and}
 use Rattle.zk_directory.specs.declared.chain.Turn.TheVariants.{Stop}
 use Rattle.zk_restore.proofs.Joined.{end_broken, entry_broken, one_taken, over_at}
-use Rattle.zk_restore.specs.Restorations.{Goes, GoesThrough, IsAfterEntry}
+use Rattle.zk_restore.specs.Restorations.{GoesThrough, IsAfterEntry}
 use Rattle.zk_restore.proofs.restoration.Restore.take_file.Goals as goal
 
 pub returns-in_err-next : goal.returns-in_err-next
