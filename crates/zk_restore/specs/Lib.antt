@@ -1,0 +1,5 @@
+-- What the contracts of this crate cite.
+pub mod Directories
+pub mod Joins
+pub mod Restorations
+pub mod States

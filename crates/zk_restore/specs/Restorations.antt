@@ -1,0 +1,134 @@
+-- A restoration, call by call: the history that was joined, and the stage that its records lead to.
+use Rattle.std.specs.Prelude.{◌≡◌, ℤ, pos, Bool, true, false, not, int_lt, List, [], ◌∷◌, Option, Some, None, Result, Ok, Err}
+use Rattle.zk_table.specs.States.{start_state}
+use Rattle.zk_base.specs.Bases.{IsDraftOf}
+use Rattle.zk_directory.specs.Chains.{History, after_turn, history_of}
+use Rattle.zk_directory.specs.declared.chain.Turn.{Turn}
+use Rattle.zk_directory.specs.declared.chain.Turn.TheVariants.{Take}
+use Rattle.zk_fold.specs.Folds.{FoldView}
+use Rattle.zk_log_files.specs.declared.file.FileEntry.{FileEntry}
+use Rattle.zk_log_files.specs.declared.file.LogFile.{LogFile}
+use Rattle.zk_newer_records.specs.declared.newer_record.NewerRecord.{NewerRecord}
+use Rattle.zk_replay.specs.Restoring.{IsRestored, IsTableIn, Takes}
+use Rattle.zk_replay.specs.declared.stage.Stage.{Stage}
+use Rattle.zk_replay.specs.declared.stage.Stage.TheVariants as stages
+use Rattle.zk_restore.specs.Joins.{Reading, decision, read_file, told_of}
+use Rattle.zk_restore.specs.declared.fault.RestoreFault.{RestoreFault}
+use Rattle.zk_restore.specs.declared.fault.RestoreFault.TheVariants as faults
+use Rattle.zk_restore.specs.declared.restoration.Base.{Base}
+use Rattle.zk_restore.specs.declared.restoration.Base.TheVariants as bases
+use Rattle.zk_restore.specs.declared.restoration.Restore.{Restore}
+
+-- ---- the base
+
+abbrev pub zxid_of : Base → Option ℤ
+zxid_of bases.Empty = None
+zxid_of (bases.Snapshot contents zxid exact) = Some zxid
+
+-- from the empty tree each state is exact
+abbrev pub exact_of : Base → ℤ
+exact_of bases.Empty = pos 0
+exact_of (bases.Snapshot contents zxid exact) = exact
+
+-- nothing was read yet
+abbrev pub start_of : Base → Option ℤ → History
+start_of base upto = record { base = zxid_of base; upto = upto; position = zxid_of base; taken = [] }
+
+abbrev pub is_before : Option ℤ → ℤ → Bool
+is_before None exact = false
+is_before (Some zxid) exact = int_lt zxid exact
+
+-- the state is asked for before the snapshot is exact
+abbrev pub is_early : Base → Option ℤ → Bool
+is_early bases.Empty upto = false
+is_early (bases.Snapshot contents zxid exact) upto = is_before upto exact
+
+-- the table begins with three nodes, or a window with the snapshot's
+abbrev pub IsFirstStage : Base → Stage → Type 0
+IsFirstStage bases.Empty stage = IsTableIn start_state stage
+IsFirstStage (bases.Snapshot contents zxid exact) (stages.Window draft last) = IsDraftOf contents.now draft × (last ≡ zxid)
+IsFirstStage (bases.Snapshot contents zxid exact) (stages.Table table) = ⊥
+
+pub record IsBegun (base : Base) (upto : Option ℤ) (restore : Restore) : Type 0 where
+  pub in_time : is_early base upto ≡ false
+  pub history : history_of restore.chain ≡ start_of base upto
+  pub exact : restore.exact ≡ exact_of base
+  pub stage : IsFirstStage base restore.stage
+
+abbrev pub Begins : Base → Option ℤ → Result Restore RestoreFault → Type 0
+Begins base upto (Ok restore) = IsBegun base upto restore
+Begins base upto (Err (faults.Early zxid)) = (is_early base upto ≡ true) × (zxid ≡ exact_of base)
+Begins base upto (Err faults.Tree) = is_early base upto ≡ false
+Begins base upto (Err faults.Access) = is_early base upto ≡ false
+Begins base upto (Err faults.NoMemory) = is_early base upto ≡ false
+Begins base upto (Err fault) = ⊥
+
+-- ---- one entry
+
+abbrev pub StageAfter : Turn → Stage → ℤ → NewerRecord → Stage → Type 0
+StageAfter Take old exact newer new = Takes old exact newer new
+StageAfter turn old exact newer new = new ≡ old
+
+pub record IsAfterEntry (old : Restore) (entry : FileEntry) (new : Restore) (turn : Turn) : Type 0 where
+  pub decided : decision (history_of old.chain) entry ≡ Ok turn
+  pub history : history_of new.chain ≡ after_turn (history_of old.chain) (told_of entry) turn
+  pub exact : new.exact ≡ old.exact
+  pub stage : StageAfter turn old.stage old.exact entry.newer new.stage
+
+abbrev pub Goes : Restore → FileEntry → Result (Restore × Turn) RestoreFault → Type 0
+Goes old entry (Ok next) = IsAfterEntry old entry next.0 next.1
+Goes old entry (Err (faults.Purged first)) = decision (history_of old.chain) entry ≡ Err (faults.Purged first)
+Goes old entry (Err (faults.Gap from to)) = decision (history_of old.chain) entry ≡ Err (faults.Gap from to)
+Goes old entry (Err (faults.Differs at)) = decision (history_of old.chain) entry ≡ Err (faults.Differs at)
+Goes old entry (Err faults.Tree) = decision (history_of old.chain) entry ≡ Ok Take
+Goes old entry (Err faults.Access) = decision (history_of old.chain) entry ≡ Ok Take
+Goes old entry (Err faults.NoMemory) = Unit {0}
+Goes old entry (Err fault) = ⊥
+
+-- ---- entries in order
+
+-- the stage after records
+abbrev pub Replays : Stage → ℤ → List NewerRecord → Stage → Type 0
+Replays old exact [] new = new ≡ old
+Replays old exact (newer ∷ records) new = (middle : Stage) × Takes old exact newer middle × Replays middle exact records new
+
+-- how far a restoration has read
+abbrev pub reading_of : Restore → Reading
+reading_of restore = record { history = history_of restore.chain; records = []; is_over = false }
+
+pub record IsAfterFile (old : Restore) (file : LogFile) (new : Restore) (goes_on : Bool) : Type 0 where
+  pub records : List NewerRecord
+  pub read : read_file (reading_of old) file ≡ Ok (record { history = history_of new.chain; records = records; is_over = not goes_on })
+  pub exact : new.exact ≡ old.exact
+  pub stage : Replays old.stage old.exact records new.stage
+
+-- a fault of the logs is the first one; those of a snapshot come as its window ends
+abbrev pub IsFaultOf : Result Reading RestoreFault → RestoreFault → Type 0
+IsFaultOf read faults.NoMemory = Unit {0}
+IsFaultOf read faults.Tree = Unit {0}
+IsFaultOf read faults.Access = Unit {0}
+IsFaultOf read (faults.Early exact) = ⊥
+IsFaultOf read (faults.Short exact) = ⊥
+IsFaultOf read fault = read ≡ Err fault
+
+abbrev pub GoesThrough : Restore → LogFile → Result (Restore × Bool) RestoreFault → Type 0
+GoesThrough old file (Ok next) = IsAfterFile old file next.0 next.1
+GoesThrough old file (Err fault) = IsFaultOf (read_file (reading_of old) file) fault
+
+-- ---- the end
+
+-- the entries end before the snapshot is exact
+abbrev pub is_short : Restore → Bool
+is_short restore = is_before restore.chain.position restore.exact
+
+pub record IsFinished (restore : Restore) (table : FoldView) : Type 0 where
+  pub long : is_short restore ≡ false
+  pub state : IsRestored restore.stage table.state
+
+abbrev pub Finishes : Restore → Result FoldView RestoreFault → Type 0
+Finishes restore (Ok table) = IsFinished restore table
+Finishes restore (Err (faults.Short zxid)) = (is_short restore ≡ true) × (zxid ≡ restore.exact)
+Finishes restore (Err faults.NoMemory) = is_short restore ≡ false
+Finishes restore (Err faults.Tree) = is_short restore ≡ false
+Finishes restore (Err faults.Access) = is_short restore ≡ false
+Finishes restore (Err fault) = ⊥
