@@ -21,6 +21,8 @@ pub enum Happening {
     Open(usize),
     /// The first session creates the node `/q`.
     Make(usize),
+    /// It does so at server 1, with this tag.
+    Again(u64),
 }
 
 /// `world:anyone` with all permissions.
@@ -70,6 +72,13 @@ pub fn event_of(alloc: Global, happening: Happening) -> Result<Event, NoMemory> 
             zab_model::Event::Submit {
                 server,
                 call: call(alloc, 2, FIRST, request),
+            }
+        }
+        Happening::Again(tag) => {
+            let request = node(alloc)?;
+            zab_model::Event::Submit {
+                server: 1,
+                call: call(alloc, tag, FIRST, request),
             }
         }
     };

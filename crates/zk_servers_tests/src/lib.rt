@@ -19,6 +19,8 @@ mod gate;
 #[cfg(test)]
 mod inbox_tests;
 #[cfg(test)]
+mod late_server_tests;
+#[cfg(test)]
 mod overtaking_tests;
 #[cfg(test)]
 mod route_tests;

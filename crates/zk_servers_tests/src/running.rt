@@ -9,6 +9,7 @@ use std::marker::Brand;
 use std::sync::Wait;
 use std::sync::ledger::Blank;
 use std::thread::Threads;
+use std::time::Duration;
 use std::{thread, time};
 use zk_front::Remote;
 use zk_front::servers::{
@@ -73,16 +74,26 @@ fn play<L: CallLedger, R: Wait + time::Clock>(
     Ok(None)
 }
 
+/// The most looks at a view, and the microseconds between two: ten seconds or more in all.
+const LOOKS: u32 = 100_000;
+
+const PAUSE: u64 = 100;
+
 /// Whether a reader's view finally shows a transaction, as the last one.
-fn comes_to(alloc: Global, reader: &mut Reader, zxid: i64) -> Result<bool, NoMemory> {
+fn comes_to<R: Wait + time::Clock>(
+    rt: &R,
+    alloc: Global,
+    reader: &mut Reader,
+    zxid: i64,
+) -> Result<bool, NoMemory> {
     let path = Path::read(alloc, "/").ok().ok_or(NoMemory)?;
     let call = ReadCall::Exists { path };
     let mut pass = Pass::new();
     pass.take(zxid);
-    for _ in 0..1_000_000 {
+    for _ in 0..LOOKS {
         match reader.read(&mut pass, &call, &[]) {
             Ok(seen) => return Ok(seen.zxid == zxid),
-            Err(ViewFault::Behind { .. }) => thread::yield_now(),
+            Err(ViewFault::Behind { .. }) => thread::sleep(rt, Duration::from_micros(PAUSE)),
             Err(_) => return Ok(false),
         }
     }
@@ -90,14 +101,15 @@ fn comes_to(alloc: Global, reader: &mut Reader, zxid: i64) -> Result<bool, NoMem
 }
 
 /// The first server, by its number, whose view does not show a transaction in the end.
-fn first_late(
+fn first_late<R: Wait + time::Clock>(
+    rt: &R,
     alloc: Global,
     readers: &mut [Vec<Reader>],
     zxid: i64,
 ) -> Result<Option<usize>, NoMemory> {
     for (place, list) in readers.iter_mut().enumerate() {
         let reader = list.last_mut().ok_or(NoMemory)?;
-        if !comes_to(alloc, reader, zxid)? {
+        if !comes_to(rt, alloc, reader, zxid)? {
             return Ok(Some(place));
         }
     }
@@ -120,6 +132,7 @@ fn run_all<L: CallLedger + Send + Sync, R: Threads + Wait + Sync>(
 
 /// A client's script, once all views show it; and then the end of all inboxes.
 fn ask_all<L: CallLedger, R: Wait + time::Clock>(
+    rt: &R,
     alloc: Global,
     mut remote: Remote<'_, L, R, Times>,
     senders: &Senders,
@@ -127,7 +140,7 @@ fn ask_all<L: CallLedger, R: Wait + time::Clock>(
     script: Script,
 ) -> Result<Told<L>, NoMemory> {
     let wrong = play(alloc, &mut remote, script.rows);
-    let late = first_late(alloc, readers.as_mut_slice(), script.last);
+    let late = first_late(rt, alloc, readers.as_mut_slice(), script.last);
     drop(readers);
     let (seat, receipts) = remote.end();
     senders.end_all();
@@ -158,7 +171,7 @@ fn run_and_ask<L: CallLedger + Send + Sync, R: Threads + Wait + Sync + time::Clo
         move ||
             requires { length post.inboxes.items ≡ length seats.items }
         { run_all(rt, alloc, shared, post, seats) },
-        move || ask_all(alloc, remote, ends, readers, script),
+        move || ask_all(rt, alloc, remote, ends, readers, script),
     )
 }
 
