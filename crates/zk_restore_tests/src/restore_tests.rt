@@ -160,7 +160,9 @@ fn a_broken_log_matters_if_its_rest_is_asked_for(rt: HostRuntime) {
     let fault = RestoreFault::Log(LogFileFault::Checksum(69));
     assert!(rt; is_fault(&broken, 1, fault));
     let before = Some(restore(alloc, Base::Empty, Some(6), logs.as_slice()));
-    assert!(rt; matches!(&before, Some(Ok(restored)) if restored.table.last() == 6 && restored.ending.is_none()));
+    assert!(rt;
+        matches!(&before, Some(Ok(restored)) if restored.table.last() == 6 && restored.ending.is_none())
+    );
 }
 
 #[test]
@@ -229,5 +231,11 @@ fn a_snapshot_says_from_where_it_is_exact(rt: HostRuntime) {
         Some(snapshot) => Some(exact_from(&snapshot, 4)),
         None => None,
     };
-    assert!(rt; exact == Some(Exact { zxid: 7, is_told: true }));
+    assert!(rt;
+        exact
+            == Some(Exact {
+                zxid: 7,
+                is_told: true
+            })
+    );
 }
