@@ -1,0 +1,4 @@
+-- What the contracts of this crate cite.
+pub mod Files
+pub mod Folders
+pub mod Names
