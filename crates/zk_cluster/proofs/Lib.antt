@@ -1,0 +1,5 @@
+pub mod Changing
+pub mod Hearing
+pub mod Posting
+pub mod Starting
+pub mod Stepping
