@@ -1,5 +1,5 @@
 #!/usr/bin/env python3
-"""The proved test program of the loads that prepare.py, ensemble.py and readers.py measure.
+"""The proved test program of the loads that prepare.py, ensemble.py, readers.py and hosts.py measure.
 
 usage: bench/loads.py     prints its path, to run a load with other numbers:
                           ZK_LOAD='2000 100' "$(python3 bench/loads.py)" loads::ensemble
@@ -21,7 +21,7 @@ LOADS = ROOT / "bench" / "loads"
 COPIED = ("crates", "crates.txt", "HANDLES")
 CRATE = "zk_loads"
 # what the files of bench/loads name
-NAMED = "anyhow zk_servers zk_views zk_prepare zk_machine zab_model zab_epoch zk_table zk_acl zk_path zk_requests zk_model"
+NAMED = "anyhow zk_servers zk_views zk_prepare zk_machine zab_model zab_epoch zk_table zk_acl zk_path zk_requests zk_model zk_host zab_host"
 
 
 def files() -> dict[str, bytes]:
