@@ -87,7 +87,7 @@ fn rejects_own(alloc: Global, one: &mut EchoHost) -> bool {
     }
 }
 
-/// Whether a host that follows nobody rejects inputs.
+/// Whether a host that has no leader rejects inputs.
 fn rejects(alloc: Global, one: &mut EchoHost) -> bool {
     is_rejected(alloc, one.follow(alloc, &QUORUMS, 1), "H3")
         && is_rejected(alloc, one.follow(alloc, &QUORUMS, 0), "H3")
