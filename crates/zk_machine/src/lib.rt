@@ -24,4 +24,5 @@ pub use change::{Change, ChangeKind};
 pub use fault::{MachineFault, UndoFault};
 pub use laws::instructions_change_in_one_way;
 pub use machine::Machine;
+pub use sessions::Sessions;
 pub use undo::Undo;

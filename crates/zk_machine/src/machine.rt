@@ -66,6 +66,26 @@ impl Machine {
         })
     }
 
+    /// A machine in the state of this tree, these sessions and this last zxid. It undoes only what
+    /// it applies from there.
+    pub fn from_state(alloc: Global, tree: Tree, sessions: Sessions, last: i64) -> Machine
+        ensures { result ≡ record { state = record { nodes = tree; sessions = sessions; last = last }; steps = 0; failed = false } }
+    {
+        Machine {
+            table: Table {
+                nodes: NotedTree {
+                    alloc,
+                    tree,
+                    touched: Preimages::new(alloc),
+                },
+                sessions,
+                last,
+            },
+            steps: 0,
+            failed: false,
+        }
+    }
+
     /// A machine in the same state, whose steps start again at 0. [`undo`](Machine::undo) compares
     /// only step numbers, so undo records of the original are not for the copy.
     pub fn copy(&self) -> Result<Machine, NoMemory>

@@ -11,7 +11,7 @@ use zk_path::NoMemory;
 
 /// The open sessions with their timeouts: a list sorted by the sessions' unsigned numbers.
 #[derive(Debug, Drop)]
-pub(crate) struct Sessions {
+pub struct Sessions {
     entries: Vec<(u64, i32)>,
 }
 
@@ -45,7 +45,7 @@ fn position_of(entries: &[(u64, i32)], session: u64) -> Result<usize, usize>
 }
 
 impl Sessions {
-    pub(crate) fn new(alloc: Global) -> Sessions
+    pub fn new(alloc: Global) -> Sessions
         ensures { result ≡ finite.empty }
     {
         Sessions {
@@ -79,7 +79,7 @@ impl Sessions {
     }
 
     /// Opens a session, or sets the timeout of an open one. Returns the timeout before.
-    pub(crate) fn open(&mut self, session: u64, timeout: i32) -> Result<Option<i32>, NoMemory>
+    pub fn open(&mut self, session: u64, timeout: i32) -> Result<Option<i32>, NoMemory>
         ensures before { IfOk result (λ before. before ≡ finite.get self.old session) }
         ensures opened { OnOk result (self.new ≡ finite.insert self.old session timeout) }
     {
