@@ -15,7 +15,7 @@ from collections import Counter
 
 ROOT = os.path.dirname(os.path.dirname(os.path.abspath(__file__)))
 sys.path.insert(0, os.path.join(ROOT, "checks"))
-import edits
+import mutants
 
 
 def modules(kept):
@@ -30,7 +30,7 @@ def modules(kept):
 
 def main(crate):
     with tempfile.TemporaryDirectory(prefix="modules-") as kept:
-        words = [*edits.words_of(crate), "--incremental", kept]
+        words = [*mutants.words_of(crate), "--incremental", kept]
         ran = subprocess.run(words, cwd=os.path.join(ROOT, "crates", crate), stdin=subprocess.DEVNULL, capture_output=True, text=True)
         if ran.returncode:
             print(ran.stdout[-2000:] + ran.stderr[-2000:])
