@@ -5,6 +5,7 @@ use crate::syncs::{AskedSyncs, CaughtSyncs};
 use crate::tags::Tags;
 use std::alloc::Global;
 use std::marker::Model;
+use std::mem::replace;
 use zab_epoch::{
     Body, Entries, Entry, History, Messages, Peer, Quorums, Role, RuleFault, Stable, Table, Vote,
 };
@@ -44,7 +45,7 @@ impl<P: Primary> Model for Server<P> {
 }
 
 impl<P: Primary> Server<P> {
-    ghost use Rattle.std.specs.Prelude.{◌≡◌, ◌≢◌, ◌≤◌, ◌<◌, ◌<ℤ◌, ◌-◌, ◌++◌, max, set, length, take, None, if◌then◌else◌, IfOk, OnOk, OnErr};
+    ghost use Rattle.std.specs.Prelude.{◌≡◌, ◌≢◌, ◌≤◌, ◌<◌, ◌<ℤ◌, ◌-◌, ◌++◌, [], max, set, length, take, None, if◌then◌else◌, IfOk, OnOk, OnErr};
     ghost use Rattle.zab_epoch.specs.declared.fault.RuleFault.TheVariants as faults;
     ghost use Rattle.zab_epoch.specs.Entries.{last_zxid};
     ghost use Rattle.zab_epoch.specs.Shortness.{IsShort};
@@ -106,6 +107,14 @@ impl<P: Primary> Server<P> {
         let State { peer, .. } = state;
         let Peer { stable, .. } = peer;
         stable
+    }
+
+    /// Takes the syncs that it has completed since they were last taken.
+    pub fn take_caught(&mut self, alloc: Global) -> CaughtSyncs
+        ensures taken { result ≡ self.old.caught }
+        ensures rest { self.new ≡ record self.old { caught = [] } }
+    {
+        replace(&mut self.state.caught, CaughtSyncs::new(alloc))
     }
 
     /// Whether it takes client calls: as a leader in Broadcast, or as a synced follower.
