@@ -5,3 +5,6 @@ pub mod Planting
 pub mod Deeds
 pub mod Lending
 pub mod Inserting
+pub mod Regrown
+pub mod Replanting
+pub mod Reopened

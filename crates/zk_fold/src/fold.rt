@@ -10,6 +10,7 @@ use crate::node_index::NodeIndex;
 use crate::sessions::Sessions;
 use std::alloc::Global;
 use std::marker::Model;
+use zk_machine::Machine;
 use zk_path::{NoMemory, Path};
 use zk_table::{Node, Op, Sub, Txn, hold_error};
 use zk_tree::Entry;
@@ -175,6 +176,15 @@ impl Fold {
             return Ok(());
         }
         self.nodes.apply_parts(txn, parts)
+    }
+
+    /// A machine in the same state.
+    pub fn machine(&self) -> Result<Machine, NoMemory>
+        ensures { IfOk result (λ machine. machine ≡ record { state = self.now.state; steps = 0; failed = false }) }
+    {
+        let tree = self.nodes.tree()?;
+        let sessions = self.sessions.of_machine()?;
+        Ok(Machine::from_state(self.nodes.alloc, tree, sessions, self.last))
     }
 
     /// Whether an allocation failed in the middle of a transaction.

@@ -1,11 +1,12 @@
-ghost use Rattle.std.specs.Prelude.{◌≡◌, true, IfOk, OnOk, IsSome, IsTrue, length, map, pos, is_none, codes};
+ghost use Rattle.std.specs.Prelude.{◌≡◌, true, false, IfOk, OnOk, IsSome, IsTrue, Some, length, map, pos, is_none, codes};
 ghost use Rattle.std.specs.FinMap as finite;
+ghost use Rattle.std.specs.Option.{ForSome};
 ghost use Rattle.zk_path.specs.Paths.{parent_of};
 ghost use Rattle.zk_txn.specs.Nodes.{written, guarded};
 ghost use Rattle.zk_table.specs.Operations.{create_fault, delete_fault, without};
 ghost use Rattle.zk_table.specs.States.{start_state, children_of, owned_by, changed};
 ghost use Rattle.zk_tree.specs.Entries.{lent, entries_of};
-ghost use Rattle.zk_tree.specs.Trees.{IsTree};
+ghost use Rattle.zk_tree.specs.Trees.{IsTree, owner_at};
 ghost use Rattle.zk_fold.specs.NodeIndexes.{put_below, CanInsert, can_insert};
 
 use crate::node_table::NodeTable;
@@ -15,7 +16,7 @@ use std::marker::Model;
 use zk_acl::Acls;
 use zk_path::{NoMemory, Path};
 use zk_table::{Content, Node, Txn};
-use zk_tree::Entry;
+use zk_tree::{Entry, Tree};
 
 /// The nodes of a server by path, each with the number of its children, and the paths of each
 /// session's nodes.
@@ -223,6 +224,25 @@ impl NodeIndex {
         let _ = &self.owners;
     }
 
+    /// The same nodes as an indexed tree.
+    pub(crate) fn tree(&self) -> Result<Tree, NoMemory>
+        ensures { IfOk result (λ tree. tree ≡ self.now) }
+    {
+        self.stands();
+        let Some(root) = self.places.get("/") else {
+            unreachable!()
+        };
+        let entries = self.entries()?;
+        let mut tree = Tree::from_root(self.alloc, root.node.copy()?)?;
+        for entry in entries.as_slice() {
+            if entry.path.text() == "/" {
+                continue;
+            }
+            put_child(&mut tree, entry.path, entry.node)?;
+        }
+        Ok(tree)
+    }
+
     /// The nodes, each with its path and the number of its children, sorted by path.
     pub(crate) fn entries(&self) -> Result<Vec<Entry<'_>>, NoMemory>
         ensures { IfOk result (λ entries. map lent entries.items ≡ entries_of self.now) }
@@ -239,6 +259,18 @@ impl NodeIndex {
         }
         Ok(entries)
     }
+}
+
+/// Puts a copy of a node at a copy of its path.
+fn put_child(tree: &mut Tree, path: &Path, node: &Node) -> Result<(), NoMemory>
+    requires free { finite.contains_key tree.old path.now ≡ false }
+    requires below { ForSome (parent_of path.now) (λ parent. owner_at tree.old parent ≡ Some (pos 0)) }
+    ensures { OnOk result (tree.new ≡ finite.insert tree.old path.now node.now) }
+{
+    let Ok(()) = tree.put(path.copy()?, node.copy()?) else {
+        return Err(NoMemory);
+    };
+    Ok(())
 }
 
 /// Parses a text that is a path: the only error is an allocation failure.

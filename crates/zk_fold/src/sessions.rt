@@ -51,6 +51,18 @@ impl Sessions {
         self.timeouts.remove(&session);
     }
 
+    /// The same sessions as a machine holds them.
+    pub(crate) fn of_machine(&self) -> Result<zk_machine::Sessions, NoMemory>
+        ensures { IfOk result (λ sessions. sessions ≡ self.now) }
+    {
+        let entries = self.entries()?;
+        let mut sessions = zk_machine::Sessions::new(self.alloc);
+        for (session, timeout) in entries.as_slice() {
+            sessions.open(*session, *timeout)?;
+        }
+        Ok(sessions)
+    }
+
     /// The sessions and their timeouts in milliseconds, in order.
     pub fn entries(&self) -> Result<Vec<(u64, i32)>, NoMemory>
         ensures { IfOk result (λ entries. entries.items ≡ finite.entries self.now) }
