@@ -1,0 +1,4 @@
+pub mod Deliveries
+pub mod Hubs
+pub mod Laws
+pub mod Sorting

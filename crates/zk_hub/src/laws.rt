@@ -1,0 +1,13 @@
+//! What holds of every hub. The functions do nothing; each is there for its contract.
+
+ghost use Rattle.zk_hub.specs.Laws.{FirstInFirstOut, OthersStay};
+
+/// A connection's requests are replied to in the order in which it sent them.
+pub fn first_in_first_out<V: Drop, E: Drop, R: Drop>()
+    ensures { FirstInFirstOut V E R }
+{}
+
+/// What happens at one connection changes no request of another, and takes none.
+pub fn others_stay<V: Drop, E: Drop, R: Drop>()
+    ensures { OthersStay V E R }
+{}
