@@ -4,7 +4,7 @@ use crate::storage::{Storage, StoreFault};
 use std::alloc::Global;
 use std::marker::Model;
 use std::mem::replace;
-use zab_broadcast::{Caught, Primary, Server};
+use zab_broadcast::{Caught, CaughtSyncs, Primary, Server};
 use zab_epoch::{Entries, Message, Messages, Quorums};
 
 /// One server and its store. Its messages wait in an outbox until all that they depend on is
@@ -315,12 +315,24 @@ impl<P: Primary, S: Storage> Host<P, S> {
         self.server.delivered()
     }
 
-    /// Returns the server's completed syncs since it started, borrowed, under the condition of
+    /// Returns the server's completed syncs that were not taken yet, borrowed, under the condition of
     /// [`Host::delivered`].
     pub fn syncs(&self) -> &[Caught]
         requires stored { IsStored S.may_recover self.now }
         ensures { result.now ≡ self.now.state.caught }
     {
         self.server.state().caught.as_slice()
+    }
+
+    /// Takes the syncs that the server has completed since they were last taken, under the condition
+    /// of [`Host::delivered`].
+    pub fn take_syncs(&mut self, alloc: Global) -> CaughtSyncs
+        requires stored { IsStored S.may_recover self.old }
+        ensures syncs { result ≡ self.old.state.caught }
+        ensures state { self.new.state ≡ record self.old.state { caught = [] } }
+        ensures outbox { self.new.outbox ≡ self.old.outbox }
+        ensures storage { self.new.storage ≡ self.old.storage }
+    {
+        self.server.take_caught(alloc)
     }
 }
