@@ -1,5 +1,6 @@
 ghost use Rattle.std.specs.Prelude.{◌≡◌, ◌++◌, ◌∷◌, [], IfOk, OnOk, OnErr, map, nat_eq};
 ghost use Rattle.std.specs.List.{starts_with};
+ghost use Rattle.std.specs.Option.{option_copied};
 ghost use Rattle.std.specs.String.{string_bytes};
 ghost use Rattle.std.specs.FinMap as finite;
 ghost use Rattle.zk_base.specs.Drafts.{entry_of, changed, removed, remove_all, starting_in, without_below, had_children, owned_by, with_child, without_child, written, guarded, as_parent};
@@ -47,6 +48,12 @@ impl DraftNodes {
         ensures { result ≡ finite.contains_key self.now path.now }
     {
         self.map.contains_key(path)
+    }
+
+    pub fn get(&self, path: &str) -> Option<&DraftNode>
+        ensures { option_copied result ≡ finite.get self.now path.now }
+    {
+        self.map.get(path)
     }
 
     /// Inserts a node. After [`NoMemory`] nothing is changed.
