@@ -1,3 +1,4 @@
 pub use Rattle.zk_path.specs.Paths
 pub mod Restoring
 pub mod Rules
+pub mod Windows

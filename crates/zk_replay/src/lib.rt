@@ -4,9 +4,11 @@
 //! writes; the old value has no effect.
 #![tactic(auto)]
 
+mod done;
 mod rules;
 mod stage;
 mod window;
 
+pub use done::replay_late;
 pub use stage::{Stage, finish, take};
 pub use window::replay;

@@ -92,7 +92,7 @@ pub(crate) fn close(drafts: &mut DraftNodes, txn: &Txn, listed: &[Path]) -> Resu
 }
 
 /// Applies a part of a multi.
-fn apply_part(drafts: &mut DraftNodes, txn: &Txn, part: &Sub) -> Result<(), NoMemory>
+pub(crate) fn apply_part(drafts: &mut DraftNodes, txn: &Txn, part: &Sub) -> Result<(), NoMemory>
     ensures { OnOk result (drafts.new ≡ apply_part txn.now drafts.old part.now) }
 {
     match part {
