@@ -1,9 +1,8 @@
 -- Files, one after another.
-use Rattle.std.proofs.Common.{◌≡◌, ℕ, ◌+◌, ◌<◌, Bool, true, false, cond, inr, List, [], ◌∷◌, ◌++◌, length, take, get_or, Option, None, Result, Ok, Err, refl, sym, ap, ◌∙◌, subst, append_assoc, append-nil}
+use Rattle.std.proofs.Common.{◌≡◌, ℕ, ◌+◌, ◌<◌, Bool, true, false, cond, inr, List, [], ◌∷◌, ◌++◌, length, take, get_or, Option, Some, None, Result, Ok, Err, refl, sym, ap, ◌∙◌, subst, append_assoc, append-nil}
 use Rattle.std.proofs.lemmas.List.{take_more}
 use Rattle.std.specs.Borrow.{Bor}
 use Rattle.std.specs.Prelude.{not}
-use Rattle.zk_directory.specs.Chains.{History, history_of}
 use Rattle.zk_directory.specs.declared.chain.Turn.{Turn}
 use Rattle.zk_directory.specs.declared.chain.Turn.TheVariants.{Take, Skip, Stop}
 use Rattle.zk_log.specs.declared.loaded.Ending.{Ending}
@@ -11,12 +10,13 @@ use Rattle.zk_log_files.specs.LogFiles.{IsLogFile}
 use Rattle.zk_log_files.specs.declared.file.FileEntry.{FileEntry}
 use Rattle.zk_log_files.specs.declared.file.LogFile.{LogFile}
 use Rattle.zk_newer_records.specs.declared.newer_record.NewerRecord.{NewerRecord}
-use Rattle.zk_restore.proofs.Joined.{going, none_left, read_step}
+use Rattle.zk_restore.proofs.Joined.{none_left, read_step}
 use Rattle.zk_restore.proofs.Leading.{joined, no_records}
 use Rattle.zk_restore.specs.Directories.{AreAllRead, AreBroken, AreLogFiles, AreRead, FailsIn, IsAfterLog, ReadsLog, ending_of, last_ending, read_files, read_next}
 use Rattle.zk_restore.specs.Joins as joins
-use Rattle.zk_restore.specs.Joins.{Reading, decision, end_of, ended_by, is_wanted, read_by, read_end, read_entries, read_entry, read_file, told_of, with_turn}
-use Rattle.zk_restore.specs.Restorations.{GoesThrough, IsFaultOf, Replays, reading_of}
+use Rattle.zk_restore.specs.Joins.{Reading, decision, end_of, ended_by, is_wanted, leaving_fault, read_by, read_end, read_entries, read_entry, read_file, taken_by, with_entry}
+use Rattle.zk_restore.specs.Restorations.{GoesThrough, IsFaultOf, Replays, reading_of, reading_with}
+use Rattle.zk_base.specs.declared.fault.BaseFault.{BaseFault}
 use Rattle.zk_restore.specs.declared.directory.Step.{Step}
 use Rattle.zk_restore.specs.declared.fault.RestoreFault.{RestoreFault}
 use Rattle.zk_restore.specs.declared.fault.RestoreFault.TheVariants as faults
@@ -25,16 +25,20 @@ use Rattle.zk_restore.specs.declared.restoration.Restore.{Restore}
 -- ---- records that were taken before
 
 abbrev pub behind : List NewerRecord → Reading → Reading
-behind front reading = record { history = reading.history; records = front ++ reading.records; is_over = reading.is_over }
+behind front reading = record { history = reading.history; records = front ++ reading.records; window = reading.window; is_over = reading.is_over }
 
 abbrev pub all_behind : List NewerRecord → Result Reading RestoreFault → Result Reading RestoreFault
 all_behind front (Ok reading) = Ok (behind front reading)
 all_behind front (Err fault) = Err fault
 
+taken_behind : (front : List NewerRecord) (reading : Reading) (entry : FileEntry) (f : Option BaseFault) → taken_by (behind front reading) entry f ≡ all_behind front (taken_by reading entry f)
+taken_behind front reading entry None =
+    ap (λ l. let r : Reading = record { history = (with_entry reading entry).history; records = l; window = (with_entry reading entry).window; is_over = false } in let x : Result Reading RestoreFault = Ok r in x) (append_assoc front reading.records (entry.newer ∷ []))
+taken_behind front reading entry (Some fault) = refl
+
 turn_behind : (front : List NewerRecord) (reading : Reading) (entry : FileEntry) (d : Result Turn RestoreFault) → read_by (behind front reading) entry d ≡ all_behind front (read_by reading entry d)
 turn_behind front reading entry (Err fault) = refl
-turn_behind front reading entry (Ok Take) =
-    ap (λ l. let r : Reading = record { history = (with_turn reading entry Take).history; records = l; is_over = false } in let x : Result Reading RestoreFault = Ok r in x) (append_assoc front reading.records (entry.newer ∷ []))
+turn_behind front reading entry (Ok Take) = taken_behind front reading entry (leaving_fault reading.window entry.newer)
 turn_behind front reading entry (Ok Skip) = refl
 turn_behind front reading entry (Ok Stop) = refl
 
@@ -47,7 +51,7 @@ next_behind : (front : List NewerRecord) (read : Result Reading RestoreFault) (e
 next_behind front (Ok reading) entry = entry_by reading.is_over front reading entry
 next_behind front (Err fault) entry = refl
 
-entries_behind : (front : List NewerRecord) (read : Result Reading RestoreFault) (entries : List FileEntry) → read_entries (all_behind front read) entries ≡ all_behind front (read_entries read entries)
+pub entries_behind : (front : List NewerRecord) (read : Result Reading RestoreFault) (entries : List FileEntry) → read_entries (all_behind front read) entries ≡ all_behind front (read_entries read entries)
 entries_behind front read [] = none_left (all_behind front read) ∙ ap (all_behind front) (sym (none_left read))
 entries_behind front read (entry ∷ entries) =
     read_step (all_behind front read) entry entries
@@ -55,7 +59,7 @@ entries_behind front read (entry ∷ entries) =
     ∙ entries_behind front (joins.read_next read entry) entries
     ∙ ap (all_behind front) (sym (read_step read entry entries))
 
-ended_behind : (front : List NewerRecord) (reading : Reading) (end : Result (Unit {0}) RestoreFault) → ended_by (behind front reading) end ≡ all_behind front (ended_by reading end)
+pub ended_behind : (front : List NewerRecord) (reading : Reading) (end : Result (Unit {0}) RestoreFault) → ended_by (behind front reading) end ≡ all_behind front (ended_by reading end)
 ended_behind front reading (Ok none) = refl
 ended_behind front reading (Err fault) = refl
 
@@ -75,15 +79,15 @@ file_behind front reading file =
 
 -- ---- one file more
 
-no_files : (read : Result Reading RestoreFault) → read_files read [] ≡ read
+pub no_files : (read : Result Reading RestoreFault) → read_files read [] ≡ read
 unfolding read_files
 no_files read = refl
 
-files_on : (read : Result Reading RestoreFault) (file : LogFile) (files : List LogFile) → read_files read (file ∷ files) ≡ read_files (read_next read file) files
+pub files_on : (read : Result Reading RestoreFault) (file : LogFile) (files : List LogFile) → read_files read (file ∷ files) ≡ read_files (read_next read file) files
 unfolding read_files
 files_on read file files = refl
 
-then_files : (read : Result Reading RestoreFault) (files more : List LogFile) → read_files read (files ++ more) ≡ read_files (read_files read files) more
+pub then_files : (read : Result Reading RestoreFault) (files more : List LogFile) → read_files read (files ++ more) ≡ read_files (read_files read files) more
 then_files read [] more = ap (λ y. read_files y more) (sym (no_files read))
 then_files read (file ∷ files) more =
     files_on read file (files ++ more)
@@ -91,18 +95,18 @@ then_files read (file ∷ files) more =
     ∙ ap (λ y. read_files y more) (sym (files_on read file files))
 
 -- the next file, after others
-next_file : (start : Result Reading RestoreFault) (files : List LogFile) (file : LogFile) (history : History) (records : List NewerRecord) (last : Result Reading RestoreFault)
-    → read_files start files ≡ Ok (going history records) → read_file (going history []) file ≡ last → read_files start (files ++ file ∷ []) ≡ all_behind records last
-next_file start files file history records last so_far one =
+next_file : (start : Result Reading RestoreFault) (files : List LogFile) (file : LogFile) (old : Restore) (records : List NewerRecord) (last : Result Reading RestoreFault)
+    → read_files start files ≡ Ok (reading_with old records false) → read_file (reading_of old) file ≡ last → read_files start (files ++ file ∷ []) ≡ all_behind records last
+next_file start files file old records last so_far one =
     then_files start files (file ∷ [])
     ∙ ap (λ y. read_files y (file ∷ [])) so_far
-    ∙ files_on (Ok (going history records)) file []
-    ∙ no_files (read_file (going history records) file)
-    ∙ ap (λ l. read_file (going history l) file) (sym (append-nil records))
-    ∙ file_behind records (going history []) file
+    ∙ files_on (Ok (reading_with old records false)) file []
+    ∙ no_files (read_file (reading_with old records false) file)
+    ∙ ap (λ l. read_file (reading_with old l false) file) (sym (append-nil records))
+    ∙ file_behind records (reading_of old) file
     ∙ ap (all_behind records) one
 
-more_files : (logs : List (Bor (List ℕ))) (files : List LogFile) (bytes : Bor (List ℕ)) (file : LogFile) → AreLogFiles logs files → IsLogFile bytes.now file → AreLogFiles (logs ++ bytes ∷ []) (files ++ file ∷ [])
+pub more_files : (logs : List (Bor (List ℕ))) (files : List LogFile) (bytes : Bor (List ℕ)) (file : LogFile) → AreLogFiles logs files → IsLogFile bytes.now file → AreLogFiles (logs ++ bytes ∷ []) (files ++ file ∷ [])
 more_files [] [] bytes file are is = (is, tt)
 more_files [] (other ∷ files) bytes file are is = absurd are
 more_files (other ∷ logs) [] bytes file are is = absurd are
@@ -146,7 +150,7 @@ one_read start old logs i step ending lt so_far after = record {
   files = so_far.files ++ after.file ∷ [];
   of_logs = taken_more logs i so_far.files after.file lt so_far.of_logs after.of_bytes;
   records = so_far.records ++ after.after.records;
-  of_files = next_file (Ok (reading_of start)) so_far.files after.file (history_of old.chain) so_far.records _ so_far.of_files after.after.read;
+  of_files = next_file (Ok (reading_of start)) so_far.files after.file old so_far.records _ so_far.of_files after.after.read;
   exact = after.after.exact ∙ so_far.exact;
   stage = joined start.stage old.stage step.restore.stage start.exact so_far.records after.after.records so_far.stage (subst (λ z. Replays old.stage z after.after.records step.restore.stage) so_far.exact after.after.stage);
   last = after.ending ∙ sym (ends_with None so_far.files after.file);
@@ -174,8 +178,8 @@ fault_behind front read all (faults.Differs at) f told = told f
 fault_behind front read all (faults.Short exact) f told = absurd f
 fault_behind front read all (faults.Early exact) f told = absurd f
 fault_behind front read all (faults.Log broken) f told = told f
-fault_behind front read all faults.Tree f told = tt
-fault_behind front read all faults.Access f told = tt
+fault_behind front read all faults.Tree f told = told f
+fault_behind front read all faults.Access f told = told f
 fault_behind front read all faults.NoMemory f told = tt
 
 -- the next one is broken
@@ -186,7 +190,7 @@ one_broken start old logs i fault ending file lt so_far of_bytes broken = record
   of_logs = taken_more logs i so_far.files file lt so_far.of_logs of_bytes;
   of_files =
       fault_behind so_far.records (read_file (reading_of old) file) (read_files (Ok (reading_of start)) (so_far.files ++ file ∷ [])) fault broken
-      (λ e. next_file (Ok (reading_of start)) so_far.files file (history_of old.chain) so_far.records (Err fault) so_far.of_files e);
+      (λ e. next_file (Ok (reading_of start)) so_far.files file old so_far.records (Err fault) so_far.of_files e);
 }
 
 -- as the contract of the call says it

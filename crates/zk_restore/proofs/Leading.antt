@@ -83,7 +83,7 @@ last_on : (last : ℤ) (newer : NewerRecord) (records : List NewerRecord) → la
 unfolding last_of
 last_on last newer records = refl
 
-draft_is : (old new : Draft) (newer : NewerRecord) → IsReplayed old newer new → new ≡ replayed_one old newer
+pub draft_is : (old new : Draft) (newer : NewerRecord) → IsReplayed old newer new → new ≡ replayed_one old newer
 draft_is old new newer r =
     ap (λ n. let d : Draft = record { nodes = n; sessions = new.sessions } in d) r.nodes
     ∙ ap (λ m. let d : Draft = record { nodes = nodes_replayed old.nodes newer; sessions = m } in d) r.sessions

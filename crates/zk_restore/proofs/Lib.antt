@@ -1,4 +1,5 @@
 pub mod Files
 pub mod Joined
 pub mod Leading
+pub mod Searching
 pub mod Wholes

@@ -5,14 +5,15 @@ use Rattle.zk_table.specs.Histories.{tree_of}
 use Rattle.zk_table.specs.States.{State}
 use Rattle.zk_base.specs.Bases.{IsDraftOf}
 use Rattle.zk_base.specs.declared.draft.Draft.{Draft}
-use Rattle.zk_directory.specs.Chains.{history_of}
+use Rattle.zk_base.specs.declared.fault.BaseFault.{BaseFault}
+use Rattle.zk_base.specs.declared.fault.BaseFault.TheVariants as base_faults
 use Rattle.zk_log.specs.declared.loaded.Ending.{Ending}
 use Rattle.zk_log_files.specs.LogFiles.{IsLogFile}
 use Rattle.zk_log_files.specs.declared.file.LogFile.{LogFile}
 use Rattle.zk_log_files.specs.declared.file.LogFileFault.{LogFileFault}
 use Rattle.zk_newer_records.specs.declared.newer_record.NewerRecord.{NewerRecord}
-use Rattle.zk_restore.specs.Joins.{Reading, read_file}
-use Rattle.zk_restore.specs.Restorations.{IsAfterFile, IsFaultOf, Replays, exact_of, is_before, is_early, reading_of, start_of}
+use Rattle.zk_restore.specs.Joins.{Reading, fault_of_base, read_file, window_fault}
+use Rattle.zk_restore.specs.Restorations.{IsAfterFile, IsFaultOf, Replays, base_fault, exact_of, first_window, is_before, is_early, reading_of, reading_with, start_of}
 use Rattle.zk_restore.specs.States.{IsStateFrom, txn_of}
 use Rattle.zk_restore.specs.declared.directory.Progress.{Progress}
 use Rattle.zk_restore.specs.declared.directory.Restored.{Restored}
@@ -52,7 +53,7 @@ last_ending ending (file ∷ files) = last_ending (ending_of file.outcome) files
 
 -- no file was read yet
 abbrev pub start_reading : Base → Option ℤ → Reading
-start_reading base upto = record { history = start_of base upto; records = []; is_over = false }
+start_reading base upto = record { history = start_of base upto; records = []; window = first_window base; is_over = false }
 
 -- what the logs lead to
 abbrev pub reading_by : Base → Option ℤ → List LogFile → Result Reading RestoreFault
@@ -66,41 +67,64 @@ abbrev pub IsStateOf : Base → List NewerRecord → State → Type 0
 IsStateOf bases.Empty records state = state ≡ tree_of (map txn_of records)
 IsStateOf (bases.Snapshot contents zxid exact) records state = (draft : Draft) × IsDraftOf contents.now draft × IsStateFrom draft zxid exact records state
 
--- the logs were read up to the zxid that was asked for, or all of them
-pub record Restores (base : Base) (upto : Option ℤ) (logs : List (Bor (List ℕ))) (restored : Restored) : Type 0 where
+-- the first `read` logs were read: up to the zxid that was asked for, or all of them
+pub record Reads (base : Base) (upto : Option ℤ) (logs : List (Bor (List ℕ))) (read : ℕ) (reading : Reading) : Type 0 where
   pub in_time : is_early base upto ≡ false
+  pub sound : base_fault base ≡ None
   pub files : List LogFile
-  pub of_logs : AreLogFiles (take restored.read logs) files
+  pub of_logs : AreLogFiles (take read logs) files
+  pub of_files : reading_by base upto files ≡ Ok reading
+  pub enough : (read ≡ length logs) ⊎ (reading.is_over ≡ true)
+
+-- the entries end before the snapshot is exact
+abbrev pub ends_short : Base → Reading → Bool
+ends_short base reading = is_before reading.history.position (exact_of base)
+
+pub record Restores (base : Base) (upto : Option ℤ) (logs : List (Bor (List ℕ))) (restored : Restored) : Type 0 where
   pub reading : Reading
-  pub read : reading_by base upto files ≡ Ok reading
-  pub enough : (restored.read ≡ length logs) ⊎ (reading.is_over ≡ true)
-  pub long : is_before reading.history.position (exact_of base) ≡ false
+  pub reads : Reads base upto logs restored.read reading
+  pub long : ends_short base reading ≡ false
+  pub whole : window_fault reading.window ≡ None
+  pub position : restored.position ≡ reading.history.position
   pub state : IsStateOf base reading.records restored.table.state
-  pub ending : restored.ending ≡ last_ending None files
+  pub ending : restored.ending ≡ last_ending None reads.files
 
 -- the logs were read up to the fault
 pub record Breaks (base : Base) (upto : Option ℤ) (logs : List (Bor (List ℕ))) (log : ℕ) (fault : RestoreFault) : Type 0 where
   pub in_time : is_early base upto ≡ false
+  pub sound : base_fault base ≡ None
   pub files : List LogFile
   pub of_logs : AreLogFiles (take (log + 1) logs) files
-  pub read : reading_by base upto files ≡ Err fault
+  pub of_files : reading_by base upto files ≡ Err fault
 
 -- the logs end too early
-pub record Ends (base : Base) (upto : Option ℤ) (logs : List (Bor (List ℕ))) (log : ℕ) : Type 0 where
-  pub in_time : is_early base upto ≡ false
-  pub files : List LogFile
-  pub of_logs : AreLogFiles (take log logs) files
+pub record EndsShort (base : Base) (upto : Option ℤ) (logs : List (Bor (List ℕ))) (log : ℕ) : Type 0 where
   pub reading : Reading
-  pub read : reading_by base upto files ≡ Ok reading
-  pub enough : (log ≡ length logs) ⊎ (reading.is_over ≡ true)
-  pub short : is_before reading.history.position (exact_of base) ≡ true
+  pub reads : Reads base upto logs log reading
+  pub short : ends_short base reading ≡ true
+
+-- the logs end with the window, which leads to no state
+pub record EndsBroken (base : Base) (upto : Option ℤ) (logs : List (Bor (List ℕ))) (log : ℕ) (fault : BaseFault) : Type 0 where
+  pub reading : Reading
+  pub reads : Reads base upto logs log reading
+  pub long : ends_short base reading ≡ false
+  pub broken : window_fault reading.window ≡ Some fault
+
+-- a snapshot is broken by itself
+pub record StartsBroken (base : Base) (upto : Option ℤ) (fault : BaseFault) : Type 0 where
+  pub in_time : is_early base upto ≡ false
+  pub broken : base_fault base ≡ Some fault
+
+-- a snapshot leads to no state: by itself, at the first entry after its window, or at the end
+abbrev pub IsNoState : Base → Option ℤ → List (Bor (List ℕ)) → ℕ → BaseFault → Type 0
+IsNoState base upto logs log fault = StartsBroken base upto fault ⊎ (Breaks base upto logs log (fault_of_base fault) ⊎ EndsBroken base upto logs log fault)
 
 abbrev pub FailsBy : Base → Option ℤ → List (Bor (List ℕ)) → ℕ → RestoreFault → Type 0
 FailsBy base upto logs log (faults.Early exact) = (is_early base upto ≡ true) × (exact ≡ exact_of base)
-FailsBy base upto logs log (faults.Short exact) = Ends base upto logs log × (exact ≡ exact_of base)
+FailsBy base upto logs log (faults.Short exact) = EndsShort base upto logs log × (exact ≡ exact_of base)
 FailsBy base upto logs log faults.NoMemory = is_early base upto ≡ false
-FailsBy base upto logs log faults.Tree = is_early base upto ≡ false
-FailsBy base upto logs log faults.Access = is_early base upto ≡ false
+FailsBy base upto logs log faults.Tree = IsNoState base upto logs log base_faults.Tree
+FailsBy base upto logs log faults.Access = IsNoState base upto logs log base_faults.Access
 FailsBy base upto logs log fault = Breaks base upto logs log fault
 
 abbrev pub IsRestored : Base → Option ℤ → List (Bor (List ℕ)) → Result Restored DirectoryFault → Type 0
@@ -126,7 +150,7 @@ pub record AreRead (old : Restore) (logs : List (Bor (List ℕ))) (read : ℕ) (
   pub files : List LogFile
   pub of_logs : AreLogFiles (take read logs) files
   pub records : List NewerRecord
-  pub of_files : read_files (Ok (reading_of old)) files ≡ Ok (record { history = history_of new.chain; records = records; is_over = over })
+  pub of_files : read_files (Ok (reading_of old)) files ≡ Ok (reading_with new records over)
   pub exact : new.exact ≡ old.exact
   pub stage : Replays old.stage old.exact records new.stage
   pub last : ending ≡ last_ending None files

@@ -3,3 +3,4 @@ pub mod Directories
 pub mod Joins
 pub mod Restorations
 pub mod States
+pub mod Windows

@@ -13,6 +13,8 @@ use zk_log_files::{LogFile, read_log_file};
 #[derive(Drop)]
 pub struct Restored {
     pub table: Fold,
+    /// The zxid of the last entry that was taken, or else of the snapshot.
+    pub position: Option<i64>,
     /// How many of the logs were read.
     pub read: usize,
     /// How the last of these ends; `None` if there is none, or if it is broken after all entries
@@ -128,9 +130,11 @@ pub fn restore<'a>(
         read,
         ending,
     } = read_logs(alloc, start, logs)?;
+    let position = restore.position();
     match restore.finish(alloc) {
         Ok(table) => Ok(Restored {
             table,
+            position,
             read,
             ending,
         }),

@@ -8,8 +8,10 @@ mod directory;
 mod fault;
 mod joining;
 mod restoration;
+mod window;
 
 pub use directory::{Restored, restore};
 pub use fault::{DirectoryFault, RestoreFault};
 pub use joining::{check_end, take_entry};
 pub use restoration::{Base, Restore};
+pub use window::window_end;

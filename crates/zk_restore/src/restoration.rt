@@ -51,6 +51,7 @@ impl<'a> Restore<'a> {
     ///
     /// Fails with [`RestoreFault::Early`] if a snapshot is exact only after that zxid, and with
     /// [`RestoreFault::Tree`] if one of its paths occurs twice or before its parent.
+    #[tactic(auto, using(crate::proofs::Wholes::begin_fails))]
     pub fn new(
         alloc: Global,
         base: Base<'_>,
@@ -153,6 +154,7 @@ impl<'a> Restore<'a> {
     /// Fails with [`RestoreFault::Short`] if the entries end before the zxid from which the
     /// snapshot is exact, and with [`RestoreFault::Tree`] or [`RestoreFault::Access`] if its window
     /// leads to no state.
+    #[tactic(auto, using(crate::proofs::Wholes::finish_fails))]
     pub fn finish(self, alloc: Global) -> Result<Fold, RestoreFault>
         ensures { Finishes self.entry result }
     {
