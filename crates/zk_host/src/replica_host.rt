@@ -2,7 +2,7 @@ use crate::fault::{ReadFault, ReleaseFault};
 use crate::news::News;
 use crate::watched_tree::WatchedTree;
 use std::alloc::Global;
-use zab_broadcast::Caught;
+use zab_broadcast::{Caught, CaughtSyncs};
 use zab_epoch::{Message, Messages, Quorums};
 use zab_host::{Host, HostFault, ReceiveFault, Storage, StoreFault, TagIssuer};
 use zk_machine::Machine;
@@ -100,6 +100,7 @@ impl<S: Storage> ReplicaHost<S> {
         ensures tag { IfSome result (λ tag. tag ≡ tag_of self.old.tags.host self.old.tags.boot self.old.tags.used) }
         ensures counted { OnSome result (self.new.tags ≡ record self.old.tags { used = self.old.tags.used + 1 }) }
         ensures full { IfNone result (self.old.tags.used ≡ 4294967295) }
+        ensures unchanged { IfNone result (self.new.tags ≡ self.old.tags) }
         ensures rest { (self.new.host ≡ self.old.host) × ((self.new.tree ≡ self.old.tree) × (self.new.shown ≡ self.old.shown)) }
     {
         self.tags.issue()
@@ -270,13 +271,25 @@ impl<S: Storage> ReplicaHost<S> {
         self.tree.take_news()
     }
 
-    /// Returns the server's completed syncs since it started, borrowed. Clients see them only once
-    /// all that the server has is stored.
+    /// Returns the server's completed syncs that were not taken yet, borrowed. Clients see them only
+    /// once all that the server has is stored.
     pub fn syncs(&self) -> &[Caught]
         requires stored { IsStored S.may_recover self.now.host }
         ensures { result.now ≡ self.now.host.state.caught }
     {
         self.host.syncs()
+    }
+
+    /// Takes the syncs that the server has completed since they were last taken, under the condition
+    /// of [`ReplicaHost::syncs`].
+    pub fn take_syncs(&mut self, alloc: Global) -> CaughtSyncs
+        requires stored { IsStored S.may_recover self.old.host }
+        ensures syncs { result ≡ self.old.host.state.caught }
+        ensures state { self.new.host.state ≡ record self.old.host.state { caught = [] } }
+        ensures host { (self.new.host.outbox ≡ self.old.host.outbox) × (self.new.host.storage ≡ self.old.host.storage) }
+        ensures rest { (self.new.tree ≡ self.old.tree) × ((self.new.shown ≡ self.old.shown) × (self.new.tags ≡ self.old.tags)) }
+    {
+        self.host.take_syncs(alloc)
     }
 
     /// The last transaction that the tree shows, and 0 before the first.
