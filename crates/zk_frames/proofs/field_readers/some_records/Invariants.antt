@@ -1,0 +1,8 @@
+use Rattle.std.proofs.Common.{◌≡◌, ◌-◌}
+use Rattle.zk_jute.specs.Reading.{many_at}
+use Rattle.zk_frames.specs.Reading.{acl_record_at}
+use Rattle.zk_jute.proofs.Turns.{with_front}
+use Rattle.zk_frames.proofs.field_readers.some_records.Given as goal
+
+abbrev pub invariant-loop : goal.invariant-loop
+invariant-loop l = with_front l.records.items (many_at acl_record_at (l.count - l.counter) l.input.now) ≡ many_at acl_record_at l.fn.count l.fn.input.now

@@ -1,0 +1,5 @@
+pub mod AclRecords
+pub mod Frames
+pub mod Reading
+pub mod Replies
+pub mod Requests
