@@ -1,7 +1,9 @@
 pub mod BehindLaws
 pub mod DigitsLaws
+pub mod FolderLaws
 pub mod GivenLaws
 pub mod LinesLaws
 pub mod NamesLaws
+pub mod OptionLaws
 pub mod ServingLaws
 pub mod WordsLaws

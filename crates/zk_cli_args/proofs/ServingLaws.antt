@@ -8,9 +8,9 @@ use Rattle.std.specs.Result.{result_ok}
 use Rattle.std.specs.Str.{bytes_eq}
 use Rattle.zk_listing.specs.Promises.{ReadsOnly}
 use Rattle.zk_listing.specs.declared.fault.ListCause.{ListCause}
-use Rattle.zk_cli_args.specs.Serving.{Counted, NamesBehind, NamesServers, ReadsDecimal, ReadsServers, ReadsServersOf, ReadsServing, ReadsServingBehind, ReadsServingNamed, SpellsWithin, behind, count_in, told_behind, told_in}
+use Rattle.zk_cli_args.specs.Serving.{NamesBehind, NamesServers, ReadsDecimal, ReadsServers, ReadsServersOf, ReadsServing, ReadsServingBehind, ReadsServingNamed, SpellsWithin}
 use Rattle.zk_cli_args.specs.declared.serving.Serving.{Serving}
-use Rattle.zk_cli_args.proofs.WordsLaws.{no_word, one_more, texts}
+use Rattle.zk_cli_args.proofs.WordsLaws.{no_word, texts}
 
 -- ---- numbers
 
@@ -101,42 +101,3 @@ from_words (program ∷ []) (Ok found) some r = absurd (omega (arith, some))
 from_words (program ∷ name ∷ words) (Ok found) some r =
     let rest : take (length (program ∷ name ∷ words) - 2) words ≡ words = take_all (length (program ∷ name ∷ words) - 2) words (omega arith) in
     named_behind (texts (program ∷ name ∷ words)) program.now name.now (texts words) found refl (subst (λ (l : List (Bor (List ℕ))). ReadsServingNamed name.now (texts l) found) rest r)
-
--- ---- words
-
-further : (front : List (List ℕ)) (word : List ℕ) (found : Option Counted) → behind (front ++ word ∷ []) found ≡ behind front (behind (word ∷ []) found)
-further front word None = refl
-further front word (Some told) = ap (λ (l : List (List ℕ)). Some (told.0, l)) (append_assoc front (word ∷ []) told.1)
-
-pub from_start : (found : Option Counted) → behind [] found ≡ found
-from_start None = refl
-from_start (Some told) = refl
-
-module _ (front : List (List ℕ)) (word : List ℕ) (back : List (List ℕ)) (all : Option Counted) (so_far : behind front (told_in (word ∷ back)) ≡ all) where
-  -- the "--"
-  pub ends : true ≡ bytes_eq word (codes "--") → None ≡ all
-  ends e = rw (← e) at so_far
-
-  -- "--conns"
-  pub counts_behind : false ≡ bytes_eq word (codes "--") → true ≡ bytes_eq word (codes "--conns") → behind front (told_behind back) ≡ all
-  counts_behind e f = rw (← e, ← f) at so_far
-
-  -- "--conns=COUNT"
-  pub counts : (count : List ℕ) → false ≡ bytes_eq word (codes "--") → false ≡ bytes_eq word (codes "--conns") → count_in word ≡ Some count → Some (count, front ++ back) ≡ all
-  counts count e f g = rw (← e, ← f, g) at so_far
-
-  -- any other word
-  pub goes_on : false ≡ bytes_eq word (codes "--") → false ≡ bytes_eq word (codes "--conns") → count_in word ≡ None → behind (front ++ word ∷ []) (told_in back) ≡ all
-  goes_on e f g =
-      let before : behind front (behind (word ∷ []) (told_in back)) ≡ all = rw (← e, ← f, g) at so_far in
-      further front word (told_in back) ∙ before
-
--- a word is prepended
-pub one_on : (front front' words : List (Bor (List ℕ))) (all : Option Counted) → 1 ≤ length words → front' ≡ front ++ get_or words 0 no_word ∷ []
-    → false ≡ bytes_eq (get_or words 0 no_word).now (codes "--") → false ≡ bytes_eq (get_or words 0 no_word).now (codes "--conns") → count_in (get_or words 0 no_word).now ≡ None
-    → behind (texts front) (told_in (texts words)) ≡ all → behind (texts front') (told_in (texts (take (length words - 1) (drop 1 words)))) ≡ all
-one_on front front' [] all some items e f g so_far = absurd (omega (arith, some))
-one_on front front' (word ∷ words) all some items e f g so_far =
-    let rest : take (length (word ∷ words) - 1) words ≡ words = take_all (length (word ∷ words) - 1) words (omega arith) in
-    let texts_in_front : texts front' ≡ texts front ++ word.now ∷ [] = ap texts items ∙ one_more front word in
-    rw (texts_in_front, rest) (goes_on (texts front) word.now (texts words) all so_far e f g)

@@ -1,11 +1,9 @@
 -- The words of a command line that runs servers.
-use Rattle.std.specs.Prelude.{◌≡◌, ◌≢◌, ℕ, ℤ, ◌≤◌, FitsSigned, if◌then◌else◌, List, [], ◌∷◌, ◌++◌, Option, Some, None, codes, map, option_map, take, drop}
+use Rattle.std.specs.Prelude.{◌≡◌, ◌≢◌, ℕ, ℤ, ◌≤◌, FitsSigned, List, [], ◌∷◌, Option, Some, None, codes}
 use Rattle.std.specs.Fmt.{decimal, signed_decimal}
 use Rattle.std.specs.Int.{w64}
-use Rattle.std.specs.Str.{bytes_eq}
-use Rattle.zk_cli_args.specs.Commands.{values_of}
+use Rattle.zk_cli_args.specs.Options.{given_with_option}
 use Rattle.zk_cli_args.specs.declared.serving.Serving.{Serving}
-use Rattle.zk_cli_args.specs.declared.serving.Told.{Told}
 
 -- ---- numbers
 
@@ -19,49 +17,16 @@ abbrev pub ReadsWithin : ℕ → ℕ → List ℕ → Option ℕ → Type 0
 ReadsWithin least most word (Some number) = SpellsWithin least most word number
 ReadsWithin least most word None = (number : ℕ) → ¬ SpellsWithin least most word number
 
--- ---- how many connections
+-- ---- a command line
 
--- the count in "--conns=COUNT"
-abbrev pub count_in : List ℕ → Option (List ℕ)
-count_in word = if bytes_eq (take 8 word) (codes "--conns=") then Some (drop 8 word) else None
-
--- a count, and the other words
-abbrev pub Counted : Type 0
-Counted = List ℕ × List (List ℕ)
-
-abbrev pub told_behind : List (List ℕ) → Option Counted
-told_behind [] = None
-told_behind (count ∷ rest) = Some (count, rest)
-
--- prepends words
-abbrev pub behind : List (List ℕ) → Option Counted → Option Counted
-behind front None = None
-behind front (Some told) = Some (told.0, front ++ told.1)
-
-abbrev pub told_or : Option (List ℕ) → List ℕ → List (List ℕ) → Option Counted → Option Counted
-told_or (Some count) word rest further = Some (count, rest)
-told_or None word rest further = behind (word ∷ []) further
-
--- The count in the first "--conns COUNT" or "--conns=COUNT", and all other words; None without such
--- words before a "--".
-abbrev pub told_in : List (List ℕ) → Option Counted
-told_in [] = None
-told_in (word ∷ rest) = if bytes_eq word (codes "--") then None else (if bytes_eq word (codes "--conns") then told_behind rest else told_or (count_in word) word rest (told_in rest))
-
-abbrev pub given_beside : Option Counted → List (List ℕ) → Option (Option (List ℕ) × List (List ℕ))
-given_beside None words = option_map (λ values. (None, values)) (values_of words)
-given_beside (Some told) words = option_map (λ values. (Some told.0, values)) (values_of told.1)
-
--- the count, if there is one, and the values; a second count is an unknown option
+-- the number of connections, if it is there, and the values
 abbrev pub served_by : List (List ℕ) → Option (Option (List ℕ) × List (List ℕ))
-served_by words = given_beside (told_in words) words
+served_by words = given_with_option (codes "--conns") (codes "--conns=") words
 
 -- without a count, one connection is served
 abbrev pub SpellsConnections : Option (List ℕ) → ℕ → Type 0
 SpellsConnections None connections = connections ≡ 1
 SpellsConnections (Some count) connections = SpellsWithin 0 4294967295 count connections
-
--- ---- a command line
 
 -- the values are a port and a number of servers
 pub record NamesServers (values : List (List ℕ)) (serving : Serving) : Type 0 where
@@ -98,9 +63,6 @@ ReadsServing words None = NamesNoServing words
 abbrev pub ReadsDecimal : List ℕ → Option ℤ → Type 0
 ReadsDecimal word (Some z) = FitsSigned w64 z × (word ≡ signed_decimal z) × ((y : ℤ) → FitsSigned w64 y → word ≡ signed_decimal y → z ≡ y)
 ReadsDecimal word None = (y : ℤ) → FitsSigned w64 y → word ≢ signed_decimal y
-
-abbrev pub shown : Told → Counted
-shown told = (told.count.now, map (λ word. word.now) told.others.items)
 
 abbrev pub ReadsServingBehind : List (List ℕ) → Option Serving → Type 0
 ReadsServingBehind words (Some serving) = NamesBehind words serving

@@ -198,7 +198,7 @@ fn session_job(input: &str, prompts: bool) -> Option<Job<'_>>
 }
 
 /// The only element of a list.
-fn only<'a>(values: &[&'a str]) -> Option<&'a str>
+pub(crate) fn only<'a>(values: &[&'a str]) -> Option<&'a str>
     ensures { IsOnly (map (λ value. value.now) values.now) (option_map (λ value. value.now) result) }
 {
     let [value] = values else {

@@ -1,6 +1,6 @@
 //! The command line as `clap` reads it.
 
-use crate::helps::{CountHelp, FAULTS, FlagHelp, ORDERS, OrderHelp, ValueHelp};
+use crate::helps::{FAULTS, FlagHelp, ORDERS, OptionHelp, OrderHelp, ValueHelp};
 use clap::{Arg, ArgAction, Command};
 use std::alloc::{AllocError, Global};
 
@@ -18,7 +18,9 @@ fn program<'a>(alloc: Global) -> Result<Command<'a>, AllocError> {
         Command::new(alloc, "zk")
             .bin_name("zk")?
             .version("0.1.0")
-            .about("Reads transaction logs of ZooKeeper, and runs ensembles of its servers")
+            .about(
+                "Reads data directories and logs of ZooKeeper, and runs ensembles of its servers",
+            )
             .after_help(FAULTS)
             .subcommand_required(true),
     )
@@ -40,7 +42,7 @@ pub(crate) fn order_command<'a>(
         .about(order.about)
         .after_help(order.notes);
     let command = with_flags(alloc, command, order.flags)?;
-    let command = with_counts(alloc, command, order.counts)?;
+    let command = with_options(alloc, command, order.options)?;
     with_values(alloc, command, order.values)
 }
 
@@ -85,17 +87,17 @@ fn option_arg<'a>(alloc: Global, name: &'static str, help: &'static str) -> Arg<
 }
 
 /// Adds options that take a value.
-fn with_counts<'a>(
+fn with_options<'a>(
     alloc: Global,
     mut command: Command<'a>,
-    counts: &[CountHelp],
+    options: &[OptionHelp],
 ) -> Result<Command<'a>, AllocError> {
-    for count in counts {
-        command = command.arg(count_arg(alloc, count))?;
+    for option in options {
+        command = command.arg(value_option_arg(alloc, option))?;
     }
     Ok(command)
 }
 
-fn count_arg<'a>(alloc: Global, count: &CountHelp) -> Arg<'a> {
-    option_arg(alloc, count.name, count.help).value_name(count.value)
+fn value_option_arg<'a>(alloc: Global, option: &OptionHelp) -> Arg<'a> {
+    option_arg(alloc, option.name, option.help).value_name(option.value)
 }

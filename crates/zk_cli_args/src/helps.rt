@@ -11,7 +11,7 @@ pub(crate) struct OrderHelp {
     pub(crate) notes: &'static str,
     pub(crate) values: &'static [ValueHelp],
     pub(crate) flags: &'static [FlagHelp],
-    pub(crate) counts: &'static [CountHelp],
+    pub(crate) options: &'static [OptionHelp],
 }
 
 /// A positional value of a command.
@@ -33,14 +33,14 @@ pub(crate) struct FlagHelp {
 
 /// An option that takes a value.
 #[derive(Clone, Copy)]
-pub(crate) struct CountHelp {
+pub(crate) struct OptionHelp {
     pub(crate) name: &'static str,
     pub(crate) value: &'static str,
     pub(crate) help: &'static str,
 }
 
 /// The commands, in the order of the program's help.
-pub(crate) const ORDERS: [OrderHelp; 7] = [SHOW, LIST, ASM, MEND, DEBUG, RUN, SERVE];
+pub(crate) const ORDERS: [OrderHelp; 8] = [SHOW, LIST, FILES, ASM, MEND, DEBUG, RUN, SERVE];
 
 pub(crate) const SHOW: OrderHelp = OrderHelp {
     name: "show",
@@ -56,7 +56,7 @@ pub(crate) const SHOW: OrderHelp = OrderHelp {
         },
     ],
     flags: &[],
-    counts: &[],
+    options: &[],
 };
 
 const LIST: OrderHelp = OrderHelp {
@@ -66,7 +66,21 @@ const LIST: OrderHelp = OrderHelp {
     notes: LOG_NOTES,
     values: &[LOG],
     flags: &[],
-    counts: &[],
+    options: &[],
+};
+
+const FILES: OrderHelp = OrderHelp {
+    name: "files",
+    title: "zk files",
+    about: "Prints a line for each snapshot and each log of a data directory",
+    notes: FILES_NOTES,
+    values: &[ValueHelp {
+        name: "DIR",
+        help: "The data directory, or its version-2",
+        required: true,
+    }],
+    flags: &[],
+    options: &[LOGS],
 };
 
 const ASM: OrderHelp = OrderHelp {
@@ -87,7 +101,7 @@ const ASM: OrderHelp = OrderHelp {
         },
     ],
     flags: &[],
-    counts: &[],
+    options: &[],
 };
 
 pub(crate) const MEND: OrderHelp = OrderHelp {
@@ -104,7 +118,7 @@ pub(crate) const MEND: OrderHelp = OrderHelp {
         },
     ],
     flags: &[],
-    counts: &[],
+    options: &[],
 };
 
 pub(crate) const DEBUG: OrderHelp = OrderHelp {
@@ -125,7 +139,7 @@ pub(crate) const DEBUG: OrderHelp = OrderHelp {
         help: "Prints a prompt before each line of a session even if standard input is no terminal",
         without: "SCRIPT",
     }],
-    counts: &[],
+    options: &[],
 };
 
 const RUN: OrderHelp = OrderHelp {
@@ -139,7 +153,7 @@ const RUN: OrderHelp = OrderHelp {
         required: true,
     }],
     flags: &[],
-    counts: &[],
+    options: &[],
 };
 
 pub(crate) const SERVE: OrderHelp = OrderHelp {
@@ -160,7 +174,7 @@ pub(crate) const SERVE: OrderHelp = OrderHelp {
         },
     ],
     flags: &[],
-    counts: &[CountHelp {
+    options: &[OptionHelp {
         name: "conns",
         value: "C",
         help: "The number of connections to serve, one after the other, 0 to 4294967295; 1 if left out",
@@ -172,6 +186,13 @@ const LOG: ValueHelp = ValueHelp {
     name: "FILE",
     help: "The log: a path, or @ for standard input",
     required: true,
+};
+
+/// The option that names a directory of logs.
+const LOGS: OptionHelp = OptionHelp {
+    name: "logs",
+    value: "DIR2",
+    help: "The directory of the logs, if it is another: a data directory, or its version-2",
 };
 
 /// Where the errors of all commands are explained.
@@ -190,6 +211,32 @@ const LOG_NOTES: &str =
   G6          a read failed
   G7          no end after 1048576 reads
 and `read` and `write` if a file cannot be opened or written, and `memory`.
+
+In the source repository, docs/ERRORS.md has what helps."#;
+
+/// The lines of `zk files`, and its errors.
+const FILES_NOTES: &str = r#"A line has the file's name, and then:
+  nodes N sessions N exact ZXID
+                      of a snapshot: from ZXID on, a replay of the logs is exact; `or later` follows
+                      where the snapshot does not state that
+  S1                  not a snapshot
+  S2                  the snapshot ends early
+  S3                  a length, a number or a text is invalid
+  S4                  checksum mismatch: the snapshot is corrupt
+  S5                  bytes follow its end
+  S6                  compressed
+  records N FIRST LAST
+                      of a log: its records, and the zxids of the first and the last
+  end whole, end padding, end torn AT
+                      how the log ends
+  G1, G2 AT, G3 AT, G4 AT, G5 AT
+                      why the log is rejected, as `zk list --help` says
+  gap FROM TO         the transactions between these two are missing
+
+Errors, on standard error after `zk: `; NAME is the file's:
+  D1          no snapshot and no log
+  G6 NAME     a read of the file failed
+and `read` if a directory cannot be read, `write` and `memory`.
 
 In the source repository, docs/ERRORS.md has what helps."#;
 

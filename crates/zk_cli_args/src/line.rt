@@ -2,6 +2,7 @@ ghost use Rattle.std.specs.Prelude.{IfOk, map};
 ghost use Rattle.zk_cli_args.specs.Lines.{ReadsCommand, ReadsCommandLine};
 
 use crate::command::{Job, job_of};
+use crate::folders::{FolderJob, folder_job_of};
 use crate::serving::{Serving, serving_of};
 use crate::usage::{Refusal, refusal_of};
 use std::alloc::Global;
@@ -13,6 +14,8 @@ use zk_path::NoMemory;
 pub enum Command<'a> {
     /// A command runs, from its inputs to its output.
     Act(Job<'a>),
+    /// A command reads a data directory.
+    Look(FolderJob<'a>),
     /// Servers serve connections.
     Serve(Serving),
 }
@@ -56,6 +59,9 @@ fn command_of<'a>(alloc: Global, words: &'a [&'a str]) -> Result<Option<Command<
 {
     if let Some(job) = job_of(alloc, words)? {
         return Ok(Some(Command::Act(job)));
+    }
+    if let Some(job) = folder_job_of(alloc, words)? {
+        return Ok(Some(Command::Look(job)));
     }
     match serving_of(alloc, words)? {
         Some(serving) => Ok(Some(Command::Serve(serving))),

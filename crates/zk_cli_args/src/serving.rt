@@ -1,8 +1,9 @@
-ghost use Rattle.std.specs.Prelude.{◌≡◌, ◌++◌, Some, IfOk, map, option_map};
+ghost use Rattle.std.specs.Prelude.{◌≡◌, IfOk, map};
 ghost use Rattle.zk_cli_args.specs.Commands.{values_of};
-ghost use Rattle.zk_cli_args.specs.Serving.{ReadsDecimal, ReadsServers, ReadsServersOf, ReadsServing, ReadsServingBehind, ReadsServingNamed, ReadsWithin, behind, count_in, shown, told_behind, told_in};
+ghost use Rattle.zk_cli_args.specs.Serving.{ReadsDecimal, ReadsServers, ReadsServersOf, ReadsServing, ReadsServingBehind, ReadsServingNamed, ReadsWithin};
 
 use crate::command::{only_two, values_of};
+use crate::options::option_in;
 use std::alloc::Global;
 use zk_listing::read_long;
 use zk_path::NoMemory;
@@ -16,13 +17,6 @@ pub struct Serving {
     pub servers: usize,
     /// The number of connections that are served, one after another.
     pub connections: u32,
-}
-
-/// The number of connections, and the other words.
-#[derive(Debug, Drop)]
-struct Told<'a> {
-    count: &'a str,
-    others: Vec<&'a str>,
 }
 
 /// The servers that words name.
@@ -50,11 +44,11 @@ fn serving_named(alloc: Global, name: &str, words: &[&str]) -> Result<Option<Ser
 fn serving_behind(alloc: Global, words: &[&str]) -> Result<Option<Serving>, NoMemory>
     ensures { IfOk result (λ read. ReadsServingBehind (map (λ word. word.now) words.now) read) }
 {
-    let Some(told) = told_in(alloc, words)? else {
+    let Some(found) = option_in(alloc, "--conns", "--conns=", words)? else {
         return serving_by(alloc, words, 1);
     };
-    match number_within(told.count, 0, u32::MAX) {
-        Some(connections) => serving_by(alloc, told.others.as_slice(), connections),
+    match number_within(found.value, 0, u32::MAX) {
+        Some(connections) => serving_by(alloc, found.others.as_slice(), connections),
         None => Ok(None),
     }
 }
@@ -82,62 +76,6 @@ fn servers_in(values: &[&str], connections: u32) -> Option<Serving>
         servers: servers as usize,
         connections,
     })
-}
-
-/// The number of connections in the words, and the other words. After a `--` every word is a value.
-fn told_in<'a>(alloc: Global, words: &[&'a str]) -> Result<Option<Told<'a>>, NoMemory>
-    ensures { IfOk result (λ told. option_map shown told ≡ told_in (map (λ word. word.now) words.now)) }
-{
-    let mut front = Vec::new(alloc);
-    let mut rest = words;
-    while let [word, back @ ..] = rest {
-        if *word == "--" {
-            return Ok(None);
-        }
-        if *word == "--conns" {
-            return told_behind(front, back);
-        }
-        if let Some(count) = count_in(word) {
-            return told_with(front, count, back);
-        }
-        front.push(*word)?;
-        rest = back;
-    }
-    Ok(None)
-}
-
-/// The count after `--conns`, and the words before and after these.
-fn told_behind<'a>(front: Vec<&'a str>, rest: &[&'a str]) -> Result<Option<Told<'a>>, NoMemory>
-    ensures { IfOk result (λ told. option_map shown told
-        ≡ behind (map (λ word. word.now) front.entry.items) (told_behind (map (λ word. word.now) rest.now))) }
-{
-    let [count, back @ ..] = rest else {
-        return Ok(None);
-    };
-    told_with(front, count, back)
-}
-
-/// A count, and the words before and after it.
-fn told_with<'a>(
-    mut front: Vec<&'a str>,
-    count: &'a str,
-    back: &[&'a str],
-) -> Result<Option<Told<'a>>, NoMemory>
-    ensures { IfOk result (λ told. option_map shown told
-        ≡ Some (count.now, map (λ word. word.now) front.entry.items ++ map (λ word. word.now) back.now)) }
-{
-    front.extend_from_slice(back)?;
-    Ok(Some(Told {
-        count,
-        others: front,
-    }))
-}
-
-/// The count in `--conns=COUNT`.
-fn count_in(word: &str) -> Option<&str>
-    ensures { option_map (λ count. count.now) result ≡ count_in word.now }
-{
-    word.strip_prefix("--conns=")
 }
 
 /// A decimal in a range.

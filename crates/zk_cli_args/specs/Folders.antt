@@ -1,0 +1,53 @@
+-- The words of a command line that reads a data directory.
+use Rattle.std.specs.Prelude.{◌≡◌, ℕ, List, [], ◌∷◌, Option, Some, None, codes, option_map}
+use Rattle.zk_cli_args.specs.Options.{given_with_option}
+use Rattle.zk_cli_args.specs.declared.folders.FolderJob.{FolderJob}
+use Rattle.zk_cli_args.specs.declared.folders.FolderOrder.{FolderOrder}
+use Rattle.zk_cli_args.specs.declared.folders.FolderOrder.TheVariants as orders
+
+-- the directory of the logs, if it is another, and the values
+abbrev pub looked_by : List (List ℕ) → Option (Option (List ℕ) × List (List ℕ))
+looked_by words = given_with_option (codes "--logs") (codes "--logs=") words
+
+-- a command's name and its values determine a command and its directory
+abbrev pub NamesFolderBy : List ℕ → List (List ℕ) → Option (List ℕ) → FolderOrder → List ℕ → Type 0
+NamesFolderBy name values logs orders.Files folder = (name ≡ codes "files") × (values ≡ folder ∷ [])
+
+-- the words are the program's name, a command's, and words with its values
+pub record NamesFolder (words : List (List ℕ)) (order : FolderOrder) (folder : List ℕ) (logs : Option (List ℕ)) : Type 0 where
+  pub program : List ℕ
+  pub name : List ℕ
+  pub rest : List (List ℕ)
+  pub values : List (List ℕ)
+  pub spelled : words ≡ program ∷ name ∷ rest
+  pub given : looked_by rest ≡ Some (logs, values)
+  pub named : NamesFolderBy name values logs order folder
+
+abbrev pub NamesNoFolder : List (List ℕ) → Type 0
+NamesNoFolder words = (order : FolderOrder) (folder : List ℕ) (logs : Option (List ℕ)) → ¬ NamesFolder words order folder logs
+
+abbrev pub logs_of : FolderJob → Option (List ℕ)
+logs_of job = option_map (λ logs. logs.now) job.logs
+
+-- a job is what the words name
+abbrev pub ReadsFolder : List (List ℕ) → Option FolderJob → Type 0
+ReadsFolder words (Some job) = NamesFolder words job.order job.folder.now (logs_of job)
+ReadsFolder words None = NamesNoFolder words
+
+-- ---- its parts
+
+-- the job of a command's name and values, with this directory of logs
+abbrev pub ReadsFolderBy : List ℕ → List (List ℕ) → Option (List ℕ) → Option FolderJob → Type 0
+ReadsFolderBy name values logs (Some job) = NamesFolderBy name values logs job.order job.folder.now × (logs_of job ≡ logs)
+ReadsFolderBy name values logs None = (order : FolderOrder) (folder : List ℕ) → ¬ NamesFolderBy name values logs order folder
+
+-- the same for the values of some words
+abbrev pub ReadsFolderGiven : List ℕ → Option (List (List ℕ)) → Option (List ℕ) → Option FolderJob → Type 0
+ReadsFolderGiven name given logs (Some job) = (values : List (List ℕ)) × (given ≡ Some values) × NamesFolderBy name values logs job.order job.folder.now × (logs_of job ≡ logs)
+ReadsFolderGiven name given logs None = (values : List (List ℕ)) (order : FolderOrder) (folder : List ℕ) → given ≡ Some values → ¬ NamesFolderBy name values logs order folder
+
+-- the same for all words after a command's name
+abbrev pub ReadsFolderBehind : List ℕ → List (List ℕ) → Option FolderJob → Type 0
+ReadsFolderBehind name words (Some job) = (values : List (List ℕ)) × (looked_by words ≡ Some (logs_of job, values)) × NamesFolderBy name values (logs_of job) job.order job.folder.now
+ReadsFolderBehind name words None =
+    (values : List (List ℕ)) (order : FolderOrder) (folder : List ℕ) (logs : Option (List ℕ)) → looked_by words ≡ Some (logs, values) → ¬ NamesFolderBy name values logs order folder
