@@ -1,18 +1,22 @@
-//! The program `zk`: reads transaction logs of ZooKeeper, and runs its servers. This crate reads
-//! the command line and opens files and ports. The commands are those of `zk_commands`, except
-//! `serve`, which is here because it alone needs threads and sockets.
+//! The program `zk`: reads data directories and transaction logs of ZooKeeper, and runs its
+//! servers. This crate reads the command line and opens files, directories and ports. The commands
+//! are those of `zk_commands` and `zk_folder_commands`, except `serve`, which is here because it
+//! alone needs threads and sockets.
 #![tactic(auto)]
 
 mod accepting;
 mod clock;
+mod disk_folder;
 mod fault_lines;
 mod listening;
+mod looking;
 mod port;
 mod servers;
 mod serving;
 mod start_barrier;
 
 use listening::listen;
+use looking::look;
 use std::io::{IsTerminal, Read, Write};
 use std::net::{Net, TcpListener, TcpStream};
 use std::process::ExitCode;
@@ -53,6 +57,7 @@ fn run<R: Threads + Wait + Net<Listener = TcpListener, Stream = TcpStream> + tim
         .collect::<Vec<_>>(rt.alloc())?;
     match read_command_line(rt.alloc(), texts.as_slice()) {
         Ok(Command::Act(job)) => open_and_act(rt, &job),
+        Ok(Command::Look(job)) => look(rt, &job),
         Ok(Command::Serve(serving)) => listen(threads, rt, serving),
         Err(CommandFault::Refused(refusal)) => Ok(print(rt, &refusal)),
         Err(CommandFault::NoMemory) => Err(NoMemory),

@@ -1,0 +1,94 @@
+//! A data directory on the disk.
+
+use std::alloc::{AllocError, Global};
+use std::{fs, io};
+use zk_folder::{Folder, FolderFault};
+
+/// The name of the directory that servers create in a data directory.
+const VERSION: &str = "version-2";
+
+/// A directory, by its path.
+#[derive(Drop)]
+pub(crate) struct DiskFolder<'a> {
+    rt: &'a HostRuntime,
+    path: String,
+}
+
+impl<'a> DiskFolder<'a> {
+    /// The `version-2` of a directory, or the directory itself if it has none.
+    pub(crate) fn at(rt: &'a HostRuntime, path: &str) -> Result<DiskFolder<'a>, AllocError> {
+        let alloc = rt.alloc();
+        let inner = join(alloc, path, VERSION)?;
+        if is_directory(rt, inner.as_str()) {
+            return Ok(DiskFolder { rt, path: inner });
+        }
+        let path = String::from_str(alloc, path)?;
+        Ok(DiskFolder { rt, path })
+    }
+}
+
+impl Folder for DiskFolder<'_> {
+    ghost use Rattle.std.specs.Prelude.{None};
+
+    ghost names_in = { λ _. None };
+
+    ghost bytes_in = { λ _ _. None };
+
+    fn names(&self, alloc: Global) -> Result<Vec<String>, FolderFault> {
+        let entries = match fs::read_dir(self.rt, self.path.as_str()) {
+            Ok(entries) => entries,
+            Err(error) => return Err(fault_of(&error)),
+        };
+        let mut names = Vec::new(alloc);
+        for entry in entries {
+            match entry {
+                Ok(entry) => push_name(&mut names, entry.file_name())?,
+                // It is not UTF-8.
+                Err(error) if error.kind() == io::ErrorKind::InvalidFilename => {}
+                Err(error) => return Err(fault_of(&error)),
+            }
+        }
+        Ok(names)
+    }
+
+    fn read(&self, alloc: Global, name: &str) -> Result<Vec<u8>, FolderFault> {
+        let Ok(path) = join(alloc, self.path.as_str(), name) else {
+            return Err(FolderFault::NoMemory);
+        };
+        match fs::read(self.rt, path.as_str()) {
+            Ok(bytes) => Ok(bytes),
+            Err(error) => Err(fault_of(&error)),
+        }
+    }
+}
+
+/// Whether a path leads to a directory.
+pub(crate) fn is_directory(rt: &HostRuntime, path: &str) -> bool {
+    match fs::metadata(rt, path) {
+        Ok(metadata) => metadata.is_dir(),
+        Err(_) => false,
+    }
+}
+
+/// The path of a file in a directory.
+fn join(alloc: Global, directory: &str, name: &str) -> Result<String, AllocError> {
+    format!(in alloc; "{directory}/{name}")
+}
+
+fn push_name(names: &mut Vec<String>, name: &str) -> Result<(), FolderFault> {
+    let Ok(name) = String::from_str(*names.allocator(), name) else {
+        return Err(FolderFault::NoMemory);
+    };
+    match names.push(name) {
+        Ok(()) => Ok(()),
+        Err(_) => Err(FolderFault::NoMemory),
+    }
+}
+
+fn fault_of(error: &io::Error) -> FolderFault {
+    if error.kind() == io::ErrorKind::OutOfMemory {
+        FolderFault::NoMemory
+    } else {
+        FolderFault::Read
+    }
+}

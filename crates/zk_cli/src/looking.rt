@@ -1,0 +1,19 @@
+//! The commands that read data directories.
+
+use crate::disk_folder::DiskFolder;
+use std::io;
+use zk_cli_args::{FolderJob, FolderOrder};
+use zk_folder_commands::files;
+use zk_log::Sink;
+use zk_path::NoMemory;
+
+/// Runs a command on a data directory. Returns the exit status.
+pub(crate) fn look(rt: &HostRuntime, job: &FolderJob) -> Result<u8, NoMemory> {
+    let snapshots = DiskFolder::at(rt, job.folder)?;
+    let logs = DiskFolder::at(rt, job.logs.unwrap_or(job.folder))?;
+    let mut output = Sink::new(io::writer(rt));
+    let mut faults = Sink::new(rt.stderr());
+    match job.order {
+        FolderOrder::Files => files(rt.alloc(), &snapshots, &logs, &mut output, &mut faults),
+    }
+}
