@@ -35,6 +35,7 @@ refuses "zk show <FILE> <ZXID>" show examples/first_log.log 1
 refuses "zk show <FILE> <ZXID>" show examples/first_log.log 000000010000000A
 refuses "zk show <FILE> <ZXID>" show examples/first_log.log last last
 refuses "zk list <FILE>" list -x
+refuses "zk files <DIR>" files
 refuses "zk debug <FILE> [SCRIPT]" debug
 refuses "zk debug [OPTIONS] <FILE> [SCRIPT]" debug @
 refuses "zk debug [OPTIONS] <FILE> [SCRIPT]" debug @ @
