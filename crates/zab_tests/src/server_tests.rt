@@ -8,7 +8,7 @@ ghost use Rattle.zab_broadcast.specs.Shortness.{error_is_short};
 
 use crate::asked::{are_shown, ends_below, entry, has_zxids, history_of, is_short};
 use std::alloc::Global;
-use zab_broadcast::{EchoCall, Primary, Server};
+use zab_broadcast::{Caught, EchoCall, Primary, Server};
 use zab_epoch::{
     Body, Entries, Entry, History, Majority, Message, Messages, RuleFault, Stable, Vote,
 };
@@ -354,4 +354,26 @@ fn servers_hear_what_no_run_brings(rt: HostRuntime) {
     for (number, (start, rows, end)) in PLAYS.iter().enumerate() {
         assert_eq!(rt; plays(rt.alloc(), *start, rows, *end), Ok(true), "{number}");
     }
+}
+
+/// How a server that is alone begins to serve.
+const ALONE: [Row; 4] = [
+    (Heard::Lead, SILENT),
+    (Heard::CEpoch(1, 0), SILENT),
+    (Heard::AckEpoch(1, 1, (0, 0)), SILENT),
+    (Heard::AckLeader(1, 0), SILENT),
+];
+
+/// Whether a leader that is alone completes a sync, which is taken once.
+fn takes_a_sync(alloc: Global) -> bool {
+    let mut server = Server::restored(alloc, 1, 1, Stable::new(alloc));
+    does(alloc, &mut server, &ALONE, (1, &[], 0, "Broadcast"))
+        && server.sync(alloc, 9).is_ok()
+        && server.take_caught(alloc).as_slice() == [Caught { tag: 9, length: 0 }].as_slice()
+        && server.take_caught(alloc).as_slice().is_empty()
+}
+
+#[test]
+fn a_completed_sync_is_taken_once(rt: HostRuntime) {
+    assert!(rt; takes_a_sync(rt.alloc()));
 }

@@ -97,10 +97,14 @@ pub fn has_delivered(alloc: Global, host: &mut EchoHost, tags: &[u64]) -> bool {
     }
 }
 
-/// Whether a host that has no messages has completed these syncs.
+/// Whether a host that has no messages has completed these syncs, which are taken.
 pub fn has_synced(alloc: Global, host: &mut EchoHost, syncs: &[Caught]) -> bool {
     match host.release(alloc) {
-        Ok(messages) => messages.len() == 0 && host.syncs() == syncs,
+        Ok(messages) => {
+            messages.len() == 0
+                && host.syncs() == syncs
+                && host.take_syncs(alloc).as_slice() == syncs
+        }
         Err(_) => false,
     }
 }

@@ -29,11 +29,13 @@ fn catches_up(alloc: Global, one: &mut EchoHost, two: &mut EchoHost) -> bool {
         && has_delivered(alloc, two, &[7])
 }
 
-/// Whether a sync of host 2 completes with the one entry that host 1 has delivered.
+/// Whether a sync of host 2 completes with the one entry that host 1 has delivered, and is taken
+/// once.
 fn syncs(alloc: Global, one: &mut EchoHost, two: &mut EchoHost) -> bool {
     two.sync(alloc, &QUORUMS, 5).is_ok()
         && settle(alloc, one, two)
         && has_synced(alloc, two, &[Caught { tag: 5, length: 1 }])
+        && has_synced(alloc, two, &[])
         && has_synced(alloc, one, &[])
 }
 

@@ -105,10 +105,15 @@ fn is_copied(alloc: Global, host: &TreeHost, last: i64) -> bool {
     matches!(host.machine(alloc), Ok(machine) if machine.last() == Ok(last))
 }
 
-/// Whether a host that has no messages has completed this sync.
+/// Whether a host that has no messages has completed this sync, which is taken once.
 fn has_synced(alloc: Global, host: &mut TreeHost, sync: Caught) -> bool {
     match host.release(alloc) {
-        Ok(messages) => messages.len() == 0 && host.syncs() == [sync].as_slice(),
+        Ok(messages) => {
+            messages.len() == 0
+                && host.syncs() == [sync].as_slice()
+                && host.take_syncs(alloc).as_slice() == [sync].as_slice()
+                && host.syncs().is_empty()
+        }
         Err(_) => false,
     }
 }

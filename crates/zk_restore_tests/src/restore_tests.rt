@@ -5,14 +5,15 @@ use crate::files::{
     SNAPSHOT,
 };
 use std::alloc::Global;
-use zk_base::{Exact, exact_from};
+use zk_base::{Draft, Exact, exact_from};
 use zk_directory::{Chain, Turn};
 use zk_fold::Fold;
 use zk_log::Ending;
 use zk_log_files::{LogFileFault, read_log_file};
-use zk_replay::Stage;
+use zk_replay::{Stage, replay_late};
 use zk_restore::{
     Base, DirectoryFault, Restore, RestoreFault, Restored, check_end, restore, take_entry,
+    window_end,
 };
 use zk_snapshot::{Snapshot, read_snapshot};
 
@@ -238,4 +239,42 @@ fn a_snapshot_says_from_where_it_is_exact(rt: HostRuntime) {
                 is_told: true
             })
     );
+}
+
+/// The zxids of the transactions of two logs after 4 that find their work done in the snapshot.
+fn done_in(alloc: Global, logs: [&[u8]; 2]) -> Option<Vec<i64>> {
+    let snapshot = snapshot_of(alloc, SNAPSHOT)?;
+    let mut draft = Draft::of(alloc, &snapshot.contents).ok()?;
+    let mut done = Vec::new(alloc);
+    for bytes in logs.as_slice() {
+        let file = read_log_file(alloc, *bytes).ok()?;
+        for entry in &file.entries {
+            let zxid = entry.newer.txn.zxid;
+            if zxid > 4 && replay_late(&mut draft, &entry.newer).ok()? {
+                done.push(zxid).ok()?;
+            }
+        }
+    }
+    Some(done)
+}
+
+#[test]
+fn a_transaction_may_find_its_work_done(rt: HostRuntime) {
+    let done = done_in(rt.alloc(), [LOG_1, LOG_6]);
+    assert!(rt; matches!(&done, Some(zxids) if zxids.as_slice() == [6, 7].as_slice()));
+}
+
+/// Where the window of the snapshot ends by the logs, if its nodes have no later zxid than this.
+fn end_of(alloc: Global, latest: i64, logs: &[&'static [u8]]) -> Option<i64> {
+    let snapshot = snapshot_of(alloc, SNAPSHOT)?;
+    window_end(alloc, &snapshot.contents, 4, latest, logs).ok()
+}
+
+#[test]
+fn the_logs_show_where_a_window_ends(rt: HostRuntime) {
+    let alloc: Global = rt.alloc();
+    assert!(rt; end_of(alloc, 4, [LOG_1, LOG_6].as_slice()) == Some(7));
+    assert!(rt; end_of(alloc, 8, [LOG_1, LOG_6].as_slice()) == Some(8));
+    assert!(rt; end_of(alloc, 4, [LOG_1, BROKEN_LOG_6].as_slice()) == Some(6));
+    assert!(rt; end_of(alloc, 4, [LOG_1, LOG_8].as_slice()) == Some(4));
 }

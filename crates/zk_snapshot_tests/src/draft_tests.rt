@@ -69,11 +69,16 @@ fn is_changed(child: &DraftNode) -> bool {
         && child.node.acl.as_slice().is_empty()
 }
 
+/// Whether `/a` is found, and no other node.
+fn is_found(nodes: &DraftNodes) -> bool {
+    matches!(nodes.get("/a"), Some(child) if is_changed(child)) && nodes.get("/b").is_none()
+}
+
 /// Whether the nodes change as they should, and are deleted.
 fn holds(nodes: &mut DraftNodes, alloc: Global) -> bool {
     nodes.add_child("/", 8, 7);
     nodes.lose_child("/", 2);
-    change(nodes, alloc) && is_owned(nodes) && are_changed(nodes)
+    change(nodes, alloc) && is_owned(nodes) && are_changed(nodes) && is_found(nodes)
 }
 
 /// Whether the root is deleted with `/a`.
