@@ -94,6 +94,11 @@ def lists_of():
     return {head.strip(): uses.split() for head, _, uses in rows if head.strip()}
 
 
+def root_of(crate):
+    """The file that a crate begins with: a program's `main.rt`, or a library's `lib.rt`."""
+    return next(it for it in ("main.rt", "lib.rt") if os.path.isfile(os.path.join(ROOT, "crates", crate, "src", it)))
+
+
 def words_of(crate):
     """How `rt` calls a check of a crate over the libraries that stand in out/."""
     top, (ours, kits, below) = kit(), named(lists_of(), crate)
@@ -101,7 +106,7 @@ def words_of(crate):
     for name in below:
         if not os.path.isdir(rlib(name)):
             sys.exit("%s is not there: run `rt ci` first" % os.path.relpath(rlib(name), ROOT))
-    words = ["--crate-name", crate, "src/lib.rt"]
+    words = ["--crate-name", crate, "src/" + root_of(crate)]
     for name in ["std", *kits]:
         words += ["--extern", "%s=%s/rlibs/%s.rlib" % (name, top, name)]
     words += ["-L", "dependency=%s/rlibs" % top]
@@ -164,7 +169,7 @@ def put_aside(crate, room, kept):
         for file in [os.path.join(at, name) for name in names]:
             with open(file, encoding="utf-8") as it:
                 texts[file] = it.read()
-            module = [it for it in os.path.relpath(file, os.path.join(room, "src"))[: -len(".rt")].split("/") if it != "lib"]
+            module = [it for it in os.path.relpath(file, os.path.join(room, "src"))[: -len(".rt")].split("/") if it != root_of(crate)[: -len(".rt")]]
             # (a method's proof stands with its type, wherever its `impl` is)
             home.update({it: module for it in re.findall(r"^(?:pub(?:\([a-z]+\))? )?(?:struct|enum) (\w+)", texts[file], re.M)})
             home[file] = module
