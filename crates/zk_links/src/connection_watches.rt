@@ -87,8 +87,8 @@ fn kind_set(call: &ReadCall, reply: &ReadReply) -> Option<WatchKind>
 }
 
 /// The watches of one connection, modelled as a list. Its server has these, and maybe others that
-/// the client has removed: whoever sends the server's events asks [`ConnectionWatches::fire`]
-/// first.
+/// the client has removed. Before an event of the server is sent, call
+/// [`ConnectionWatches::fire`].
 ///
 /// ZooKeeper Programmer's Guide, "Remove Watches".
 #[derive(Debug, Drop)]
