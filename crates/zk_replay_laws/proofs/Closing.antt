@@ -67,7 +67,7 @@ abbrev pub AllReady : NodeMap → List (List ℕ) → Type 0
 AllReady m [] = Unit {0}
 AllReady m (path ∷ paths) = IsReady m path × AllReady m paths
 
-ready_deleted : (m : NodeMap) (path : List ℕ) (ready : IsReady m path) → Deleted m path ready.above
+pub ready_deleted : (m : NodeMap) (path : List ℕ) (ready : IsReady m path) → Deleted m path ready.above
 ready_deleted m path ready = record { node = ready.node; there = ready.there; parent = ready.parent; childless = ready.childless; filled = ready.filled; shorter = ready.shorter }
 
 ready_still : (m : NodeMap) (zxid : ℤ) (path other : List ℕ) (ready : IsReady m path) → IsClosedMap m → other ≢ path → IsReady m other → IsReady (applied m (Deletes zxid path ready.above)) other
@@ -91,7 +91,7 @@ ready_still m zxid path other ready closed apart is =
         (λ not_path. absurd (none_some (sym (is.childless q parent) ∙ (was_before m zxid path ready.above (ready_deleted m path ready) closed q not_path (n, e)).1)))
         (cases_path q path)
 
-all_ready_still : (m : NodeMap) (zxid : ℤ) (path : List ℕ) (ready : IsReady m path) → IsClosedMap m → (paths : List (List ℕ)) → is_in path paths ≡ false → AllReady m paths → AllReady (applied m (Deletes zxid path ready.above)) paths
+pub all_ready_still : (m : NodeMap) (zxid : ℤ) (path : List ℕ) (ready : IsReady m path) → IsClosedMap m → (paths : List (List ℕ)) → is_in path paths ≡ false → AllReady m paths → AllReady (applied m (Deletes zxid path ready.above)) paths
 all_ready_still m zxid path ready closed [] distinct all = tt
 all_ready_still m zxid path ready closed (p ∷ ps) distinct all =
     let parts = or_parts _ _ distinct in

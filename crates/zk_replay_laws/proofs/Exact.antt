@@ -1,5 +1,5 @@
 -- The law of the replay.
-use Rattle.std.proofs.Common.{◌≡◌, inl, inr, ℤ, pos, List, [], ◌∷◌, ◌++◌, map, Bool, true, false, cond, Some, refl, sym, ap, ◌∙◌, ⊎_elim}
+use Rattle.std.proofs.Common.{◌≡◌, inl, inr, ℤ, pos, List, [], ◌∷◌, ◌++◌, map, Bool, true, false, cond, Some, refl, sym, ap, subst, ◌∙◌, ⊎_elim}
 use Rattle.std.specs.FinMap.{get, empty, entries}
 use Rattle.std.specs.List.{list_any}
 use Rattle.std.specs.Prelude.{int_le}
@@ -18,9 +18,12 @@ use Rattle.zk_base.specs.declared.draft.Draft.{Draft}
 use Rattle.zk_snapshot.specs.declared.snapshot.Contents.{Contents}
 use Rattle.zk_restore.specs.States as restored
 use Rattle.zk_restore.specs.States.{IsStateFrom, in_window, after_window, last_of}
-use Rattle.zk_replay_laws.specs.Windows.{IsTakenWithin, ReplayIsExact}
+use Rattle.zk_replay_laws.specs.Windows.{IsTakenWithin, IsAlike, ReplayIsExact, ReplayIsExactButPzxids}
+use Rattle.zk_replay_laws.specs.Histories.{Closings, Listed, Unlisted}
 use Rattle.zk_replay_laws.proofs.Simulation.{AllSeen, Matches}
-use Rattle.zk_replay_laws.proofs.Settling.{settles_to_server}
+use Rattle.zk_replay_laws.proofs.Settling.{settles_alike, settles_to_server}
+use Rattle.zk_replay_laws.proofs.Removals.{IsDraftTree}
+use Rattle.zk_replay_laws.proofs.Alike.{alike_after}
 use Rattle.zk_replay_laws.proofs.Orders.{rising_rest, last_zxid}
 use Rattle.zk_replay_laws.proofs.Sound.{IsSound}
 use Rattle.zk_replay_laws.proofs.Windows.{txn_of, all_changes, all_replayed, window_history, window_seen, occurs_at}
@@ -105,40 +108,69 @@ window_last s (r ∷ rs) = last_more s.last r rs ∙ ap (λ z. last_of z rs) (sy
 same_state : (a b : State) → a.nodes ≡ b.nodes → a.sessions ≡ b.sessions → a.last ≡ b.last → a ≡ b
 same_state a b nodes sessions last = λ i. record { nodes = nodes i; sessions = sessions i; last = last i }
 
-module _ (earlier : List Txn) (records : List NewerRecord) (exact : ℤ) (contents : Contents) (draft : Draft) (taken : IsTakenWithin earlier records exact contents draft) where
+module _ (closings : Closings) (earlier : List Txn) (records : List NewerRecord) (exact : ℤ) (contents : Contents) (draft : Draft) (taken : IsTakenWithin closings earlier records exact contents draft) where
   abbrev base : State
   base = tree_of earlier
 
   abbrev window : List NewerRecord
   window = in_window exact records
 
+  -- the server's state at the end of the window
+  abbrev there : State
+  there = state_after base (map txn_of window)
+
   base_sound : IsSound base.nodes
   base_sound = history_sound start_state earlier taken.logged start_sound
 
-  all_seen : AllSeen base.nodes (all_changes window) draft.nodes
+  all_seen : AllSeen closings base.nodes (all_changes closings base draft.nodes window) draft.nodes
   all_seen path field =
       ⊎_elim
       (λ lacks. inl lacks)
-      (λ seen. inr (occurs_at base window base_sound taken.window (Matches field (get draft.nodes path) path) seen.0 seen.1))
+      (λ seen. inr (inl (occurs_at closings base draft.nodes window base_sound taken.window (Matches field (get draft.nodes path) path) seen.0 seen.1)))
       (taken.seen.nodes path field)
 
-  nodes_exact : (end : State) → settled empty (entries (restored.replayed draft window).nodes) ≡ Some end.nodes → end.nodes ≡ (state_after base (map txn_of window)).nodes
-  nodes_exact end is =
-      let h = window_history base window (last_zxid (pos 0) earlier) base_sound taken.window (rising_rest (pos 0) earlier (map txn_of window) taken.rising) (window_bounded earlier window taken.logged taken.rising) in
-      let seen = window_seen base window base_sound taken.window h draft.nodes (draft_tree contents draft taken.paths taken.whole taken.draft_of) all_seen in
-      settles_to_server (state_after base (map txn_of window)).nodes (all_replayed draft.nodes window) seen.1 seen.0 end.nodes (ap (λ d. settled empty (entries d.nodes)) (sym (replayed_alike draft window)) ∙ is)
+  seen_at_end : AllSeen closings there.nodes [] (all_replayed draft.nodes window) × IsDraftTree (all_replayed draft.nodes window)
+  seen_at_end =
+      let h = window_history closings base draft.nodes window (last_zxid (pos 0) earlier) base_sound taken.window (rising_rest (pos 0) earlier (map txn_of window) taken.rising) (window_bounded earlier window taken.logged taken.rising) in
+      window_seen closings base window base_sound taken.window draft.nodes h (draft_tree contents draft taken.paths taken.whole taken.draft_of) all_seen
 
-  base_exact : (end : State) → IsSettled (restored.replayed draft window) (last_of base.last window) end → end ≡ state_after base (map txn_of window)
-  base_exact end is =
-      same_state end (state_after base (map txn_of window))
-      (nodes_exact end is.nodes)
-      (is.sessions ∙ ap (λ d. d.sessions) (replayed_alike draft window) ∙ sessions_after base window draft.sessions taken.seen.sessions)
-      (is.last_zxid ∙ window_last base window)
+  module _ (end : State) (is : IsSettled (restored.replayed draft window) (last_of base.last window) end) where
+    settled_nodes : settled empty (entries (all_replayed draft.nodes window)) ≡ Some end.nodes
+    settled_nodes = ap (λ d. settled empty (entries d.nodes)) (sym (replayed_alike draft window)) ∙ is.nodes
+
+    end_sessions : end.sessions ≡ there.sessions
+    end_sessions = is.sessions ∙ ap (λ d. d.sessions) (replayed_alike draft window) ∙ sessions_after base window draft.sessions taken.seen.sessions
+
+    end_last : end.last ≡ there.last
+    end_last = is.last_zxid ∙ window_last base window
+
+    end_alike : IsAlike end there
+    end_alike = record {
+      nodes = λ path field other. settles_alike closings there.nodes (all_replayed draft.nodes window) seen_at_end.1 seen_at_end.0 end.nodes settled_nodes path field (λ e. other e.0);
+      sessions = end_sessions;
+      last = end_last;
+    }
+
+  -- what follows the window
+  both_histories : state_after there (map txn_of (after_window exact records)) ≡ tree_of (earlier ++ map txn_of records)
+  both_histories =
+      sym (after_append base (map txn_of window) (map txn_of (after_window exact records)))
+      ∙ ap (state_after base) (sym (map_append window (after_window exact records)) ∙ ap (map txn_of) (both_parts exact records))
+      ∙ sym (after_append start_state earlier (map txn_of records))
 
 pub replay_is_exact : ReplayIsExact
 replay_is_exact earlier records exact contents draft state taken is =
+    let end = is.base in
+    let seen = seen_at_end Listed earlier records exact contents draft taken in
+    let nodes = settles_to_server _ _ seen.1 seen.0 end.nodes (settled_nodes Listed earlier records exact contents draft taken end is.settled) in
     is.applied
-    ∙ ap (λ s. state_after s (map txn_of (after_window exact records))) (base_exact earlier records exact contents draft taken is.base is.settled)
-    ∙ sym (after_append (tree_of earlier) (map txn_of (in_window exact records)) (map txn_of (after_window exact records)))
-    ∙ ap (state_after (tree_of earlier)) (sym (map_append (in_window exact records) (after_window exact records)) ∙ ap (map txn_of) (both_parts exact records))
-    ∙ sym (after_append start_state earlier (map txn_of records))
+    ∙ ap (λ s. state_after s (map txn_of (after_window exact records)))
+    (same_state end _ nodes (end_sessions Listed earlier records exact contents draft taken end is.settled) (end_last Listed earlier records exact contents draft taken end is.settled))
+    ∙ both_histories Listed earlier records exact contents draft taken
+
+pub replay_is_exact_but_pzxids : ReplayIsExactButPzxids
+replay_is_exact_but_pzxids earlier records exact contents draft state taken is =
+    let rest = map txn_of (after_window exact records) in
+    subst (λ s. IsAlike s (tree_of (earlier ++ map txn_of records))) (sym is.applied)
+    (subst (IsAlike (state_after is.base rest)) (both_histories Unlisted earlier records exact contents draft taken)
+    (alike_after is.base _ rest (end_alike Unlisted earlier records exact contents draft taken is.base is.settled)))

@@ -1,6 +1,6 @@
 -- A transaction that the table does not reject is a list of changes that it takes.
-use Rattle.std.proofs.Common.{◌≡◌, ◌⊎◌, inl, inr, ℕ, ℤ, pos, List, [], ◌∷◌, ◌++◌, Bool, true, false, cond, ◌||◌, Option, Some, None, refl, sym, ap, subst, ◌∙◌, ⊎_elim}
-use Rattle.std.proofs.lemmas.Bool.{cases_Bool, both_ways, or_parts}
+use Rattle.std.proofs.Common.{◌≡◌, ◌⊎◌, inl, inr, ℕ, ℤ, pos, List, [], ◌∷◌, ◌++◌, Bool, true, false, cond, ◌||◌, is_eq, Option, Some, None, refl, sym, ap, subst, ◌∙◌, ⊎_elim}
+use Rattle.std.proofs.lemmas.Bool.{cases_Bool, both_ways, or_parts, false_from_ne_true}
 use Rattle.std.specs.List.{AllByRecursion, list_any}
 use Rattle.std.specs.Ordering.{int_eq, eq_by_cmp}
 use Rattle.std.specs.Prelude.{int_lt}
@@ -17,9 +17,10 @@ use Rattle.zk_table.specs.States.{NodeMap, State, path_cmp, owned_by}
 use Rattle.zk_table.specs.Steps.{step_by}
 use Rattle.zk_table.specs.Operations.{without_all}
 use Rattle.zk_table.specs.Multis.{multi, told_parts, answers_unapplied, answers_of, nodes_after}
+use Rattle.zk_machine.proofs.Owned as machine
 use Rattle.zk_tree.proofs.Kept.{tests_alike}
 use Rattle.zk_replay_laws.specs.Histories as histories
-use Rattle.zk_replay_laws.specs.Histories.{is_failed, IsServed, IsCounted, IsCountedPart, IsLogged, ListsNodes, ListsIfClosed}
+use Rattle.zk_replay_laws.specs.Histories.{is_failed, IsServed, IsCounted, IsCountedPart, IsLogged, ListsNodes}
 use Rattle.zk_replay_laws.proofs.Changes.{Change, Writes, Guards, applied, zxid_of}
 use Rattle.zk_replay_laws.proofs.Gets.{path_is_itself}
 use Rattle.zk_replay_laws.proofs.Servers.{IsClosedMap, closed_after, pzxid_after}
@@ -37,9 +38,20 @@ pub in_alike : (q : List ℕ) (paths : List (List ℕ)) → histories.is_in q pa
 in_alike q [] = refl
 in_alike q (p ∷ ps) = ap (λ b. b || histories.is_in q ps) (tests_alike p q) ∙ ap (λ b. eq_by_cmp path_cmp q p || b) (in_alike q ps)
 
+pub distinct_back : (paths : List (List ℕ)) → closing.AreDistinct paths → histories.AreDistinct paths
+distinct_back [] h = tt
+distinct_back (p ∷ ps) h = (in_alike p ps ∙ h.0, distinct_back ps h.1)
+
 pub distinct_alike : (paths : List (List ℕ)) → histories.AreDistinct paths → closing.AreDistinct paths
 distinct_alike [] h = tt
 distinct_alike (p ∷ ps) h = (sym (in_alike p ps) ∙ h.0, distinct_alike ps h.1)
+
+own_distinct : (nodes : NodeMap) (session : ℤ) (paths : List (List ℕ)) → machine.AreOwned nodes session paths → closing.AreDistinct paths
+own_distinct nodes session [] owned = tt
+own_distinct nodes session (p ∷ ps) owned = (false_from_ne_true _ (λ has. both_ways _ (ap is_eq (owned.2 p has)) (path_is_itself p)), own_distinct nodes session ps owned.3)
+
+pub owned_distinct : (nodes : NodeMap) (session : ℤ) → closing.AreDistinct (owned_by nodes session)
+owned_distinct nodes session = own_distinct nodes session (owned_by nodes session) (machine.all_owned nodes session)
 
 -- ---- the changes of a transaction
 
@@ -81,7 +93,12 @@ close_leads s txn listed sound lists =
     none_ready [] none = tt
     none_ready (p ∷ ps) none = absurd (both_ways _ (or_parts _ _ (none p)).0 (path_is_itself p))
 
-pub op_leads : (s : State) (txn : Txn) (listed : List (List ℕ)) (op : Op) → IsSound s.nodes → (is_failed op ≡ true) ⊎ ((step_by s txn op).1.err ≡ pos 0) → IsCounted op → ListsIfClosed s txn op listed → Leads s.nodes (op_changes txn listed op) (step_by s txn op).0.nodes
+-- a session that ends lists its nodes
+abbrev pub ListsAll : State → Txn → Op → List (List ℕ) → Type 0
+ListsAll s txn ops.CloseSession paths = ListsNodes s txn.session paths
+ListsAll s txn _ paths = Unit {0}
+
+pub op_leads : (s : State) (txn : Txn) (listed : List (List ℕ)) (op : Op) → IsSound s.nodes → (is_failed op ≡ true) ⊎ ((step_by s txn op).1.err ≡ pos 0) → IsCounted op → ListsAll s txn op listed → Leads s.nodes (op_changes txn listed op) (step_by s txn op).0.nodes
 op_leads s txn listed (ops.Create path content acl ephemeral count) sound served counted lists = create_leads s.nodes txn path content acl ephemeral count counted.0 counted.1 (not_failed served)
 op_leads s txn listed (ops.CreateOld path content acl ephemeral) sound served counted lists = absurd counted
 op_leads s txn listed (ops.Delete path) sound served counted lists = delete_leads s.nodes txn path counted (not_failed served)

@@ -18,10 +18,14 @@ pub mod Taking
 pub mod Sound
 pub mod Closing
 pub mod Owned
+pub mod Choosing
+pub mod Skipping
+pub mod DraftOwners
 pub mod Orders
 pub mod Leading
 pub mod Windows
 pub mod Starting
 pub mod Drafting
 pub mod Sessions
+pub mod Alike
 pub mod Exact

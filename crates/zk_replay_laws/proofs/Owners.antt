@@ -105,7 +105,7 @@ AllNeverOwn session (c ∷ cs) = NeverOwns session c × AllNeverOwn session cs
 abbrev pub OwnsNothing : ℤ → NodeMap → Type 0
 OwnsNothing session m = (q : List ℕ) (n : Node) → get m q ≡ Some n → int_eq n.owner session ≡ false
 
-made_unowned : (session : ℤ) (c : Change) (q : List ℕ) (n : Node) → NeverOwns session c → IsMade c q n → int_eq n.owner session ≡ false
+pub made_unowned : (session : ℤ) (c : Change) (q : List ℕ) (n : Node) → NeverOwns session c → IsMade c q n → int_eq n.owner session ≡ false
 made_unowned session (Makes zxid path above node count) q n never made = ap (λ x. int_eq x.owner session) made.1 ∙ never
 made_unowned session (Deletes zxid path above) q n never made = absurd made
 made_unowned session (Writes txn path content version) q n never made = absurd made

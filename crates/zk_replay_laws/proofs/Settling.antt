@@ -14,15 +14,16 @@ use Rattle.zk_replay_laws.proofs.Paths.{some_inj, none_some}
 use Rattle.zk_replay_laws.proofs.Gets.{same_path, path_is_itself, get_inserted, get_inserted_elsewhere, path_cmp-antisymmetric}
 use Rattle.zk_replay_laws.proofs.Changes.{Field, Content, Acls, Czxid, Mzxid, Pzxid, Ctime, Mtime, Version, Creates, Aversion, Owner, value, cell, draft_cell}
 use Rattle.zk_replay_laws.proofs.Removals.{IsDraftTree}
-use Rattle.zk_replay_laws.proofs.Simulation.{Lacks, Matches, AllSeen, absent_seen}
+use Rattle.zk_replay_laws.specs.Histories.{Closings, Listed, Unlisted}
+use Rattle.zk_replay_laws.proofs.Simulation.{Lacks, Matches, IsStale, Excused, AllSeen, absent_seen}
 
 -- ---- entries in order
 
-abbrev below_all : {X : Type 0} → List ℕ → List (List ℕ × X) → Bool
+abbrev pub below_all : {X : Type 0} → List ℕ → List (List ℕ × X) → Bool
 below_all x [] = true
 below_all x (e ∷ es) = is_lt (path_cmp x e.0) && below_all x es
 
-ordered : (r : _) → is_lt r ≡ true → r ≡ Less
+pub ordered : (r : _) → is_lt r ≡ true → r ≡ Less
 ordered Less e = refl
 ordered Equal e = absurd (false≢true e)
 ordered Greater e = absurd (false≢true e)
@@ -63,7 +64,7 @@ abbrev pub node_or : Option DraftNode → Option Node → Option Node
 node_or None o = o
 node_or (Some x) o = Some x.node
 
-abbrev AllKeyed : List (List ℕ × DraftNode) → Type 0
+abbrev pub AllKeyed : List (List ℕ × DraftNode) → Type 0
 AllKeyed [] = Unit {0}
 AllKeyed (e ∷ es) = (e.1.path ≡ e.0) × AllKeyed es
 
@@ -110,7 +111,7 @@ known_within nodes all (e ∷ es) is q x found =
     (λ else. known_within (insert nodes e.1.path e.1.node) all es (sym (settled_first nodes e es known) ∙ is) q x (sym (cond-false _ (Some e.1) (find path_cmp q es) else) ∙ found))
     (cases_Bool (eq_by_cmp path_cmp q e.0))
 
-keyed_entries : (d : DraftMap) → IsDraftTree d → (es : List (List ℕ × DraftNode)) → AllGot (get d) es → AllKeyed es
+pub keyed_entries : (d : DraftMap) → IsDraftTree d → (es : List (List ℕ × DraftNode)) → AllGot (get d) es → AllKeyed es
 keyed_entries d tree [] got = tt
 keyed_entries d tree (e ∷ es) got = (tree.keyed e.0 e.1 got.0, keyed_entries d tree es got.1)
 
@@ -141,22 +142,52 @@ same_node a b h = λ i. record {
   owner = h Owner i;
 }
 
+-- ---- at the end of the window
+
+module _ (closings : Closings) (m : NodeMap) (d : DraftMap) (tree : IsDraftTree d) (seen : AllSeen closings m [] d) (all : NodeMap) (is : settled empty (entries d) ≡ Some all) where
+  not_stale : (q : List ℕ) → IsStale m [] d q → ⊥
+  not_stale q stale = none_some (sym stale.absent ∙ stale.made.1)
+
+  -- only the zxid of children is excused
+  excused_pzxid : (q : List ℕ) (f : Field) → Excused closings m [] d q f → (f ≡ Pzxid) × (closings ≡ Unlisted)
+  excused_pzxid q Content e = absurd (not_stale q e.1)
+  excused_pzxid q Acls e = absurd (not_stale q e.1)
+  excused_pzxid q Czxid e = absurd (not_stale q e.1)
+  excused_pzxid q Mzxid e = absurd (not_stale q e.1)
+  excused_pzxid q Pzxid e = (refl, e)
+  excused_pzxid q Ctime e = absurd (not_stale q e.1)
+  excused_pzxid q Mtime e = absurd (not_stale q e.1)
+  excused_pzxid q Version e = absurd (not_stale q e.1)
+  excused_pzxid q Creates e = absurd (not_stale q e.1)
+  excused_pzxid q Aversion e = absurd (not_stale q e.1)
+  excused_pzxid q Owner e = absurd e
+
+  module _ (q : List ℕ) (f : Field) (plain : (f ≡ Pzxid) × (closings ≡ Unlisted) → ⊥) where
+    no_lack_known : (g : Field) → Lacks g d q → ⊥
+    no_lack_known Acls lacks = both_ways _ (all_known d tree all is q lacks.0 lacks.1.0) lacks.1.1
+    no_lack_known _ lacks = lacks
+
+    matched : Matches f (get d q) q m
+    matched = ⊎_elim (λ lacks. absurd (no_lack_known f lacks)) (λ known. ⊎_elim (λ matches. matches) (λ excused. absurd (plain (excused_pzxid q f excused))) known) (seen q f)
+
+    -- it is as on the server
+    pub settles_alike : cell f (get all q) ≡ cell f (get m q)
+    settles_alike = at (get d q) refl
+      where
+        at : (o : Option DraftNode) → get d q ≡ o → cell f (get all q) ≡ cell f (get m q)
+        at None none = ap (cell f) (settles_to d tree all is q ∙ ap (λ o. node_or o None) none) ∙ sym (ap (cell f) (absent_seen closings m [] d q seen none))
+        at (Some x) there = ap (cell f) (settles_to d tree all is q ∙ ap (λ o. node_or o None) there) ∙ sym (ap (draft_cell f) there) ∙ matched
+
+same_cells : (a b : Option Node) → ((f : Field) → cell f a ≡ cell f b) → a ≡ b
+same_cells None None h = refl
+same_cells None (Some y) h = absurd (none_some (h Czxid))
+same_cells (Some x) None h = absurd (none_some (sym (h Czxid)))
+same_cells (Some x) (Some y) h = ap Some (same_node x y (λ f. some_inj (h f)))
+
 -- a draft that is seen at the end of its window settles to the server's nodes
-module _ (m : NodeMap) (d : DraftMap) (tree : IsDraftTree d) (seen : AllSeen m [] d) (all : NodeMap) (is : settled empty (entries d) ≡ Some all) where
-  matched : (q : List ℕ) (x : DraftNode) → get d q ≡ Some x → (f : Field) → Matches f (get d q) q m
-  matched q x there f = ⊎_elim (λ lacks. absurd (no_lack_known f lacks)) (λ matches. matches) (seen q f)
-    where
-      no_lack_known : (g : Field) → Lacks g d q → ⊥
-      no_lack_known Acls lacks = both_ways _ (all_known d tree all is q lacks.0 lacks.1.0) lacks.1.1
-      no_lack_known _ lacks = lacks
-
-  same_at : (q : List ℕ) (o : Option DraftNode) → get d q ≡ o → get all q ≡ get m q
-  same_at q None none = settles_to d tree all is q ∙ ap (λ o. node_or o None) none ∙ sym (absent_seen m [] d q seen none)
-  same_at q (Some x) there = settles_to d tree all is q ∙ ap (λ o. node_or o None) there ∙ with_server (get m q) refl
-    where
-      with_server : (o : Option Node) → get m q ≡ o → Some x.node ≡ get m q
-      with_server None none = absurd (none_some (sym (ap (draft_cell Czxid) (sym there) ∙ matched q x there Czxid ∙ ap (cell Czxid) none)))
-      with_server (Some n) some = ap Some (same_node x.node n (λ f. some_inj (ap (draft_cell f) (sym there) ∙ matched q x there f ∙ ap (cell f) some))) ∙ sym some
-
-  pub settles_to_server : all ≡ m
-  settles_to_server = same_map nat_list_cmp_total path_cmp-antisymmetric all m (λ q. same_at q (get d q) refl)
+pub settles_to_server : (m : NodeMap) (d : DraftMap) → IsDraftTree d → AllSeen Listed m [] d → (all : NodeMap) → settled empty (entries d) ≡ Some all → all ≡ m
+settles_to_server m d tree seen all is =
+    same_map nat_list_cmp_total path_cmp-antisymmetric all m (λ q. same_cells (get all q) (get m q) (λ f. settles_alike Listed m d tree seen all is q f (λ e. listed_apart e.1)))
+  where
+    listed_apart : Listed ≡ Unlisted → ⊥
+    listed_apart e = absurd (cc)

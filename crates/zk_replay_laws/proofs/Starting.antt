@@ -1,6 +1,5 @@
 -- The state that a history leads to is sound.
-use Rattle.std.proofs.Common.{◌≡◌, ◌≢◌, ℕ, ℤ, pos, List, [], ◌∷◌, ◌++◌, map, length, true, false, is_eq, codes, Some, refl, sym, ap, subst, ◌∙◌, ⊎_elim, arith}
-use Rattle.std.proofs.lemmas.Bool.{both_ways, false_from_ne_true}
+use Rattle.std.proofs.Common.{◌≡◌, ◌≢◌, ℕ, ℤ, pos, List, [], ◌∷◌, ◌++◌, map, length, true, false, codes, Some, refl, sym, ap, subst, ◌∙◌, ⊎_elim, arith}
 use Rattle.std.proofs.lemmas.Bool.Decides.{Decides-int_eq}
 use Rattle.std.specs.FinMap.{get, insert, empty, get-empty}
 use Rattle.std.specs.Ordering.{int_eq}
@@ -14,18 +13,16 @@ use Rattle.zk_txn.specs.Nodes.{first_node}
 use Rattle.zk_table.specs.States.{NodeMap, State, path_cmp, start_state, owned_by}
 use Rattle.zk_table.specs.Histories.{state_after}
 use Rattle.zk_table.specs.Steps.{step}
-use Rattle.zk_machine.proofs.Owned as machine
 use Rattle.zk_newer_records.specs.declared.newer_record.NewerRecord.{NewerRecord}
-use Rattle.zk_replay_laws.specs.Histories as histories
-use Rattle.zk_replay_laws.specs.Histories.{IsLogged, AreLogged, ListsNodes, ListsIfClosed, AreRising}
+use Rattle.zk_replay_laws.specs.Histories.{IsLogged, AreLogged, AreRising}
 use Rattle.zk_replay_laws.proofs.Paths.{some_inj, none_some}
-use Rattle.zk_replay_laws.proofs.Gets.{cases_path, get_inserted, get_inserted_elsewhere, path_is_itself}
+use Rattle.zk_replay_laws.proofs.Gets.{cases_path, get_inserted, get_inserted_elsewhere}
 use Rattle.zk_replay_laws.proofs.Changes.{There}
 use Rattle.zk_replay_laws.proofs.Timelines.{IsBoundedBy}
 use Rattle.zk_replay_laws.proofs.Taking.{Leads}
 use Rattle.zk_replay_laws.proofs.Sound.{IsSound, IsGoodKey, sound_after_all}
 use Rattle.zk_replay_laws.proofs.Orders.{AllAbove, all_above, lt_not_above}
-use Rattle.zk_replay_laws.proofs.Leading.{in_alike, op_changes, op_leads, op_of, bounded_through}
+use Rattle.zk_replay_laws.proofs.Leading.{ListsAll, distinct_back, owned_distinct, op_changes, op_leads, op_of, bounded_through}
 use Rattle.zk_replay_laws.proofs.Windows.{txn_of, AllBounded}
 
 -- ---- the state before any transaction
@@ -122,19 +119,14 @@ start_bounded zxid low q n there = ap (λ x. int_lt zxid x.pzxid) (first_only q 
 
 -- ---- a history
 
-own_distinct : (nodes : NodeMap) (session : ℤ) (paths : List (List ℕ)) → machine.AreOwned nodes session paths → histories.AreDistinct paths
-own_distinct nodes session [] owned = tt
-own_distinct nodes session (p ∷ ps) owned =
-    (in_alike p ps ∙ false_from_ne_true _ (λ has. both_ways _ (ap is_eq (owned.2 p has)) (path_is_itself p)), own_distinct nodes session ps owned.3)
-
-lists_own : (s : State) (txn : Txn) (op : Op) → ListsIfClosed s txn op (owned_by s.nodes txn.session)
+lists_own : (s : State) (txn : Txn) (op : Op) → ListsAll s txn op (owned_by s.nodes txn.session)
 lists_own s txn (ops.Create path content acl ephemeral count) = tt
 lists_own s txn (ops.CreateOld path content acl ephemeral) = tt
 lists_own s txn (ops.Delete path) = tt
 lists_own s txn (ops.SetData path content version) = tt
 lists_own s txn (ops.SetAcl path acl version) = tt
 lists_own s txn (ops.OpenSession timeout) = tt
-lists_own s txn ops.CloseSession = record { distinct = own_distinct s.nodes txn.session (owned_by s.nodes txn.session) (machine.all_owned s.nodes txn.session); owned = λ path. refl }
+lists_own s txn ops.CloseSession = record { distinct = distinct_back (owned_by s.nodes txn.session) (owned_distinct s.nodes txn.session); owned = λ path. refl }
 lists_own s txn (ops.Multi parts) = tt
 lists_own s txn (ops.Error code) = tt
 

@@ -30,6 +30,12 @@ occurs_map m [] P R f p = f m p
 occurs_map m (c ∷ cs) P R f (inl p) = inl (f m p)
 occurs_map m (c ∷ cs) P R f (inr p) = inr (occurs_map (applied m c) cs P R f p)
 
+-- what does not depend on the moment
+pub occurs_always : (m : NodeMap) (cs : List Change) (C : Type 0) → Occurs m cs (λ t. C) → C
+occurs_always m [] C p = p
+occurs_always m (c ∷ cs) C (inl p) = p
+occurs_always m (c ∷ cs) C (inr p) = occurs_always (applied m c) cs C p
+
 -- ---- histories
 
 abbrev pub AreTaken : NodeMap → List Change → Type 0

@@ -58,9 +58,18 @@ pub record ListsNodes (state : State) (session : ℤ) (paths : List (List ℕ)) 
   pub distinct : AreDistinct paths
   pub owned : (path : List ℕ) → is_in path paths ≡ is_in path (owned_by state.nodes session)
 
-abbrev pub ListsIfClosed : State → Txn → Op → List (List ℕ) → Type 0
-ListsIfClosed state txn ops.CloseSession paths = ListsNodes state txn.session paths
-ListsIfClosed state txn _ paths = Unit {0}
+-- whether each closeSession lists its session's nodes, as servers log it since 3.6, or may list none
+pub data Closings : Type 0 where
+  Listed : Closings
+  Unlisted : Closings
+
+abbrev pub ListsAs : Closings → State → ℤ → List (List ℕ) → Type 0
+ListsAs Listed state session paths = ListsNodes state session paths
+ListsAs Unlisted state session paths = (paths ≡ []) ⊎ ListsNodes state session paths
+
+abbrev pub ListsIfClosed : Closings → State → Txn → Op → List (List ℕ) → Type 0
+ListsIfClosed closings state txn ops.CloseSession paths = ListsAs closings state txn.session paths
+ListsIfClosed closings state txn _ paths = Unit {0}
 
 abbrev pub is_create : Sub → Bool
 is_create (subs.Create path content acl ephemeral count) = true
@@ -90,12 +99,12 @@ abbrev pub AreLogged : State → List Txn → Type 0
 AreLogged state [] = Unit {0}
 AreLogged state (txn ∷ txns) = IsLogged state txn × AreLogged (step state txn).0 txns
 
--- the records of a window: sessions that end list their nodes, and create none later
-pub record IsInWindow (state : State) (record_of : NewerRecord) (later : List NewerRecord) : Type 0 where
+-- the records of a window: sessions that end create no node later
+pub record IsInWindow (closings : Closings) (state : State) (record_of : NewerRecord) (later : List NewerRecord) : Type 0 where
   pub logged : IsLogged state record_of.txn
-  pub lists : ListsIfClosed state record_of.txn record_of.txn.op (listed_of record_of)
+  pub lists : ListsIfClosed closings state record_of.txn record_of.txn.op (listed_of record_of)
   pub ends : EndsIfClosed record_of.txn record_of.txn.op later
 
-abbrev pub AreInWindow : State → List NewerRecord → Type 0
-AreInWindow state [] = Unit {0}
-AreInWindow state (record_of ∷ records) = IsInWindow state record_of records × AreInWindow (step state record_of.txn).0 records
+abbrev pub AreInWindow : Closings → State → List NewerRecord → Type 0
+AreInWindow closings state [] = Unit {0}
+AreInWindow closings state (record_of ∷ records) = IsInWindow closings state record_of records × AreInWindow closings (step state record_of.txn).0 records

@@ -16,7 +16,7 @@ use Rattle.zk_base.specs.declared.draft_node.DraftNode.{DraftNode}
 use Rattle.zk_base.specs.Bases.{IsDraftOf, snapshot_fault}
 use Rattle.zk_base.specs.Drafts.{DraftMap}
 use Rattle.zk_restore.specs.States.{IsStateFrom, in_window, txn_of}
-use Rattle.zk_replay_laws.specs.Histories.{AreInWindow, AreLogged, AreRising}
+use Rattle.zk_replay_laws.specs.Histories.{Closings, Listed, Unlisted, AreInWindow, AreLogged, AreRising}
 
 -- ---- the fields of a node
 
@@ -80,18 +80,32 @@ ArePaths (stored ∷ more) = (fault_of stored.path ≡ None) × ArePaths more
 -- ---- the law
 
 -- A snapshot that was begun after some transactions, and is exact from the end of its window on.
-pub record IsTakenWithin (earlier : List Txn) (records : List NewerRecord) (exact : ℤ) (contents : Contents) (draft : Draft) : Type 0 where
+pub record IsTakenWithin (closings : Closings) (earlier : List Txn) (records : List NewerRecord) (exact : ℤ) (contents : Contents) (draft : Draft) : Type 0 where
   pub rising : AreRising (pos 0) (earlier ++ map txn_of (in_window exact records))
   pub logged : AreLogged start_state earlier
-  pub window : AreInWindow (tree_of earlier) (in_window exact records)
+  pub window : AreInWindow closings (tree_of earlier) (in_window exact records)
   pub paths : ArePaths contents.nodes
   pub whole : snapshot_fault contents ≡ None
   pub draft_of : IsDraftOf contents draft
   pub seen : IsSeenWithin (tree_of earlier) (map txn_of (in_window exact records)) draft
 
--- the state that a replay restores is the one after all transactions
+-- the state that a replay restores is the one after all transactions, if sessions that end list their nodes
 abbrev pub ReplayIsExact : Type 0
 ReplayIsExact = (earlier : List Txn) (records : List NewerRecord) (exact : ℤ) (contents : Contents) (draft : Draft) (state : State)
-    → IsTakenWithin earlier records exact contents draft
+    → IsTakenWithin Listed earlier records exact contents draft
     → IsStateFrom draft (tree_of earlier).last exact records state
     → state ≡ tree_of (earlier ++ map txn_of records)
+
+-- but for each node's zxid of children
+pub record IsAlike (one other : State) : Type 0 where
+  pub nodes : (path : List ℕ) (field : Field) → (field ≡ Pzxid → ⊥) → cell field (get one.nodes path) ≡ cell field (get other.nodes path)
+  pub sessions : one.sessions ≡ other.sessions
+  pub last : one.last ≡ other.last
+
+-- Without lists, all is exact but the zxids of children: where the snapshot already lacks a child, the
+-- end of its session leaves the parent as it is (ZOOKEEPER-3145).
+abbrev pub ReplayIsExactButPzxids : Type 0
+ReplayIsExactButPzxids = (earlier : List Txn) (records : List NewerRecord) (exact : ℤ) (contents : Contents) (draft : Draft) (state : State)
+    → IsTakenWithin Unlisted earlier records exact contents draft
+    → IsStateFrom draft (tree_of earlier).last exact records state
+    → IsAlike state (tree_of (earlier ++ map txn_of records))

@@ -5,4 +5,4 @@
 
 mod laws;
 
-pub use laws::replay_is_exact;
+pub use laws::{replay_is_exact, replay_is_exact_but_pzxids};
