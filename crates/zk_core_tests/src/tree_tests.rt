@@ -70,6 +70,17 @@ fn has_nothing(tree: &Tree, path: &Path) -> bool {
         && are(&tree.children(path), &[])
 }
 
+/// Whether the tree of a root alone has its path and no other.
+fn is_alone(alloc: Global) -> bool {
+    let Ok(root) = Node::first(alloc) else {
+        return false;
+    };
+    match Tree::from_root(alloc, root) {
+        Ok(tree) => are(&tree.paths(), &["/"]),
+        Err(_) => false,
+    }
+}
+
 /// Returns the error that a failed put becomes.
 fn refused_put(alloc: Global, path: &Path) -> Result<NoMemory, NoMemory> {
     let path = path.copy()?;
@@ -89,4 +100,9 @@ fn the_start_tree_answers(rt: HostRuntime) {
     for (text, asked) in &ASKED {
         assert!(rt; holds(rt.alloc(), text, *asked), "{text}");
     }
+}
+
+#[test]
+fn a_tree_of_a_root_has_nothing_else(rt: HostRuntime) {
+    assert!(rt; is_alone(rt.alloc()));
 }

@@ -8,7 +8,7 @@ use crate::read_tests::tell_all;
 use std::alloc::Global;
 use zk_acl::Stat;
 use zk_listing::assemble;
-use zk_machine::{Applied, Change, Machine, MachineFault, Undo, UndoFault};
+use zk_machine::{Applied, Change, Machine, MachineFault, Sessions, Undo, UndoFault};
 use zk_path::Path;
 use zk_table::{Node, Plain, Txn, TxnResult};
 use zk_tree::{Entry, Tree};
@@ -129,6 +129,8 @@ enum Asked {
     LastFirst,
     /// Copies change independently.
     Copies,
+    /// A machine in the state of another has its tree, sessions and last zxid, and no steps.
+    Given,
 }
 
 /// Does the check with a listing.
@@ -158,14 +160,21 @@ fn holds_by(alloc: Global, machine: &mut Machine, txns: &[Txn], asked: Asked) ->
         other: String::new(alloc),
         changes: String::new(alloc),
     };
-    is_so(&mut held, machine, txns, asked) && held.machine == held.other
+    is_so(alloc, &mut held, machine, txns, asked) && held.machine == held.other
 }
 
-fn is_so(held: &mut Held, machine: &mut Machine, txns: &[Txn], asked: Asked) -> bool {
+fn is_so(
+    alloc: Global,
+    held: &mut Held,
+    machine: &mut Machine,
+    txns: &[Txn],
+    asked: Asked,
+) -> bool {
     match asked {
         Asked::Agreeing(changes) => agree(held, machine, txns) && held.changes.as_str() == changes,
         Asked::LastFirst => last_comes_back_first(held, machine, txns),
         Asked::Copies => copies_go(held, machine, txns),
+        Asked::Given => is_given(alloc, held, machine, txns),
     }
 }
 
@@ -356,6 +365,38 @@ fn copies_go(held: &mut Held, machine: &mut Machine, txns: &[Txn]) -> bool {
 #[test]
 fn a_copy_has_the_open_sessions(rt: HostRuntime) {
     assert!(rt; holds(rt.alloc(), HISTORY, Asked::Copies));
+}
+
+/// A machine in another's state.
+fn given(alloc: Global, machine: &Machine) -> Result<Machine, MachineFault> {
+    let tree = machine.tree()?.copy()?;
+    let mut sessions = Sessions::new(alloc);
+    for (session, timeout) in machine.sessions()? {
+        sessions.open(*session, *timeout)?;
+    }
+    Ok(Machine::from_state(alloc, tree, sessions, machine.last()?))
+}
+
+/// Writes the state of a machine after the first transactions, and as expected that of a machine in
+/// its state.
+fn is_given(alloc: Global, held: &mut Held, machine: &mut Machine, txns: &[Txn]) -> bool {
+    let [first, second, ..] = txns else {
+        return false;
+    };
+    if advanced(machine, first).is_err() || advanced(machine, second).is_err() {
+        return false;
+    }
+    let Ok(other) = given(alloc, machine) else {
+        return false;
+    };
+    other.steps() == Ok(0)
+        && push_machine(&mut held.machine, machine)
+        && push_machine(&mut held.other, &other)
+}
+
+#[test]
+fn a_machine_has_a_given_state(rt: HostRuntime) {
+    assert!(rt; holds(rt.alloc(), HISTORY, Asked::Given));
 }
 
 /// Each fault, and its number.

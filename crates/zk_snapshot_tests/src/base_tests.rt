@@ -4,6 +4,7 @@ use crate::files::{EMPTY, FUZZY, ORPHAN, OWNED, REAL, TWICE};
 use std::alloc::Global;
 use zk_base::{BaseFault, Draft, Exact, exact_from, settle};
 use zk_fold::Fold;
+use zk_machine::Machine;
 use zk_snapshot::{Snapshot, read_snapshot};
 use zk_tree::Entry;
 
@@ -101,6 +102,29 @@ fn is_settled(alloc: Global) -> bool {
 #[test]
 fn a_real_snapshot_is_a_table(rt: HostRuntime) {
     assert!(rt; is_settled(rt.alloc()));
+}
+
+/// Whether a machine is in the state of `REAL`, before any step.
+fn is_real_machine(machine: &Machine) -> bool {
+    let Ok(tree) = machine.tree() else {
+        return false;
+    };
+    machine.last() == Ok(16)
+        && machine.steps() == Ok(0)
+        && matches!(tree.entries(), Ok(entries) if are_children(entries.as_slice()))
+}
+
+/// Whether the table of `REAL` leads to that machine.
+fn has_machine(alloc: Global) -> bool {
+    match settled(alloc, REAL) {
+        Some(Ok(table)) => { matches!(table.machine(), Ok(machine) if is_real_machine(&machine)) }
+        _ => false,
+    }
+}
+
+#[test]
+fn a_real_snapshot_is_a_machine(rt: HostRuntime) {
+    assert!(rt; has_machine(rt.alloc()));
 }
 
 /// Snapshots, how many of their bytes are kept, the zxid in the name, and from where on a replay is
