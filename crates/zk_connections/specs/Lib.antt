@@ -1,0 +1,4 @@
+pub mod Connections
+pub mod Inputs
+pub mod Statuses
+pub mod Words
