@@ -1,6 +1,8 @@
-//! The tests of `zk_restore`, and no code of its own.
+//! The tests of `zk_restore` and `zk_directory_commands`, and no code of its own.
 #![tactic(auto)]
 
+#[cfg(test)]
+mod command_tests;
 #[cfg(test)]
 mod files;
 #[cfg(test)]
