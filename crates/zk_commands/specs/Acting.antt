@@ -5,7 +5,7 @@ use Rattle.zk_log.specs.declared.source.Source.{Source}
 use Rattle.zk_path.specs.declared.memory.NoMemory.{NoMemory}
 use Rattle.zk_log_commands.specs.Assembling.{Assembles}
 use Rattle.zk_log_commands.specs.Debugs.{Debugs}
-use Rattle.zk_log_commands.specs.Showing.{report_of}
+use Rattle.zk_log_commands.specs.Showing.{notice_of, report_of}
 use Rattle.zk_log_commands.specs.Telling.{TellsLog}
 use Rattle.zk_commands.specs.Mends.{MendsLog}
 use Rattle.zk_commands.specs.Holding.{RunsRepl}
@@ -16,8 +16,8 @@ use Rattle.zk_log_commands.specs.declared.reporting.Report.TheVariants as report
 
 -- only the two debugger commands read the script, and only `mend` writes the report
 abbrev pub Acts : {F S O R E : Type 0} → (F → Option (List ℕ)) → (S → Option (List ℕ)) → (O → Option (List ℕ)) → (R → Option (List ℕ)) → (E → Option (List ℕ)) → Order → Source F → Source F → Source S → Source S → Sink O → Sink O → Sink R → Sink R → Sink E → Sink E → Result ℕ NoMemory → Type 0
-Acts remaining remaining_script written reported told (orders.Show upto) file file' script script' output output' report report' faults faults' result = TellsLog remaining written told (report_of (reports.Tree upto)) file file' output output' faults faults' result × (script' ≡ script) × (report' ≡ report)
-Acts remaining remaining_script written reported told orders.List file file' script script' output output' report report' faults faults' result = TellsLog remaining written told (report_of reports.Listing) file file' output output' faults faults' result × (script' ≡ script) × (report' ≡ report)
+Acts remaining remaining_script written reported told (orders.Show upto) file file' script script' output output' report report' faults faults' result = TellsLog remaining written told (report_of (reports.Tree upto)) (notice_of (reports.Tree upto)) file file' output output' faults faults' result × (script' ≡ script) × (report' ≡ report)
+Acts remaining remaining_script written reported told orders.List file file' script script' output output' report report' faults faults' result = TellsLog remaining written told (report_of reports.Listing) (notice_of reports.Listing) file file' output output' faults faults' result × (script' ≡ script) × (report' ≡ report)
 Acts remaining remaining_script written reported told orders.Asm file file' script script' output output' report report' faults faults' result = Assembles remaining written told file file' output output' faults faults' result × (script' ≡ script) × (report' ≡ report)
 Acts remaining remaining_script written reported told orders.Run file file' script script' output output' report report' faults faults' result = RunsText remaining written told file file' output output' faults faults' result × (script' ≡ script) × (report' ≡ report)
 Acts remaining remaining_script written reported told orders.Mend file file' script script' output output' report report' faults faults' result = MendsLog remaining written reported told file file' output output' report report' faults faults' result × (script' ≡ script)

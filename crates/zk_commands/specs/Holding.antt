@@ -1,6 +1,6 @@
 -- What the command `debug` writes without a script: a session over a log. A definition of this
 -- project.
-use Rattle.std.specs.Prelude.{◌≡◌, ◌⊎◌, ℕ, List, Bool, Option, Result, Ok, Err, IsErr, codes}
+use Rattle.std.specs.Prelude.{◌≡◌, ◌⊎◌, ℕ, ℤ, List, Bool, Option, Result, Ok, Err, IsErr, codes}
 use Rattle.zk_records.specs.Sinks.{writer_of}
 use Rattle.zk_log.specs.Devices.{reader_of}
 use Rattle.zk_log.specs.declared.fault.LogFault.{LogFault}
@@ -12,7 +12,8 @@ use Rattle.zk_path.specs.declared.memory.NoMemory.{NoMemory}
 use Rattle.zk_txn.specs.declared.txn.Txn.{Txn}
 use Rattle.zk_log_commands.specs.Debugs.{started}
 use Rattle.zk_log_commands.specs.FaultLines.{line_of_log_fault}
-use Rattle.zk_log_commands.specs.Telling.{Told, Loads, OutputsNothing, GivesUp}
+use Rattle.zk_log_commands.specs.Notices.{begins_within}
+use Rattle.zk_log_commands.specs.Telling.{EndsNoted, Told, Loads, OutputsNothing, GivesUp}
 use Rattle.zk_log_commands.specs.Writing.{LeavesSink}
 use Rattle.zk_commands.specs.declared.session.Session.{Session}
 use Rattle.zk_commands.specs.declared.session.TalkFault.{TalkFault}
@@ -21,11 +22,11 @@ use Rattle.zk_commands.specs.HearingLines.{ReadsSo}
 use Rattle.zk_commands.specs.Talking.{Talked, WritesSo}
 
 -- the line on standard error for the end of a session, and the exit status
-abbrev pub TellsEnd : {E : Type 0} → (E → Option (List ℕ)) → Result (Unit {0}) TalkFault → Sink E → Sink E → Result ℕ NoMemory → Type 0
-TellsEnd told (Ok done) faults faults' result = (result ≡ Ok 0) × LeavesSink told faults faults'
-TellsEnd told (Err faults.Read) faults faults' result = (result ≡ Ok 1) × Told told faults faults' (codes "zk: read\n")
-TellsEnd told (Err faults.Write) faults faults' result = (result ≡ Ok 1) × Told told faults faults' (codes "zk: write\n")
-TellsEnd told (Err faults.NoMemory) faults faults' result = IsErr result × LeavesSink told faults faults'
+abbrev pub TellsEnd : {E : Type 0} → (E → Option (List ℕ)) → Result (Unit {0}) TalkFault → Option ℤ → Sink E → Sink E → Result ℕ NoMemory → Type 0
+TellsEnd told (Ok done) notice faults faults' result = EndsNoted told notice faults faults' result
+TellsEnd told (Err faults.Read) notice faults faults' result = (result ≡ Ok 1) × Told told faults faults' (codes "zk: read\n")
+TellsEnd told (Err faults.Write) notice faults faults' result = (result ≡ Ok 1) × Told told faults faults' (codes "zk: write\n")
+TellsEnd told (Err faults.NoMemory) notice faults faults' result = IsErr result × LeavesSink told faults faults'
 
 -- a session started at the start of the log
 pub record Sits {L O E : Type 0} (remaining : L → Option (List ℕ)) (written : O → Option (List ℕ)) (told : E → Option (List ℕ)) (prompts : Bool) (txns : List Txn) (lines lines' : Source L) (output output' : Sink O) (faults faults' : Sink E) (result : Result ℕ NoMemory) : Type 0 where
@@ -37,7 +38,7 @@ pub record Sits {L O E : Type 0} (remaining : L → Option (List ℕ)) (written 
   pub talked : Talked prompts start (remaining (reader_of lines)) (remaining (reader_of lines')) (written (writer_of output)) (written (writer_of output')) ended end
   pub reads : ReadsSo lines ended lines'
   pub writes : WritesSo output ended output'
-  pub tells : TellsEnd told ended faults faults' result
+  pub tells : TellsEnd told ended (begins_within txns) faults faults' result
 
 -- or an allocation for it failed, and no line was read
 abbrev pub HoldsOver : {L O E : Type 0} → (L → Option (List ℕ)) → (O → Option (List ℕ)) → (E → Option (List ℕ)) → Bool → List Txn → Source L → Source L → Sink O → Sink O → Sink E → Sink E → Result ℕ NoMemory → Type 0

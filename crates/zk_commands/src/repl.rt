@@ -2,6 +2,7 @@
 ghost use Rattle.std.specs.Prelude.{◌≡◌, ◌+◌, ◌-◌, ◌<◌, ◌^◌};
 ghost use Rattle.zk_records.specs.Sinks.{write_failures_of};
 ghost use Rattle.zk_log.specs.Devices.{reads_of, read_failures_of};
+ghost use Rattle.zk_log_commands.specs.Notices.{within_epoch};
 ghost use Rattle.zk_commands.specs.Holding.{HoldsOver, RunsRepl, TellsEnd};
 
 use crate::line::Line;
@@ -12,11 +13,12 @@ use std::io::{Read, Write};
 use std::mem::forget;
 use zk_debug::Debugger;
 use zk_log::{Loaded, LogFault, Sink, Source, load};
-use zk_log_commands::{TURNS, tell, tell_log_fault};
+use zk_log_commands::{TURNS, first_zxid, tell, tell_log_fault, tell_notice};
 use zk_path::NoMemory;
 
 /// Loads a log, and holds a session with a debugger at its start: writes the output for each line
-/// before it reads the next, up to `quit` or the end of the lines. Returns the exit status.
+/// before it reads the next, up to `quit` or the end of the lines; then the notice on the log.
+/// Returns the exit status.
 ///
 /// If prompts are on, one precedes each line. A line that is not a command has an error message,
 /// and is dropped.
@@ -58,6 +60,7 @@ fn hold_over<L: Read, O: Write, E: Write>(
     ensures { HoldsOver L.remaining O.contents E.contents prompts loaded.txns lines.old lines.new
         output.old output.new faults.old faults.new result }
 {
+    let first = first_zxid(loaded.txns.as_slice());
     let Ok(debugger) = Debugger::new(alloc, loaded) else {
         return Err(NoMemory);
     };
@@ -67,16 +70,22 @@ fn hold_over<L: Read, O: Write, E: Write>(
     // The program ends after this: to free the memory object by object would cost as much as the
     // moves.
     forget(session);
-    tell_end(ended, faults)
+    tell_end(alloc, ended, first, faults)
 }
 
-/// Writes the line for a session that was aborted. Returns the exit status.
-fn tell_end<E: Write>(ended: Result<(), TalkFault>, faults: &mut Sink<E>) -> Result<u8, NoMemory>
+/// Writes the line for a session that was aborted, and after any other the notice on a log with
+/// this first zxid. Returns the exit status.
+fn tell_end<E: Write>(
+    alloc: Global,
+    ended: Result<(), TalkFault>,
+    first: Option<i64>,
+    faults: &mut Sink<E>,
+) -> Result<u8, NoMemory>
     requires { write_failures_of faults.old < 2 ^ 64 - 1 }
-    ensures { TellsEnd E.contents ended faults.old faults.new result }
+    ensures { TellsEnd E.contents ended (within_epoch first) faults.old faults.new result }
 {
     match ended {
-        Ok(()) => Ok(0),
+        Ok(()) => tell_notice(alloc, first, faults),
         Err(TalkFault::Read) => {
             tell(faults, "zk: read\n");
             Ok(1)

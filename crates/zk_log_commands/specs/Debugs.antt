@@ -1,5 +1,5 @@
 -- What the command `debug` writes: the output for a script over a log.
-use Rattle.std.specs.Prelude.{◌≡◌, ℕ, ◌+◌, ◌≤◌, List, [], false, Option, Result, Ok, Err, codes}
+use Rattle.std.specs.Prelude.{◌≡◌, ◌⊎◌, ℕ, ℤ, ◌+◌, ◌≤◌, List, [], false, Option, Result, Ok, Err, IsOk, IsSome, codes}
 use Rattle.std.specs.FinMap as finite
 use Rattle.std.specs.Str.{IsUtf8}
 use Rattle.zk_debug.specs.Debugging.{Debugging}
@@ -16,8 +16,9 @@ use Rattle.zk_reports.specs.declared.fault.ScriptFault.TheVariants as script_fau
 use Rattle.zk_txn.specs.declared.txn.Txn.{Txn}
 use Rattle.zk_log_commands.specs.Answering.{OutputsAnswers}
 use Rattle.zk_log_commands.specs.FaultLines.{line_of_log_fault}
+use Rattle.zk_log_commands.specs.Notices.{begins_within}
 use Rattle.zk_log_commands.specs.Reading.{ReadsAll, TellsRead}
-use Rattle.zk_log_commands.specs.Telling.{Loads, OutputsNothing, GivesUp}
+use Rattle.zk_log_commands.specs.Telling.{Loads, OutputsNothing, OutputsNoted, GivesUp}
 use Rattle.zk_log_commands.specs.declared.text.TextFault.{TextFault}
 use Rattle.zk_log_commands.specs.declared.text.TextFault.TheVariants as text_faults
 
@@ -30,11 +31,16 @@ abbrev pub RunsFromStart : List Txn → List ℕ → List ℕ → Result (Unit {
 RunsFromStart txns script before (Err script_faults.NoMemory) after = Unit {0}
 RunsFromStart txns script before ran after = (new : Debugging) × RunsScript (started txns) script before ran after new
 
+-- the output for a script, and then the notice on its log; only an allocation for it can fail
+abbrev pub OutputsDebug : {O E : Type 0} → (O → Option (List ℕ)) → (E → Option (List ℕ)) → Option ℤ → Result (Unit {0}) ScriptFault → List ℕ → Sink O → Sink O → Sink E → Sink E → Result ℕ NoMemory → Type 0
+OutputsDebug written told notice (Ok done) answers output output' faults faults' result = OutputsNoted written told answers notice output output' faults faults' result × (IsOk result ⊎ IsSome notice)
+OutputsDebug written told notice (Err fault) answers output output' faults faults' result = OutputsAnswers written told (Err fault) answers output output' faults faults' result
+
 pub record Runs {O E : Type 0} (written : O → Option (List ℕ)) (told : E → Option (List ℕ)) (txns : List Txn) (script : List ℕ) (output output' : Sink O) (faults faults' : Sink E) (result : Result ℕ NoMemory) : Type 0 where
   pub ran : Result (Unit {0}) ScriptFault
   pub answers : List ℕ
   pub runs : RunsFromStart txns script [] ran answers
-  pub outputs : OutputsAnswers written told ran answers output output' faults faults' result
+  pub outputs : OutputsDebug written told (begins_within txns) ran answers output output' faults faults' result
 
 -- ---- by what was read
 

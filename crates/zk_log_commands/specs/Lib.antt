@@ -2,6 +2,7 @@ pub mod Answering
 pub mod Assembling
 pub mod Debugs
 pub mod FaultLines
+pub mod Notices
 pub mod Reading
 pub mod Showing
 pub mod Telling

@@ -1,10 +1,12 @@
-ghost use Rattle.std.specs.Prelude.{◌+◌, ◌-◌, ◌<◌, ◌^◌};
+ghost use Rattle.std.specs.Prelude.{◌+◌, ◌-◌, ◌<◌, ◌^◌, Err};
 ghost use Rattle.std.specs.String.{string_bytes};
 ghost use Rattle.zk_records.specs.Sinks.{write_failures_of};
 ghost use Rattle.zk_log.specs.Devices.{reads_of, read_failures_of};
+ghost use Rattle.zk_log_commands.specs.Answering.{OutputsAnswers};
 ghost use Rattle.zk_log_commands.specs.Debugs.{Debugs, ReadsScript, Runs, RunsFromStart};
 
-use crate::answering::{put_answers, put_answers_before};
+use crate::answering::put_answers_before;
+use crate::notice::{first_zxid, put_noted};
 use crate::telling::{TURNS, tell, tell_log_fault};
 use crate::text::{TextFault, read_text};
 use std::alloc::Global;
@@ -16,7 +18,7 @@ use zk_log::{Loaded, LogFault, Sink, Source, load};
 use zk_path::NoMemory;
 
 /// Loads a log, reads a whole script, and writes the output for the script's lines, up to the first
-/// that is not a command. Returns the exit status.
+/// that is not a command; then the notice on the log, if all are commands. Returns the exit status.
 pub fn debug<F: Read, S: Read, O: Write, E: Write>(
     alloc: Global,
     file: &mut Source<F>,
@@ -82,13 +84,31 @@ fn run<O: Write, E: Write>(
     ensures { Runs O.contents E.contents loaded.txns script.now output.old output.new
         faults.old faults.new result }
 {
+    let first = first_zxid(loaded.txns.as_slice());
     let mut answers = String::new(alloc);
     match push_answers(alloc, loaded, script, &mut answers) {
-        Ok(()) => Ok(put_answers(answers.as_str(), output, faults)),
-        Err(ScriptFault::Malformed(line)) => {
-            put_answers_before(alloc, answers.as_str(), line, output, faults)
-        }
-        Err(ScriptFault::NoMemory) => Err(NoMemory),
+        Ok(()) => put_noted(alloc, answers.as_str(), first, output, faults),
+        Err(fault) => put_stopped(alloc, answers.as_str(), fault, output, faults),
+    }
+}
+
+/// Writes the output for the lines before the one at which a script stopped. Returns the exit
+/// status.
+fn put_stopped<O: Write, E: Write>(
+    alloc: Global,
+    answers: &str,
+    fault: ScriptFault,
+    output: &mut Sink<O>,
+    faults: &mut Sink<E>,
+) -> Result<u8, NoMemory>
+    requires output { write_failures_of output.old < 2 ^ 64 - 1 }
+    requires faults { write_failures_of faults.old < 2 ^ 64 - 1 }
+    ensures { OutputsAnswers O.contents E.contents (Err fault) answers.now output.old output.new
+        faults.old faults.new result }
+{
+    match fault {
+        ScriptFault::Malformed(line) => put_answers_before(alloc, answers, line, output, faults),
+        ScriptFault::NoMemory => Err(NoMemory),
     }
 }
 

@@ -1,4 +1,6 @@
-use Rattle.std.proofs.Common.{◌∙◌, inl}
+use Rattle.std.proofs.Common.{ℤ, Option, ap, ◌∙◌, inl, subst}
+use Rattle.zk_log_commands.specs.Notices.{first_zxid, within_epoch}
+use Rattle.zk_commands.specs.Holding.{TellsEnd}
 use Rattle.zk_commands.proofs.repl.hold_over.Goals as goal
 
 pub returns : goal.returns
@@ -11,5 +13,5 @@ returns g c = inl (record {
   talked = c.talk-ended.ensures.talked;
   reads = c.talk-ended.ensures.reads;
   writes = c.talk-ended.ensures.writes;
-  tells = c.tell_end.ensures;
+  tells = subst (λ (first : Option ℤ). TellsEnd g.E.Write.contents c.talk-ended.result (within_epoch first) c.args.faults.now c.tell_end.new.faults c.tell_end.result) (c.first_zxid-first.ensures ∙ ap first_zxid c.as_slice.ensures) c.tell_end.ensures;
 })
