@@ -31,7 +31,7 @@ pub record Obeys (old : Session) (command : Command) (answer : List ℕ) (new : 
 abbrev pub own_answer : Session → ReplCommand → List ℕ
 own_answer s owns.Help = help_text
 own_answer s (owns.Around count) = list_text s.debugger.txns s.debugger.place count
-own_answer s owns.Diff = seen_by s.debugger (diff_text (state_at s.debugger.txns s.began).nodes (state_at s.debugger.txns s.debugger.place).nodes)
+own_answer s owns.Diff = seen_by s.debugger (diff_text (state_at s.debugger.base s.debugger.txns s.began).nodes (state_at s.debugger.base s.debugger.txns s.debugger.place).nodes)
 own_answer s owns.Quit = []
 
 abbrev pub other_answer : Session → List ℕ → Option ReplCommand → List ℕ

@@ -11,7 +11,7 @@ use Rattle.zk_commands.specs.declared.session.TalkFault.TheVariants as faults
 -- the place of the session, if prompts are on
 abbrev pub prompt_text : Bool → Debugging → List ℕ
 prompt_text false d = []
-prompt_text true d = codes "zk " ++ decimal d.place ++ 32 ∷ id_digits (zxid_at d.txns d.place) ++ codes "> "
+prompt_text true d = codes "zk " ++ decimal d.place ++ 32 ∷ id_digits (zxid_at d.base d.txns d.place) ++ codes "> "
 
 -- how a write ended that does not allocate after its text
 abbrev pub Puts : {O : Type 0} → (O → Option (List ℕ)) → Sink O → List ℕ → Result (Unit {0}) TalkFault → Sink O → Type 0

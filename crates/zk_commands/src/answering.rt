@@ -113,14 +113,14 @@ fn answer_own(session: &Session, own: ReplCommand, page: &mut String) -> Result<
 /// Appends what the last move changed in the tree.
 fn spell_seen_diff(session: &Session, page: &mut String) -> Result<(), NoMemory>
     ensures { OnOk result (string_bytes page.new ≡ string_bytes page.old
-        ++ seen_by session.now.debugger (diff_text (state_at session.now.debugger.txns session.now.began).nodes
-        (state_at session.now.debugger.txns session.now.debugger.place).nodes)) }
+        ++ seen_by session.now.debugger (diff_text (state_at session.now.debugger.base session.now.debugger.txns session.now.began).nodes
+        (state_at session.now.debugger.base session.now.debugger.txns session.now.debugger.place).nodes)) }
 {
     let txns = session.debugger.txns();
     match session.debugger.tree() {
         Ok(machine) => {
             let before = &txns[..session.began.min(txns.len())];
-            spell_diff(session.alloc, page, before, machine)
+            spell_diff(page, session.debugger.base(), before, machine)
         }
         Err(_) => {
             page.push_str("B5\n")?;

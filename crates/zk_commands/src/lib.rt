@@ -33,7 +33,7 @@ pub use laws::sessions_answer_scripts;
 pub use list::spell_list;
 pub use mending::mend_log;
 pub use prompting::put_prompt;
-pub use repl::run_repl;
+pub use repl::{run_repl, run_repl_with};
 pub use repl_command::ReplCommand;
 pub use report::mend_report;
 pub use running::run;

@@ -1,9 +1,9 @@
 //! The command `debug` without a script.
-ghost use Rattle.std.specs.Prelude.{◌≡◌, ◌+◌, ◌-◌, ◌<◌, ◌^◌};
+ghost use Rattle.std.specs.Prelude.{◌≡◌, ◌+◌, ◌-◌, ◌<◌, ◌^◌, None};
 ghost use Rattle.zk_records.specs.Sinks.{write_failures_of};
 ghost use Rattle.zk_log.specs.Devices.{reads_of, read_failures_of};
 ghost use Rattle.zk_log_commands.specs.Notices.{within_epoch};
-ghost use Rattle.zk_commands.specs.Holding.{HoldsOver, RunsRepl, TellsEnd};
+ghost use Rattle.zk_commands.specs.Holding.{HoldsOver, RunsRepl, Sits, TellsEnd};
 
 use crate::line::Line;
 use crate::session::{Session, TalkFault};
@@ -64,6 +64,44 @@ fn hold_over<L: Read, O: Write, E: Write>(
     let Ok(debugger) = Debugger::new(alloc, loaded) else {
         return Err(NoMemory);
     };
+    hold(alloc, prompts, debugger, first, lines, output, faults)
+}
+
+/// Holds a session with a debugger, like [`run_repl`]; no notice follows. Returns the exit status.
+pub fn run_repl_with<L: Read, O: Write, E: Write>(
+    alloc: Global,
+    prompts: bool,
+    debugger: Debugger,
+    lines: &mut Source<L>,
+    output: &mut Sink<O>,
+    faults: &mut Sink<E>,
+) -> Result<u8, NoMemory>
+    requires lines { read_failures_of lines.old < 2 ^ 64 - 1 }
+    requires output { write_failures_of output.old < 2 ^ 64 - 1 }
+    requires faults { write_failures_of faults.old < 2 ^ 64 - 1 }
+    ensures { Sits L.remaining O.contents E.contents prompts None debugger lines.old lines.new
+        output.old output.new faults.old faults.new result }
+{
+    hold(alloc, prompts, debugger, None, lines, output, faults)
+}
+
+/// Holds a session with a debugger, and writes the notice on a log with this first zxid. Returns
+/// the exit status.
+fn hold<L: Read, O: Write, E: Write>(
+    alloc: Global,
+    prompts: bool,
+    debugger: Debugger,
+    first: Option<i64>,
+    lines: &mut Source<L>,
+    output: &mut Sink<O>,
+    faults: &mut Sink<E>,
+) -> Result<u8, NoMemory>
+    requires lines { read_failures_of lines.old < 2 ^ 64 - 1 }
+    requires output { write_failures_of output.old < 2 ^ 64 - 1 }
+    requires faults { write_failures_of faults.old < 2 ^ 64 - 1 }
+    ensures { Sits L.remaining O.contents E.contents prompts (within_epoch first) debugger
+        lines.old lines.new output.old output.new faults.old faults.new result }
+{
     let mut session = Session::new(alloc, debugger);
     let mut line = Line::new(alloc);
     let ended = talk(alloc, &mut session, prompts, lines, &mut line, output);

@@ -9,22 +9,23 @@ use Rattle.zk_machine.specs.declared.change.Change.{Change}
 use Rattle.zk_machine.specs.Changes.{changes_of}
 use Rattle.zk_txn.specs.declared.result.TxnResult.{TxnResult}
 use Rattle.zk_txn.specs.declared.txn.Txn.{Txn}
+use Rattle.zk_table.specs.States.{State}
 use Rattle.zk_table.specs.Steps.{step}
 use Rattle.zk_debug.specs.declared.breakpoint.Breakpoint.{Breakpoint}
 use Rattle.zk_debug.specs.Breakpoints.{is_met}
 use Rattle.zk_debug.specs.Debugging.{state_at, txn_at, result_at, changes_at, lowest_by, hit_by, up_to}
 
-module _ (txns : List Txn) (place : ℕ) (standing : FinMap nat_cmp Breakpoint) where
-  pub hit_here : (txn : Txn) (result : TxnResult) (changes : List Change) → Some txn ≡ txn_at txns place → Some result ≡ result_at txns place → Some changes ≡ changes_at txns place
-      → lowest_by (is_met txn result.err changes) standing ≡ hit_by (state_at txns (place - 1)) standing (txn_at txns place)
+module _ (base : State) (txns : List Txn) (place : ℕ) (standing : FinMap nat_cmp Breakpoint) where
+  pub hit_here : (txn : Txn) (result : TxnResult) (changes : List Change) → Some txn ≡ txn_at txns place → Some result ≡ result_at base txns place → Some changes ≡ changes_at base txns place
+      → lowest_by (is_met txn result.err changes) standing ≡ hit_by (state_at base txns (place - 1)) standing (txn_at txns place)
   hit_here txn result changes there answered changed =
-      let before = state_at txns (place - 1) in
+      let before = state_at base txns (place - 1) in
       let same_result : result ≡ (step before txn).1 = ap (λ o. unwrap_or o result) (answered ∙ ap (option_map (λ txn. (step before txn).1)) (sym there)) in
       let same_changes : changes ≡ changes_of before txn = ap (λ o. unwrap_or o changes) (changed ∙ ap (option_map (changes_of before)) (sym there)) in
       ap (λ r. lowest_by (is_met txn r.err changes) standing) same_result ∙ ap (λ cs. lowest_by (is_met txn (step before txn).1.err cs) standing) same_changes ∙ ap (hit_by before standing) there
 
-  pub no_hit_here : None ≡ txn_at txns place → None ≡ hit_by (state_at txns (place - 1)) standing (txn_at txns place)
-  no_hit_here start = ap (hit_by (state_at txns (place - 1)) standing) start
+  pub no_hit_here : None ≡ txn_at txns place → None ≡ hit_by (state_at base txns (place - 1)) standing (txn_at txns place)
+  no_hit_here start = ap (hit_by (state_at base txns (place - 1)) standing) start
 
 -- ---- zxids that rise
 

@@ -1,5 +1,5 @@
--- A debugger: a list of transactions, a place in it, and numbered breakpoints. A definition of this
--- project.
+-- A debugger: a base, a list of transactions, a place in it, and numbered breakpoints. A definition
+-- of this project.
 use Rattle.std.specs.Prelude.{◌≡◌, ◌<◌, ◌≤◌, ◌-◌, ℕ, zero, suc, ℤ, pos, List, Bool, true, false, Option, Some, None, option_map, length, take, filter, slice_get, int_le, refl}
 use Rattle.std.specs.Coded.{Coded, code_by, coded×, coded_list, coded_ℕ, coded_bool}
 use Rattle.std.specs.FinMap as finite
@@ -12,8 +12,9 @@ use Rattle.zk_machine.specs.Changes.{changes_of}
 use Rattle.zk_machine.specs.Machines.{MachineView}
 use Rattle.zk_txn.specs.declared.result.TxnResult.{TxnResult}
 use Rattle.zk_txn.specs.declared.txn.Txn.{Txn}
-use Rattle.zk_table.specs.Histories.{tree_of}
-use Rattle.zk_table.specs.States.{State}
+use Rattle.zk_txn.specs.declared.node.Node.{Node}
+use Rattle.zk_table.specs.Histories.{state_after}
+use Rattle.zk_table.specs.States.{State, state_code}
 use Rattle.zk_table.specs.Steps.{step}
 use Rattle.zk_debug.specs.Breakpoints.{is_met}
 use Rattle.zk_debug.specs.declared.breakpoint.Breakpoint.{Breakpoint}
@@ -23,13 +24,13 @@ use Rattle.zk_debug.specs.declared.stop.Stop.{Stop}
 
 -- ---- places of a log: a place is a number of applied transactions
 
--- the state after the first `place` transactions
-abbrev pub state_at : List Txn → ℕ → State
-state_at txns place = tree_of (take place txns)
+-- the state after the first `place` transactions, from the base
+abbrev pub state_at : State → List Txn → ℕ → State
+state_at base txns place = state_after base (take place txns)
 
 -- a machine in that state
-abbrev pub machine_at : List Txn → ℕ → MachineView
-machine_at txns place = record { state = state_at txns place; steps = place; failed = false }
+abbrev pub machine_at : State → List Txn → ℕ → MachineView
+machine_at base txns place = record { state = state_at base txns place; steps = place; failed = false }
 
 -- the transaction just before a place; None at the start
 abbrev pub txn_at : List Txn → ℕ → Option Txn
@@ -37,16 +38,16 @@ txn_at txns zero = None
 txn_at txns (suc before) = slice_get txns before
 
 -- its result
-abbrev pub result_at : List Txn → ℕ → Option TxnResult
-result_at txns place = option_map (λ txn. (step (state_at txns (place - 1)) txn).1) (txn_at txns place)
+abbrev pub result_at : State → List Txn → ℕ → Option TxnResult
+result_at base txns place = option_map (λ txn. (step (state_at base txns (place - 1)) txn).1) (txn_at txns place)
 
 -- its changes
-abbrev pub changes_at : List Txn → ℕ → Option (List Change)
-changes_at txns place = option_map (changes_of (state_at txns (place - 1))) (txn_at txns place)
+abbrev pub changes_at : State → List Txn → ℕ → Option (List Change)
+changes_at base txns place = option_map (changes_of (state_at base txns (place - 1))) (txn_at txns place)
 
--- its zxid; 0 at the start
-abbrev pub zxid_at : List Txn → ℕ → ℤ
-zxid_at txns place = option_map_or (λ txn. txn.zxid) (txn_at txns place) (pos 0)
+-- its zxid; at the start that of the base
+abbrev pub zxid_at : State → List Txn → ℕ → ℤ
+zxid_at base txns place = option_map_or (λ txn. txn.zxid) (txn_at txns place) base.last
 
 -- ---- breakpoints
 
@@ -71,23 +72,29 @@ hit_by before standing (Some txn) = lowest_by (meets before txn) standing
 -- ---- a debugger
 
 pub record Debugging : Type 0 where
+  -- the state that the log continues; of a single log the start state
+  pub base : State
   pub txns : List Txn
   pub place : ℕ
   pub breakpoints : Breakpoints
   -- an allocation failed in a move or in a reset
   pub failed : Bool
 
+-- a debugger at the start, without breakpoints
+abbrev pub started : State → List Txn → Debugging
+started base txns = record { base = base; txns = txns; place = 0; breakpoints = record { standing = finite.empty; numbered = 0 }; failed = false }
+
 abbrev pub breakpoints_code : Coded Breakpoint → Coded Breakpoints
 breakpoints_code breakpoint =
     code_by (FinMap nat_cmp Breakpoint × ℕ) (coded× (finite.code coded_ℕ breakpoint) coded_ℕ) (λ b. (b.standing, b.numbered)) (λ p. record { standing = p.0; numbered = p.1 }) (λ _. refl)
 
-abbrev pub debugging_code : Coded Txn → Coded Breakpoint → Coded Debugging
-debugging_code txn breakpoint =
-    code_by (List Txn × (ℕ × (Breakpoints × Bool))) (coded× (coded_list txn) (coded× coded_ℕ (coded× (breakpoints_code breakpoint) coded_bool))) (λ d. (d.txns, (d.place, (d.breakpoints, d.failed)))) (λ p. record { txns = p.0; place = p.1.0; breakpoints = p.1.1.0; failed = p.1.1.1 }) (λ _. refl)
+abbrev pub debugging_code : Coded Node → Coded Txn → Coded Breakpoint → Coded Debugging
+debugging_code node txn breakpoint =
+    code_by (State × (List Txn × (ℕ × (Breakpoints × Bool)))) (coded× (state_code node) (coded× (coded_list txn) (coded× coded_ℕ (coded× (breakpoints_code breakpoint) coded_bool)))) (λ d. (d.base, (d.txns, (d.place, (d.breakpoints, d.failed))))) (λ p. record { base = p.0; txns = p.1.0; place = p.1.1.0; breakpoints = p.1.1.1.0; failed = p.1.1.1.1 }) (λ _. refl)
 
 -- the lowest number of a breakpoint that a place matches
 abbrev pub hit_at : Debugging → ℕ → Option ℕ
-hit_at d place = hit_by (state_at d.txns (place - 1)) d.breakpoints.standing (txn_at d.txns place)
+hit_at d place = hit_by (state_at d.base d.txns (place - 1)) d.breakpoints.standing (txn_at d.txns place)
 
 abbrev pub moved : Debugging → ℕ → Debugging
 moved d place = record d { place = place }

@@ -3,7 +3,8 @@ ghost use Rattle.std.specs.FinMap as finite;
 ghost use Rattle.std.specs.Option.{option_copied};
 ghost use Rattle.zk_records.specs.Written.{Rises};
 ghost use Rattle.zk_debug.specs.declared.fault.DebugFault.TheVariants as faults;
-ghost use Rattle.zk_debug.specs.Debugging.{state_at, machine_at, result_at, zxid_at, hit_at, moved, broken, up_to, Moves, IsRunTo, IsRunBackTo, RefusesOn, RefusesBack, RefusesAny, RefusesSet};
+ghost use Rattle.zk_table.specs.States.{start_state};
+ghost use Rattle.zk_debug.specs.Debugging.{started, state_at, machine_at, result_at, zxid_at, hit_at, moved, broken, up_to, Moves, IsRunTo, IsRunBackTo, RefusesOn, RefusesBack, RefusesAny, RefusesSet};
 
 use crate::breakpoint::Breakpoint;
 use crate::breakpoints::Breakpoints;
@@ -12,7 +13,7 @@ use crate::stop::Stop;
 use crate::walk::Walk;
 use std::alloc::Global;
 use std::marker::Model;
-use zk_log::Loaded;
+use zk_log::{Loaded, Txns};
 use zk_machine::Machine;
 use zk_path::{NoMemory, Path};
 use zk_txn::{Node, Txn, TxnResult};
@@ -40,26 +41,45 @@ impl Drop for Debugger {
 }
 
 impl Model for Debugger {
+    ghost use Rattle.zk_txn.specs.contracts.node.Node as node;
     ghost use Rattle.zk_txn.specs.contracts.txn.Txn as txn;
     ghost use Rattle.zk_debug.specs.contracts.breakpoint.Breakpoint as breakpoint;
     ghost use Rattle.zk_debug.specs.Debugging.{Debugging, debugging_code};
 
     ghost Value = { Debugging };
 
-    ghost coded = { debugging_code txn.the_row.coded breakpoint.the_row.coded };
+    ghost coded = { debugging_code node.the_row.coded txn.the_row.coded breakpoint.the_row.coded };
 
-    ghost view = { λ d. record { txns = d.walk.txns; place = d.walk.place; breakpoints = d.breakpoints; failed = d.walk.failed } };
+    ghost view = { λ d. record { base = d.walk.base; txns = d.walk.txns; place = d.walk.place; breakpoints = d.breakpoints; failed = d.walk.failed } };
 }
 
 impl Debugger {
     /// A debugger at the start of a log, without breakpoints.
     pub fn new(alloc: Global, loaded: Loaded) -> Result<Debugger, NoMemory>
-        ensures { IfOk result (λ debugger. debugger ≡ record { txns = loaded.txns; place = 0; breakpoints = record { standing = finite.empty; numbered = 0 }; failed = false }) }
+        ensures { IfOk result (λ debugger. debugger ≡ started start_state loaded.txns) }
+    {
+        let base = Machine::new(alloc)?;
+        Debugger::from_base(alloc, base, loaded.txns)
+    }
+
+    /// A debugger at the start of transactions that continue the state of `base`, without
+    /// breakpoints. It moves back to that state, which is place 0, and no further.
+    pub fn from_base(alloc: Global, base: Machine, txns: Txns) -> Result<Debugger, NoMemory>
+        requires { base.failed ≡ false }
+        ensures { IfOk result (λ debugger. debugger ≡ started base.state txns) }
     {
         Ok(Debugger {
-            walk: Walk::new(alloc, loaded.txns)?,
+            walk: Walk::new(alloc, base, txns)?,
             breakpoints: Breakpoints::new(alloc),
         })
+    }
+
+    /// A machine in the state that the transactions continue.
+    pub fn base(&self) -> &Machine
+        ensures state { result.now.state ≡ self.now.base }
+        ensures runs { result.now.failed ≡ false }
+    {
+        self.walk.base()
     }
 
     /// The place: the number of applied transactions.
@@ -76,16 +96,17 @@ impl Debugger {
         self.walk.txns()
     }
 
-    /// The zxid of the transaction just before the place; 0 at the start.
+    /// The zxid of the transaction just before the place; at the start that of the base,
+    /// which is 0 for a single log.
     pub fn zxid(&self) -> i64
-        ensures { result ≡ zxid_at self.now.txns self.now.place }
+        ensures { result ≡ zxid_at self.now.base self.now.txns self.now.place }
     {
         self.walk.zxid()
     }
 
     /// The machine at the place, after the transactions before it.
     pub fn tree(&self) -> Result<&Machine, DebugFault>
-        ensures tree { IfOk result (λ machine. (self.now.failed ≡ false) × (machine.now ≡ machine_at self.now.txns self.now.place)) }
+        ensures tree { IfOk result (λ machine. (self.now.failed ≡ false) × (machine.now ≡ machine_at self.now.base self.now.txns self.now.place)) }
         ensures refused { IfErr result (λ fault. (fault ≡ faults.Failed) × (self.now.failed ≡ true)) }
     {
         self.running()?;
@@ -93,7 +114,7 @@ impl Debugger {
     }
 
     pub fn node(&self, path: &Path) -> Result<Option<&Node>, DebugFault>
-        ensures node { IfOk result (λ node. option_copied node ≡ finite.get (state_at self.now.txns self.now.place).nodes path.now) }
+        ensures node { IfOk result (λ node. option_copied node ≡ finite.get (state_at self.now.base self.now.txns self.now.place).nodes path.now) }
         ensures ran { OnOk result (self.now.failed ≡ false) }
         ensures refused { IfErr result (λ fault. (fault ≡ faults.Failed) × (self.now.failed ≡ true)) }
     {
@@ -106,7 +127,7 @@ impl Debugger {
 
     /// The result of the transaction just before the place; `None` at the start.
     pub fn last_result(&self) -> Result<Option<&TxnResult>, DebugFault>
-        ensures last { IfOk result (λ last. option_copied last ≡ result_at self.now.txns self.now.place) }
+        ensures last { IfOk result (λ last. option_copied last ≡ result_at self.now.base self.now.txns self.now.place) }
         ensures ran { OnOk result (self.now.failed ≡ false) }
         ensures refused { IfErr result (λ fault. (fault ≡ faults.Failed) × (self.now.failed ≡ true)) }
     {

@@ -12,7 +12,8 @@ use zk_txn::Txn;
 /// A log, a place in it, and a machine at that place. The result, changes and undo record of each
 /// step are stored, so that a step back costs as much as the step.
 pub(crate) struct Walk {
-    alloc: Global,
+    /// In the state of place 0.
+    base: Machine,
     txns: Txns,
     place: usize,
     failed: bool,
@@ -23,7 +24,7 @@ pub(crate) struct Walk {
 impl Drop for Walk {
     fn drop(self) {
         let Walk {
-            alloc: _,
+            base: _,
             txns: _,
             place: _,
             failed: _,
@@ -34,26 +35,32 @@ impl Drop for Walk {
 }
 
 impl Model for Walk {
-    ghost use Rattle.zk_debug.specs.Walks.{Walk, IsWalk};
+    ghost use Rattle.zk_txn.specs.contracts.node.Node as node;
+    ghost use Rattle.zk_txn.specs.contracts.txn.Txn as txn;
+    ghost use Rattle.zk_debug.specs.Walks.{Walk, IsWalk, walk_code};
 
     ghost Value = { Walk };
 
-    ghost view = { λ walk. record { txns = walk.txns; place = walk.place; failed = walk.failed } };
+    ghost coded = { walk_code node.the_row.coded txn.the_row.coded };
 
-    ghost invariant = { λ walk. IsWalk walk.txns walk.place walk.failed walk.machine walk.steps.items };
+    ghost view = { λ walk. record { base = walk.base.state; txns = walk.txns; place = walk.place; failed = walk.failed } };
+
+    ghost invariant = { λ walk. IsWalk walk.base walk.txns walk.place walk.failed walk.machine walk.steps.items };
 }
 
 impl Walk {
-    /// A walk at the start of a log.
-    pub(crate) fn new(alloc: Global, txns: Txns) -> Result<Walk, NoMemory>
-        ensures { IfOk result (λ walk. walk ≡ record { txns = txns; place = 0; failed = false }) }
+    /// A walk at the start of a log that continues the state of `base`.
+    pub(crate) fn new(alloc: Global, base: Machine, txns: Txns) -> Result<Walk, NoMemory>
+        requires { base.failed ≡ false }
+        ensures { IfOk result (λ walk. walk ≡ record { base = base.state; txns = txns; place = 0; failed = false }) }
     {
+        let machine = base.copy()?;
         Ok(Walk {
-            alloc,
+            base,
             txns,
             place: 0,
             failed: false,
-            machine: Machine::new(alloc)?,
+            machine,
             steps: Vec::new(alloc),
         })
     }
@@ -63,7 +70,7 @@ impl Walk {
         ensures started { OnOk result (self.new ≡ record self.old { place = 0; failed = false }) }
         ensures failed { OnErr result (self.new ≡ record self.old { failed = true }) }
     {
-        let Ok(machine) = Machine::new(self.alloc) else {
+        let Ok(machine) = self.base.copy() else {
             self.failed = true;
             return Err(NoMemory);
         };
@@ -159,8 +166,8 @@ impl Walk {
     pub(crate) fn last(&self) -> Option<(&Txn, &Applied)>
         requires running { self.now.failed ≡ false }
         ensures txn { option_map (λ last. last.0.now) result ≡ txn_at self.now.txns self.now.place }
-        ensures result { option_map (λ last. last.1.now.result) result ≡ result_at self.now.txns self.now.place }
-        ensures changes { option_map (λ last. last.1.now.changes.items) result ≡ changes_at self.now.txns self.now.place }
+        ensures result { option_map (λ last. last.1.now.result) result ≡ result_at self.now.base self.now.txns self.now.place }
+        ensures changes { option_map (λ last. last.1.now.changes.items) result ≡ changes_at self.now.base self.now.txns self.now.place }
     {
         let Some(applied) = self.steps.last() else {
             return None;
@@ -171,9 +178,17 @@ impl Walk {
 
     pub(crate) fn machine(&self) -> &Machine
         requires running { self.now.failed ≡ false }
-        ensures { result.now ≡ machine_at self.now.txns self.now.place }
+        ensures { result.now ≡ machine_at self.now.base self.now.txns self.now.place }
     {
         &self.machine
+    }
+
+    /// The machine at the start.
+    pub(crate) fn base(&self) -> &Machine
+        ensures state { result.now.state ≡ self.now.base }
+        ensures runs { result.now.failed ≡ false }
+    {
+        &self.base
     }
 
     pub(crate) fn place(&self) -> usize
@@ -204,14 +219,23 @@ impl Walk {
         self.txns.as_slice().len()
     }
 
-    /// The zxid of the transaction just before the place; 0 at the start.
+    /// The zxid of the transaction just before the place; at the start that of the base.
     pub(crate) fn zxid(&self) -> i64
-        ensures { result ≡ zxid_at self.now.txns self.now.place }
+        ensures { result ≡ zxid_at self.now.base self.now.txns self.now.place }
     {
         if self.place == 0 {
-            return 0;
+            return self.base_zxid();
         }
         self.txns.as_slice()[self.place - 1].zxid
+    }
+
+    fn base_zxid(&self) -> i64
+        ensures { result ≡ self.now.base.last }
+    {
+        let Ok(zxid) = self.base.last() else {
+            unreachable!()
+        };
+        zxid
     }
 
     /// The number of transactions with at most this zxid.

@@ -77,7 +77,7 @@ pub record Goes (IsEnd : ℕ → Type 0) (old : Debugging) (answer : List ℕ) (
   pub within : to ≤ length old.txns
   pub ends : IsEnd to
   pub goes : new ≡ moved old to
-  pub told : answer ≡ line (place_text to (zxid_at old.txns to) (hit_at old to))
+  pub told : answer ≡ line (place_text to (zxid_at old.base old.txns to) (hit_at old to))
 
 -- prints what is at the place, unless the debugger has failed
 abbrev pub seen_by : Debugging → List ℕ → List ℕ
@@ -104,7 +104,7 @@ Clears number old answer new false = (new ≡ old) × (answer ≡ line (fault_te
 
 abbrev pub Resets : Debugging → List ℕ → Debugging → Type 0
 Resets old answer new =
-    (new ≡ record old { place = 0; failed = false }) × (answer ≡ line (codes "place 0 0000000000000000"))
+    (new ≡ record old { place = 0; failed = false }) × (answer ≡ line (place_text 0 old.base.last None))
 
 abbrev pub RefusesReset : Debugging → DebugFault → Debugging → Type 0
 RefusesReset old fault new = (fault ≡ faults.NoMemory) × (new ≡ broken old)
@@ -116,9 +116,9 @@ Answers old commands.Back answer new = Goes (λ to. to + 1 ≡ old.place) old an
 Answers old commands.Run answer new = Goes (IsRunTo old) old answer new ⊎ IsRefused (RefusesOn old) answer new
 Answers old commands.RunBack answer new = Goes (IsRunBackTo old) old answer new ⊎ IsRefused (RefusesBack old) answer new
 Answers old (commands.Goto zxid) answer new = Goes (λ to. to ≡ length (up_to zxid old.txns)) old answer new ⊎ IsRefused (RefusesAny old) answer new
-Answers old commands.Tree answer new = Looks (tree_report (state_at old.txns old.place)) old answer new
-Answers old (commands.Node path) answer new = Looks (line (node_text (state_at old.txns old.place).nodes path)) old answer new
-Answers old commands.Last answer new = Looks (line (result_text (result_at old.txns old.place))) old answer new
+Answers old commands.Tree answer new = Looks (tree_report (state_at old.base old.txns old.place)) old answer new
+Answers old (commands.Node path) answer new = Looks (line (node_text (state_at old.base old.txns old.place).nodes path)) old answer new
+Answers old commands.Last answer new = Looks (line (result_text (result_at old.base old.txns old.place))) old answer new
 Answers old (commands.Break breakpoint) answer new = Sets breakpoint old answer new ⊎ IsRefused (RefusesToSet old) answer new
 Answers old (commands.Clear number) answer new = Clears number old answer new (finite.contains_key old.breakpoints.standing number)
 Answers old commands.Reset answer new = Resets old answer new ⊎ IsRefused (RefusesReset old) answer new

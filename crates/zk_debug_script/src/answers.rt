@@ -1,8 +1,8 @@
 //! The output of a debugger for a command.
-ghost use Rattle.std.specs.Prelude.{◌≡◌, ◌++◌, false, OnOk, OnErr};
+ghost use Rattle.std.specs.Prelude.{◌≡◌, ◌++◌, false, None, IfOk, IfErr, OnOk, OnErr};
 ghost use Rattle.std.specs.String.{string_bytes};
 ghost use Rattle.zk_debug.specs.Debugging.{state_at, result_at};
-ghost use Rattle.zk_debug_script.specs.Answers.{fault_text, place_text, move_text, set_text, done_text, node_text, result_text, seen_by, Obeys};
+ghost use Rattle.zk_debug_script.specs.Answers.{fault_text, place_text, move_text, set_text, done_text, node_text, result_text, seen_by, RefusesReset, Obeys};
 ghost use Rattle.zk_reports.specs.Reports.{line, tree_report};
 
 use crate::command::Command;
@@ -59,8 +59,24 @@ fn obey(debugger: &mut Debugger, command: Command, answer: &mut String) -> Resul
         Command::Last => push_seen_result(answer, debugger),
         Command::Break(breakpoint) => push_set(answer, debugger.set(breakpoint)),
         Command::Clear(number) => push_done(answer, debugger.clear(number), "ok"),
-        Command::Reset => push_done(answer, debugger.reset(), "place 0 0000000000000000"),
+        Command::Reset => {
+            let started = restart(debugger);
+            push_move(answer, debugger.zxid(), started)
+        }
     }
+}
+
+/// Moves to the start.
+fn restart(debugger: &mut Debugger) -> Result<Stop, DebugFault>
+    ensures started { IfOk result (λ stop. (stop ≡ record { place = 0; hit = None })
+        × (debugger.new ≡ record debugger.old { place = 0; failed = false })) }
+    ensures refused { IfErr result (λ fault. RefusesReset debugger.old fault debugger.new) }
+{
+    debugger.reset()?;
+    Ok(Stop {
+        place: 0,
+        hit: None,
+    })
 }
 
 /// Appends the line of a move that ended, or failed, at the place of this zxid.
@@ -144,7 +160,7 @@ fn push_done(answer: &mut String, done: Result<(), DebugFault>, text: &str) -> R
 /// Appends the report of the tree at the place.
 fn push_seen_tree(answer: &mut String, debugger: &Debugger) -> Result<(), NoMemory>
     ensures { OnOk result (string_bytes answer.new ≡ string_bytes answer.old
-        ++ seen_by debugger.now (tree_report (state_at debugger.now.txns debugger.now.place))) }
+        ++ seen_by debugger.now (tree_report (state_at debugger.now.base debugger.now.txns debugger.now.place))) }
 {
     match debugger.tree() {
         Ok(machine) => spell_tree(answer, machine),
@@ -155,7 +171,7 @@ fn push_seen_tree(answer: &mut String, debugger: &Debugger) -> Result<(), NoMemo
 /// Appends the line of a node at the place, or `none`.
 fn push_seen_node(answer: &mut String, debugger: &Debugger, path: &Path) -> Result<(), NoMemory>
     ensures { OnOk result (string_bytes answer.new ≡ string_bytes answer.old
-        ++ seen_by debugger.now (line (node_text (state_at debugger.now.txns debugger.now.place).nodes path.now))) }
+        ++ seen_by debugger.now (line (node_text (state_at debugger.now.base debugger.now.txns debugger.now.place).nodes path.now))) }
 {
     match debugger.tree() {
         Ok(machine) => push_node_at(answer, machine, path)?,
@@ -182,7 +198,7 @@ fn push_node_at(text: &mut String, machine: &Machine, path: &Path) -> Result<(),
 /// Appends the line of the result of the transaction just before the place, or `none`.
 fn push_seen_result(answer: &mut String, debugger: &Debugger) -> Result<(), NoMemory>
     ensures { OnOk result (string_bytes answer.new ≡ string_bytes answer.old
-        ++ seen_by debugger.now (line (result_text (result_at debugger.now.txns debugger.now.place)))) }
+        ++ seen_by debugger.now (line (result_text (result_at debugger.now.base debugger.now.txns debugger.now.place)))) }
 {
     match debugger.last_result() {
         Ok(Some(last)) => push_result_line(answer, last)?,

@@ -1,12 +1,13 @@
 -- The bytes of a script, and its execution.
 use Rattle.std.proofs.Common.{◌≡◌, ℕ, List, Option, Some, None, Result, Ok, Err, subst}
-use Rattle.zk_debug.specs.Debugging.{Debugging}
+use Rattle.zk_debug.specs.Debugging.{Debugging, started}
 use Rattle.zk_log.specs.declared.source.Source.{Source}
 use Rattle.zk_debug_script.specs.Scripts.{RunsScript}
 use Rattle.zk_reports.specs.declared.fault.ScriptFault.{ScriptFault}
 use Rattle.zk_reports.specs.declared.fault.ScriptFault.TheVariants as script_faults
+use Rattle.zk_table.specs.States.{State}
 use Rattle.zk_txn.specs.declared.txn.Txn.{Txn}
-use Rattle.zk_log_commands.specs.Debugs.{started, RunsFromStart}
+use Rattle.zk_log_commands.specs.Debugs.{RunsFromStart}
 use Rattle.zk_log_commands.specs.Reading.{ReadsAll, TellsRead}
 use Rattle.zk_log_commands.specs.declared.text.TextFault.{TextFault}
 use Rattle.zk_log_commands.specs.declared.text.TextFault.TheVariants as faults
@@ -34,7 +35,7 @@ pub refusal_told_so : {R T : Type 0} (bytes_of : T → List ℕ) (old : Source R
 refusal_told_so bytes_of old turns fault fault' new same h =
     subst (λ (f : TextFault). TellsRead {T = List ℕ} old turns (Err f) new) same (told_alike bytes_of old turns fault new h)
 
-pub from_start : (txns : List Txn) (script before after : List ℕ) (old new : Debugging) (ran : Result (Unit {0}) ScriptFault) → old ≡ started txns → RunsScript old script before ran after new → RunsFromStart txns script before ran after
-from_start txns script before after old new (Ok done) same h = (new, subst (λ (d : Debugging). RunsScript d script before (Ok done) after new) same h)
-from_start txns script before after old new (Err (script_faults.Malformed line)) same h = (new, subst (λ (d : Debugging). RunsScript d script before (Err (script_faults.Malformed line)) after new) same h)
-from_start txns script before after old new (Err script_faults.NoMemory) same h = tt
+pub from_start : (base : State) (txns : List Txn) (script before after : List ℕ) (old new : Debugging) (ran : Result (Unit {0}) ScriptFault) → old ≡ started base txns → RunsScript old script before ran after new → RunsFromStart base txns script before ran after
+from_start base txns script before after old new (Ok done) same h = (new, subst (λ (d : Debugging). RunsScript d script before (Ok done) after new) same h)
+from_start base txns script before after old new (Err (script_faults.Malformed line)) same h = (new, subst (λ (d : Debugging). RunsScript d script before (Err (script_faults.Malformed line)) after new) same h)
+from_start base txns script before after old new (Err script_faults.NoMemory) same h = tt

@@ -23,7 +23,7 @@ mod text;
 pub use answering::{put_answers, put_answers_before};
 pub use asm_fault::AsmFault;
 pub use assembling::asm;
-pub use debugging::debug;
+pub use debugging::{debug, debug_from};
 pub use fault_lines::{asm_line, log_line};
 pub use notice::{first_zxid, tell_notice};
 pub use reporting::{Report, tell_log};

@@ -2,16 +2,17 @@ use Rattle.std.proofs.Common.{ℕ, List, Ok, Err, Global, subst, rules}
 use Rattle.std.specs.Str.{IsUtf8}
 use Rattle.std.specs.String.{string_bytes}
 use Rattle.zk_log.specs.Devices.{reader_of}
-use Rattle.zk_log_commands.specs.Debugs.{Runs}
+use Rattle.zk_log_commands.specs.Debugs.{Runs, state_of_base}
+use Rattle.zk_log_commands.specs.Notices.{within_epoch}
 use Rattle.zk_log_commands.specs.declared.text.TextFault.TheVariants as faults
 use Rattle.zk_log_commands.proofs.TextLaws.{text_read, text_refused, refusal_told_so}
-use Rattle.zk_log_commands.proofs.debugging.debug_log.Goals as goal
+use Rattle.zk_log_commands.proofs.debugging.debug_txns.Goals as goal
 
 pub returns-in-Ok : goal.returns-in-Ok
 returns-in-Ok g c =
     let utf8 : IsUtf8 (string_bytes c.in-Ok.text) = search rules in
-    let runs : Runs g.O.Write.contents g.E.Write.contents c.args.loaded.txns (string_bytes c.in-Ok.text) c.args.output.now c.run.new.output c.args.faults.now c.run.new.faults c.run.result =
-    subst (λ (script : List ℕ). Runs g.O.Write.contents g.E.Write.contents c.args.loaded.txns script c.args.output.now c.run.new.output c.args.faults.now c.run.new.faults c.run.result) c.as_str.ensures.value c.run.ensures in
+    let runs : Runs g.O.Write.contents g.E.Write.contents (within_epoch c.args.first) (state_of_base c.args.base) c.args.txns (string_bytes c.in-Ok.text) c.args.output.now c.run.new.output c.args.faults.now c.run.new.faults c.run.result =
+    subst (λ (script : List ℕ). Runs g.O.Write.contents g.E.Write.contents (within_epoch c.args.first) (state_of_base c.args.base) c.args.txns script c.args.output.now c.run.new.output c.args.faults.now c.run.new.faults c.run.result) c.as_str.ensures.value c.run.ensures in
     record {
       text = Ok (string_bytes c.in-Ok.text);
       reads = text_read string_bytes (g.S.Read.remaining (reader_of c.args.script.now)) c.in-Ok.text c.in-Ok.ensures.text;
