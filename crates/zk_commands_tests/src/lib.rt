@@ -10,6 +10,8 @@
 #[cfg(test)]
 mod ask_tests;
 #[cfg(test)]
+mod base_tests;
+#[cfg(test)]
 mod command_tests;
 #[cfg(test)]
 mod device_tests;
