@@ -3,3 +3,4 @@ pub mod Durability
 pub mod Growth
 pub mod Hosts
 pub mod Tags
+pub mod Votes

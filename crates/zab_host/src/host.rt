@@ -1,11 +1,12 @@
 use crate::dispatch::{dispatch, dispatch_append_only, ends_below, submit};
 use crate::fault::{HostFault, ReceiveFault};
 use crate::storage::{Storage, StoreFault};
+use crate::vote::Vote;
 use std::alloc::Global;
 use std::marker::Model;
 use std::mem::replace;
 use zab_broadcast::{Caught, CaughtSyncs, Primary, Server};
-use zab_epoch::{Entries, Message, Messages, Quorums};
+use zab_epoch::{Entries, Message, Messages, Quorums, Role};
 
 /// One server and its store. Its messages wait in an outbox until all that they depend on is
 /// stored.
@@ -49,6 +50,7 @@ impl<P: Primary, S: Storage> Host<P, S> {
     ghost use Rattle.zab_host.specs.declared.fault.HostFault.TheVariants as faults;
     ghost use Rattle.zab_host.specs.Hosts.{acts_of, messages_of, IsAppendOnlyBody, Receives, Submits, Syncs, Leads, Follows, StepsTo, IsRejected, IsStored};
     ghost use Rattle.zab_host.specs.Durability.{IsDurable, IsPartialStore};
+    ghost use Rattle.zab_host.specs.Votes.{vote_of};
 
     /// Starts a host on what its store recovers. It has delivered nothing, follows no leader, and
     /// has no messages.
@@ -95,6 +97,25 @@ impl<P: Primary, S: Storage> Host<P, S> {
         ensures { result ≡ is_serving self.now.state.peer.role }
     {
         self.server.is_serving()
+    }
+
+    /// Returns its server's role, borrowed.
+    pub fn role(&self) -> &Role
+        ensures { result.now ≡ self.now.state.peer.role }
+    {
+        &self.server.state().peer.role
+    }
+
+    /// Returns its server's vote for itself in an election.
+    pub fn vote(&self) -> Vote
+        ensures { result ≡ vote_of self.now.state }
+    {
+        let peer = &self.server.state().peer;
+        Vote {
+            epoch: peer.stable.current,
+            zxid: peer.stable.history.last_zxid(),
+            server: peer.me,
+        }
     }
 
     /// The number of messages that wait for the next release.

@@ -11,6 +11,7 @@ mod host;
 mod memory;
 mod storage;
 mod tags;
+mod vote;
 
 pub use dispatch::is_append_only;
 pub use fault::{HostFault, ReceiveFault};
@@ -18,3 +19,4 @@ pub use host::Host;
 pub use memory::MemoryStorage;
 pub use storage::{Storage, StoreFault};
 pub use tags::{TAG_BOOTS, TagIssuer};
+pub use vote::Vote;
