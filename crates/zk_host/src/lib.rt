@@ -4,6 +4,7 @@
 //! ZooKeeper Programmer's Guide, "ZooKeeper Watches" and "Consistency Guarantees".
 #![tactic(auto)]
 
+mod closings;
 mod fault;
 mod machines;
 mod news;

@@ -1,15 +1,17 @@
+use crate::closings::closed_by;
 use crate::fault::{ReadFault, ReleaseFault};
 use crate::news::News;
 use crate::watched_tree::WatchedTree;
 use std::alloc::Global;
 use zab_broadcast::{Caught, CaughtSyncs};
-use zab_epoch::{Message, Messages, Quorums};
-use zab_host::{Host, HostFault, ReceiveFault, Storage, StoreFault, TagIssuer};
+use zab_epoch::{Message, Messages, Quorums, Role};
+use zab_host::{Host, HostFault, ReceiveFault, Storage, StoreFault, TagIssuer, Vote};
 use zk_machine::Machine;
 use zk_model::{Preparer, Question};
 use zk_path::NoMemory;
 use zk_requests::Call;
 use zk_table::ReadReply;
+use zk_tree::Tree;
 
 /// A host of an ensemble's server, with the tree of what the server has delivered. The tree
 /// advances only after a store: what clients see is stored.
@@ -36,13 +38,15 @@ impl<S: Storage> ReplicaHost<S> {
     ghost use Rattle.std.specs.Prelude.{◌≡◌, ◌≢◌, ◌≤◌, ◌+◌, ◌⊎◌, ◌++◌, [], length, drop, true, false, int_lt, IfOk, IfErr, OnOk, OnErr, IfSome, OnSome, IfNone, IsErrOf};
     ghost use Rattle.zab_epoch.specs.declared.stable.Stable.{Stable};
     ghost use Rattle.zab_epoch.specs.Shortness.{IsShortBody};
-    ghost use Rattle.zab_broadcast.specs.Rules.{restored};
+    ghost use Rattle.zab_broadcast.specs.Rules.{restored, is_serving};
     ghost use Rattle.zab_host.specs.Hosts.{acts_of, messages_of, Receives, Submits, Syncs, Leads, Follows, StepsTo, IsRejected, IsStored, IsAppendOnlyBody};
     ghost use Rattle.zab_host.specs.Durability.{IsDurable, IsPartialStore};
     ghost use Rattle.zab_host.specs.Tags.{tag_of};
+    ghost use Rattle.zab_host.specs.Votes.{vote_of};
     ghost use Rattle.zk_model.specs.Ensembles.{profile_by, reply_of};
-    ghost use Rattle.zk_host.specs.Delivered.{delivered_in};
+    ghost use Rattle.zk_host.specs.Delivered.{delivered_in, closed_in};
     ghost use Rattle.zk_host.specs.WatchedTrees.{new_tree, after_entries, after_read, after_close};
+    ghost use Rattle.zk_table.specs.States.{start_state};
     ghost use Rattle.zk_host.specs.declared.fault.ReleaseFault.TheVariants as faults;
     ghost use Rattle.zk_host.specs.declared.fault.ReadFault.TheVariants as read_faults;
 
@@ -85,6 +89,28 @@ impl<S: Storage> ReplicaHost<S> {
         drop(tree);
         drop(tags);
         host.into_storage()
+    }
+
+    /// Whether it accepts clients' calls and syncs: it leads, and a quorum has taken its history, or
+    /// it follows, and has taken its leader's.
+    pub fn is_serving(&self) -> bool
+        ensures { result ≡ is_serving self.now.host.state.peer.role }
+    {
+        self.host.is_serving()
+    }
+
+    /// Returns its server's role, borrowed.
+    pub fn role(&self) -> &Role
+        ensures { result.now ≡ self.now.host.state.peer.role }
+    {
+        self.host.role()
+    }
+
+    /// Returns its server's vote for itself in an election.
+    pub fn vote(&self) -> Vote
+        ensures { result ≡ vote_of self.now.host.state }
+    {
+        self.host.vote()
     }
 
     /// The number of messages that wait for the next release.
@@ -297,6 +323,43 @@ impl<S: Storage> ReplicaHost<S> {
         ensures { result ≡ self.now.tree.tree.last }
     {
         self.tree.last()
+    }
+
+    /// The number of delivered entries that the tree shows.
+    pub fn shown(&self) -> usize
+        ensures { result ≡ self.now.shown }
+    {
+        self.shown
+    }
+
+    /// The sessions that the delivered entries after the first `count` close, in order. Clients'
+    /// connections end with their session. Under the condition of [`ReplicaHost::syncs`].
+    #[tactic(auto, using(crate::proofs::NoClosings::none_closed))]
+    pub fn closed_after(&self, alloc: Global, count: usize) -> Result<Vec<i64>, NoMemory>
+        requires stored { IsStored S.may_recover self.now.host }
+        ensures { IfOk result (λ it. it.items ≡ closed_in (drop count (delivered_in self.now.host.state))) }
+    {
+        let delivered = self.host.delivered();
+        if count > delivered.len() {
+            return Ok(Vec::new(alloc));
+        }
+        closed_by(alloc, delivered.behind(count).txns())
+    }
+
+    /// The tree, borrowed; `None` before its first entry, when it has a new server's nodes alone.
+    pub fn tree(&self) -> Option<&Tree>
+        ensures shown { IfSome result (λ tree. tree.now ≡ self.now.tree.tree.nodes) }
+        ensures new { IfNone result (self.now.tree.tree ≡ start_state) }
+    {
+        self.tree.tree()
+    }
+
+    /// The machine of the tree, borrowed; `None` before its first entry.
+    pub fn as_machine(&self) -> Option<&Machine>
+        ensures shown { IfSome result (λ machine. (machine.now.state ≡ self.now.tree.tree) × (machine.now.failed ≡ false)) }
+        ensures new { IfNone result (self.now.tree.tree ≡ start_state) }
+    {
+        self.tree.as_machine()
     }
 
     /// A machine in the state of the tree.

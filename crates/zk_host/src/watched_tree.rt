@@ -1,9 +1,10 @@
-ghost use Rattle.std.specs.Prelude.{◌≡◌, ◌<◌, ◌==◌, ◌++◌, [], ◌∷◌, map, filter, not, length, false, vec_capacity, IfOk, OnOk, OnErr};
+ghost use Rattle.std.specs.Prelude.{◌≡◌, ◌<◌, ◌==◌, ◌++◌, [], ◌∷◌, map, filter, not, length, false, vec_capacity, IfOk, IfSome, IfNone, OnOk, OnErr};
 ghost use Rattle.std.specs.List.{list_any};
 ghost use Rattle.zk_host.specs.declared.news.News.TheVariants.{Event as EventNews};
 ghost use Rattle.zk_host.specs.WatchedTrees.{new_tree, watches_for, connections_after, without_connections, after_entry, after_entries, is_connection, with_connection, after_read, after_close};
 ghost use Rattle.zk_replicas.specs.Views.{tree_by, HasNotFailed};
 ghost use Rattle.zk_model.specs.Ensembles.{reply_of};
+ghost use Rattle.zk_table.specs.States.{start_state};
 
 use crate::machines::{reply_from, take_machine, watch_set};
 use crate::news::{Connection, News};
@@ -15,6 +16,7 @@ use zk_machine::Machine;
 use zk_model::{Answered, Question};
 use zk_path::NoMemory;
 use zk_table::{Op, ReadReply, Txn};
+use zk_tree::Tree;
 use zk_watch::{Fired, Watches};
 
 /// The tree of delivered entries, the watches of connections, and the news that clients have not
@@ -150,6 +152,26 @@ impl WatchedTree {
             unreachable!()
         };
         last
+    }
+
+    /// The tree, borrowed; `None` before the first entry.
+    pub fn tree(&self) -> Option<&Tree>
+        ensures shown { IfSome result (λ tree. tree.now ≡ self.now.tree.nodes) }
+        ensures new { IfNone result (self.now.tree ≡ start_state) }
+    {
+        let machine = self.machine.as_ref()?;
+        let Ok(tree) = machine.tree() else {
+            unreachable!()
+        };
+        Some(tree)
+    }
+
+    /// The machine of the tree, borrowed; `None` before the first entry.
+    pub fn as_machine(&self) -> Option<&Machine>
+        ensures shown { IfSome result (λ machine. (machine.now.state ≡ self.now.tree) × (machine.now.failed ≡ false)) }
+        ensures new { IfNone result (self.now.tree ≡ start_state) }
+    {
+        self.machine.as_ref()
     }
 
     /// A machine in the state of the tree.
