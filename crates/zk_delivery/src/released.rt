@@ -3,7 +3,7 @@ ghost use Rattle.zab_epoch.specs.declared.stable.Stable.{Stable};
 ghost use Rattle.zab_host.specs.Durability.{IsPartialStore};
 ghost use Rattle.zab_host.specs.Hosts.{IsStored};
 ghost use Rattle.zk_delivery.specs.Deliveries.{hub_news, news_at};
-ghost use Rattle.zk_host.specs.Delivered.{delivered_in};
+ghost use Rattle.zk_host.specs.Delivered.{delivered_in, closed_in};
 ghost use Rattle.zk_host.specs.WatchedTrees.{after_entries, after_read};
 ghost use Rattle.zk_host.specs.declared.fault.ReadFault.TheVariants as read_faults;
 ghost use Rattle.zk_hub.specs.Deliveries.{outputs_of, left_after};
@@ -27,6 +27,9 @@ pub struct Released<E: Drop> {
     pub messages: Messages<Call>,
     /// For clients, in order.
     pub outputs: Vec<Output<Fired, E, Outcome>>,
+    /// The sessions that the newly delivered entries close, in order. Their connections end after
+    /// the outputs.
+    pub closed: Vec<i64>,
 }
 
 impl<E: Drop> Drop for Released<E> {
@@ -34,6 +37,7 @@ impl<E: Drop> Drop for Released<E> {
         let Released {
             messages: _,
             outputs: _,
+            closed: _,
         } = self;
     }
 }
@@ -86,6 +90,7 @@ pub fn release<S: Storage, E: Drop>(
     ensures state { host.new.host.state ≡ host.old.host.state }
     ensures outputs { IfOk result (λ it. it.outputs.items ≡ outputs_of (map hub_news (news_at host.old.tree host.old.shown host.new.host.state)) hub.old) }
     ensures hub { OnOk result (hub.new ≡ left_after (map hub_news (news_at host.old.tree host.old.shown host.new.host.state)) hub.old) }
+    ensures closed { IfOk result (λ it. it.closed.items ≡ closed_in (drop host.old.shown (delivered_in host.new.host.state))) }
     ensures tree { OnOk result (host.new.tree ≡ record (after_entries host.old.tree (drop host.old.shown (delivered_in host.new.host.state))) { news = [] }) }
     ensures shown { OnOk result (host.new.shown ≡ length (delivered_in host.new.host.state)) }
     ensures crash { (found : Stable) → S.may_recover host.new.host.storage found
@@ -93,10 +98,18 @@ pub fn release<S: Storage, E: Drop>(
         ⊎ IsPartialStore (S.may_recover host.old.host.storage) host.old.host.state.peer.stable found }
     ensures boots { S.boots host.new.host.storage ≡ S.boots host.old.host.storage }
 {
+    let shown = host.shown();
     let messages = host.release(alloc)?;
+    let Ok(closed) = host.closed_after(alloc, shown) else {
+        return Err(ReleaseFault::NoMemory);
+    };
     let news = host.take_news();
     match deliver(alloc, hub, news) {
-        Ok(outputs) => Ok(Released { messages, outputs }),
+        Ok(outputs) => Ok(Released {
+            messages,
+            outputs,
+            closed,
+        }),
         Err(NoMemory) => Err(ReleaseFault::NoMemory),
     }
 }
