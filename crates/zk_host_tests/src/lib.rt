@@ -5,6 +5,8 @@
 #![tactic(auto)]
 
 #[cfg(test)]
+mod closing_tests;
+#[cfg(test)]
 mod echo_hosts;
 #[cfg(test)]
 mod host_tests;
@@ -16,3 +18,5 @@ mod store_tests;
 mod tree_tests;
 #[cfg(test)]
 mod trios;
+#[cfg(test)]
+mod vote_tests;
