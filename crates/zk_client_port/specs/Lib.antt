@@ -1,0 +1,6 @@
+pub mod Demands
+pub mod Laws
+pub mod Outputs
+pub mod Ports
+pub mod Results
+pub mod Sessions

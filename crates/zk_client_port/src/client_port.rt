@@ -1,0 +1,307 @@
+ghost use Rattle.std.specs.Prelude.{◌≡◌, [], length, map, IfOk, OnOk};
+ghost use Rattle.std.specs.List.{list_any};
+ghost use Rattle.std.specs.Ordering.{int_eq};
+ghost use Rattle.zk_client_port.specs.Ports.{closed_if, cut_off_if, is_among, is_selected, numbers_over};
+ghost use Rattle.zab_host.specs.Hosts.{IsStored};
+
+use crate::admission::Admission;
+use crate::expected::Expected;
+use crate::outputs::{PortOutput, write_outputs};
+use crate::result::Attachment;
+use crate::serve::{Moment, serve};
+use std::alloc::Global;
+use std::mem::replace;
+use zab_broadcast::CaughtSyncs;
+use zab_epoch::{Messages, Quorums};
+use zab_host::Storage;
+use zk_connections::Connection;
+use zk_delivery::{Outcome, release};
+use zk_frames::FrameFault;
+use zk_host::{ReleaseFault, ReplicaHost};
+use zk_hub::{Hub, News};
+use zk_path::NoMemory;
+use zk_requests::Call;
+use zk_watch::Fired;
+
+/// A server's connections, and their outstanding requests.
+pub struct ClientPort {
+    pub connections: Vec<Connection>,
+    hub: Hub<Expected, Outcome>,
+}
+
+impl Drop for ClientPort {
+    fn drop(self) {
+        let ClientPort {
+            connections: _,
+            hub: _,
+        } = self;
+    }
+}
+
+/// Connections of a server.
+#[derive(Clone, Copy, Debug, PartialEq, Eq)]
+pub enum Selection {
+    /// The one with a number, if it is one of the server's.
+    Number(u64),
+    /// Those that have a session, or have asked for one.
+    Served,
+    All,
+}
+
+impl Selection {
+    fn has(&self, connection: &Connection) -> bool
+        ensures { result ≡ is_selected self.now connection.now }
+    {
+        match self {
+            Selection::Number(number) => connection.number() == *number,
+            Selection::Served => !connection.is_new(),
+            Selection::All => true,
+        }
+    }
+}
+
+/// What a turn of a server gives.
+pub struct Turned {
+    /// For the other servers.
+    pub messages: Messages<Call>,
+    /// The connections, maybe of other servers, whose session another connection has got.
+    pub displaced: Vec<u64>,
+    /// The sessions that have ended.
+    pub closed: Vec<i64>,
+}
+
+impl Drop for Turned {
+    fn drop(self) {
+        let Turned {
+            messages: _,
+            displaced: _,
+            closed: _,
+        } = self;
+    }
+}
+
+impl Turned {
+    /// The messages, without the rest.
+    pub fn into_messages(self, alloc: Global) -> Messages<Call>
+        ensures { result ≡ self.messages }
+    {
+        let mut turned = self;
+        replace(&mut turned.messages, Messages::new(alloc))
+    }
+}
+
+impl ClientPort {
+    /// Allocates no memory.
+    pub fn new(alloc: Global) -> ClientPort
+        ensures connections { result.connections.items ≡ [] }
+        ensures hub { result.hub ≡ [] }
+    {
+        ClientPort {
+            connections: Vec::new(alloc),
+            hub: Hub::new(alloc),
+        }
+    }
+
+    /// The number of outstanding requests.
+    pub fn outstanding(&self) -> usize
+        ensures { result ≡ length self.now.hub }
+    {
+        self.hub.len()
+    }
+
+    /// Releases what the server's host has: writes the events and replies of the newly delivered
+    /// entries, and of completed syncs, to the connections; then takes what these have sent.
+    ///
+    /// After an error, the caller closes all connections of the server, and stops it.
+    pub fn turn<S: Storage, Q: Quorums>(
+        &mut self,
+        alloc: Global,
+        host: &mut ReplicaHost<S>,
+        quorums: &Q,
+        admission: &mut Admission,
+        moment: Moment,
+    ) -> Result<Turned, ReleaseFault>
+        ensures messages { IfOk result (λ it. it.messages ≡ host.old.host.outbox) }
+    {
+        let mut released = release(alloc, host, &mut self.hub)?;
+        let outputs = replace(&mut released.outputs, Vec::new(alloc));
+        let closed = replace(&mut released.closed, Vec::new(alloc));
+        let messages = replace(&mut released.messages, Messages::new(alloc));
+        let mut displaced = Vec::new(alloc);
+        let (last, now) = (host.last(), moment.now);
+        self.write(alloc, admission, last, now, outputs, &mut displaced)?;
+        let Ok(synced) = self.synced(alloc, host) else {
+            return Err(ReleaseFault::NoMemory);
+        };
+        self.write(alloc, admission, last, now, synced, &mut displaced)?;
+        close_ended(&mut self.connections, &closed);
+        admission.end_all(&closed);
+        self.serve_all(alloc, host, quorums, admission, moment);
+        Ok(Turned {
+            messages,
+            displaced,
+            closed,
+        })
+    }
+
+    /// Writes outputs, and gives sessions to the connections that have got them. Appends the
+    /// connections that have lost theirs by it.
+    fn write(
+        &mut self,
+        alloc: Global,
+        admission: &mut Admission,
+        last: i64,
+        now: i64,
+        outputs: Vec<PortOutput>,
+        displaced: &mut Vec<u64>,
+    ) -> Result<(), ReleaseFault> {
+        match write_outputs(alloc, admission, last, &mut self.connections, outputs) {
+            Ok(gained) => match admission.attach_all(&gained, now, displaced) {
+                Ok(()) => Ok(()),
+                Err(NoMemory) => Err(ReleaseFault::NoMemory),
+            },
+            Err(_) => Err(ReleaseFault::NoMemory),
+        }
+    }
+
+    /// The outputs of the syncs that the server has completed.
+    fn synced<S: Storage>(
+        &mut self,
+        alloc: Global,
+        host: &mut ReplicaHost<S>,
+    ) -> Result<Vec<PortOutput>, NoMemory>
+        requires { IsStored S.may_recover host.old.host }
+        ensures { host.new.tree ≡ host.old.tree }
+    {
+        let caught = host.take_syncs(alloc);
+        let news = news_of(alloc, &caught)?;
+        self.hub.deliver(alloc, news)
+    }
+
+    /// Takes what the connections have sent. A connection for which an allocation fails is lost.
+    fn serve_all<S: Storage, Q: Quorums>(
+        &mut self,
+        alloc: Global,
+        host: &mut ReplicaHost<S>,
+        quorums: &Q,
+        admission: &mut Admission,
+        moment: Moment,
+    )
+        requires { host.old.tree.news ≡ [] }
+    {
+        'connections: for index in 0..self.connections.len() {
+            let Some(connection) = self.connections.get_mut(index) else {
+                return;
+            };
+            if serve(
+                alloc,
+                host,
+                quorums,
+                &mut self.hub,
+                connection,
+                admission,
+                moment,
+            )
+            .is_err()
+            {
+                connection.cut_off();
+            }
+        }
+    }
+
+    /// Removes the connections that are over, and takes them from their sessions. Returns their
+    /// numbers.
+    pub fn remove_over(
+        &mut self,
+        alloc: Global,
+        admission: &mut Admission,
+    ) -> Result<Vec<u64>, NoMemory> {
+        let over = numbers_over(alloc, &self.connections)?;
+        for number in &over {
+            self.hub.close(*number);
+            admission.sessions.detach(*number);
+        }
+        self.connections.retain(|it| !it.is_over());
+        Ok(over)
+    }
+
+    /// Cuts off connections.
+    pub fn cut_off(&mut self, selection: Selection)
+        ensures connections { self.new.connections.items ≡ map (cut_off_if selection) self.old.connections.items }
+        ensures hub { self.new.hub ≡ self.old.hub }
+    {
+        cut_off_in(&mut self.connections, selection);
+    }
+}
+
+fn cut_off_in(connections: &mut Vec<Connection>, selection: Selection)
+    ensures { connections.new.items ≡ map (cut_off_if selection) connections.old.items }
+{
+    for index in 0..connections.len() {
+        cut_off_if(&mut connections[index], selection);
+    }
+}
+
+fn cut_off_if(connection: &mut Connection, selection: Selection)
+    ensures { connection.new ≡ cut_off_if selection connection.old }
+{
+    if selection.has(connection) {
+        connection.cut_off();
+    }
+}
+
+/// Ends the connections of sessions that have ended.
+fn close_ended(connections: &mut Vec<Connection>, ended: &[i64])
+    ensures { connections.new.items ≡ map (closed_if ended.now) connections.old.items }
+{
+    for index in 0..connections.len() {
+        close_if(&mut connections[index], ended);
+    }
+}
+
+fn close_if(connection: &mut Connection, ended: &[i64])
+    ensures { connection.new ≡ closed_if ended.now connection.old }
+{
+    if is_among(ended, connection.session()) {
+        connection.close();
+    }
+}
+
+fn is_among(ended: &[i64], session: Option<i64>) -> bool
+    ensures { result ≡ is_among ended.now session }
+{
+    match session {
+        Some(session) => has(ended, session),
+        None => false,
+    }
+}
+
+fn has(ended: &[i64], session: i64) -> bool
+    ensures { result ≡ list_any (λ it. int_eq it session) ended.now }
+{
+    ended.iter().any(|it| *it == session)
+}
+
+fn numbers_over(alloc: Global, connections: &[Connection]) -> Result<Vec<u64>, NoMemory>
+    ensures { IfOk result (λ it. it.items ≡ numbers_over connections.now) }
+{
+    let mut over = Vec::new(alloc);
+    for connection in connections {
+        if connection.is_over() {
+            over.push(connection.number())?;
+        }
+    }
+    Ok(over)
+}
+
+/// Completed syncs, as a hub takes them.
+fn news_of(alloc: Global, caught: &CaughtSyncs) -> Result<Vec<News<Fired, Outcome>>, NoMemory> {
+    let mut news = Vec::new(alloc);
+    for one in caught.as_slice() {
+        news.push(News::Outcome {
+            tag: one.tag,
+            outcome: Outcome::Synced,
+        })?;
+    }
+    Ok(news)
+}

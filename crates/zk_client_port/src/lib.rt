@@ -1,0 +1,24 @@
+//! A server's client port: its connections and their outstanding requests, what these ask of the
+//! server's host, and what the host's releases write to them.
+//!
+//! ZooKeeper Programmer's Guide, "ZooKeeper Sessions", "ZooKeeper Watches" and "Consistency
+//! Guarantees"; Administrator's Guide, `clientPort`.
+#![tactic(auto)]
+
+mod admission;
+mod client_port;
+mod demand;
+mod expected;
+pub mod laws;
+mod outputs;
+mod reading;
+mod result;
+mod serve;
+
+pub use admission::Admission;
+pub use client_port::{ClientPort, Selection, Turned};
+pub use demand::{Demand, demand_of};
+pub use expected::{Expected, Opening};
+pub use outputs::{PortOutput, write_outputs};
+pub use result::{Attachment, write_outcome};
+pub use serve::Moment;
