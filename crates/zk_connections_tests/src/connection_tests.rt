@@ -1,0 +1,113 @@
+//! A connection as a real 3.8 server and kazoo 2.8 held it, by the bytes of their sockets.
+
+use std::alloc::Global;
+use zk_connections::{Connection, Mode, Status, Taken, Word, text_of};
+use zk_frames::ConnectResponse;
+use zk_links::{Action, Immediate};
+
+/// kazoo's first frame, with its length.
+const CONNECT: &[u8] =
+    b"\0\0\0\x2d\0\0\0\0\0\0\0\0\0\0\0\0\0\0\x17\x70\0\0\0\0\0\0\0\0\0\0\0\x10\0\0\0\0\0\0\0\0\0\0\0\0\0\0\0\0\0";
+
+/// The server's response, with its length.
+const CONNECTED: &[u8] =
+    b"\0\0\0\x25\0\0\0\0\0\0\x17\x70\x01\0\0\x1b\xf0\x1f\0\0\0\0\0\x10\x13\x1b\x47\x91\xa4\xca\xb2\xf9\xa9\x6b\x60\xa2\x8d\xf5\x35\x27\0";
+
+const PASSWORD: [u8; 16] = [
+    0x13, 0x1b, 0x47, 0x91, 0xa4, 0xca, 0xb2, 0xf9, 0xa9, 0x6b, 0x60, 0xa2, 0x8d, 0xf5, 0x35, 0x27,
+];
+
+/// kazoo's digest of `u:p`, with its length, and the server's reply.
+const AUTH: &[u8] = b"\0\0\0\x1d\xff\xff\xff\xfc\0\0\0\x64\0\0\0\0\0\0\0\x06digest\0\0\0\x03u:p";
+
+const AUTHENTICATED: &[u8] = b"\0\0\0\x10\xff\xff\xff\xfc\0\0\0\0\0\0\0\0\0\0\0\0";
+
+/// A connection that has kazoo's session.
+fn connected(alloc: Global) -> Option<Connection> {
+    let mut connection = Connection::new(alloc, 7);
+    connection.hear(CONNECT).ok()?;
+    let Ok(Some(Taken::Connects(request))) = connection.take(alloc) else {
+        return None;
+    };
+    let response = ConnectResponse {
+        timeout: request.timeout,
+        session: 0x0100_001b_f01f_0000,
+        password: PASSWORD,
+        read_only: Some(false),
+    };
+    connection.open_session(alloc, &response, 0).ok()?;
+    Some(connection)
+}
+
+#[test]
+fn a_session_is_opened(rt: HostRuntime) {
+    let Some(mut connection) = connected(rt.alloc()) else {
+        panic!(rt; "no session");
+    };
+    assert!(rt; connection.unsent() == CONNECTED);
+    assert!(rt; connection.session() == Some(0x0100_001b_f01f_0000));
+    assert!(rt; connection.number() == 7);
+    connection.sent(CONNECTED.len());
+    assert!(rt; connection.unsent().is_empty());
+    assert!(rt; !connection.is_over());
+}
+
+#[test]
+fn a_frame_is_taken_once_it_is_whole(rt: HostRuntime) {
+    let Some(mut connection) = connected(rt.alloc()) else {
+        panic!(rt; "no session");
+    };
+    connection.sent(CONNECTED.len());
+    let [first, rest @ ..] = AUTH else {
+        panic!(rt; "no frame");
+    };
+    assert!(rt; connection.hear(&[*first]).is_ok());
+    assert!(rt; matches!(connection.take(rt.alloc()), Ok(None)));
+    assert!(rt; connection.hear(rest).is_ok());
+    assert!(rt; connection.unread_len() == 33);
+    let Ok(Some(Taken::Acts(Action::Replies(immediate)))) = connection.take(rt.alloc()) else {
+        panic!(rt; "no action");
+    };
+    assert!(rt; immediate == Immediate::Authenticated { xid: -4 });
+    assert!(rt; connection.write_immediate(rt.alloc(), 9, immediate).is_ok());
+    assert!(rt; connection.unsent() == AUTHENTICATED);
+}
+
+#[test]
+fn an_expired_session_is_rejected(rt: HostRuntime) {
+    let mut connection = Connection::new(rt.alloc(), 1);
+    assert!(rt; connection.is_new());
+    assert!(rt; connection.wants_input());
+    assert!(rt; connection.reject_session(rt.alloc(), None).is_ok());
+    assert!(rt; connection.unsent().len() == 40);
+    assert!(rt; !connection.wants_input());
+    connection.cut_off();
+    assert!(rt; connection.is_over());
+    assert!(rt; !connection.is_clogged());
+}
+
+#[test]
+fn words_have_their_replies(rt: HostRuntime) {
+    let status = Status {
+        mode: Mode::Leader,
+        last: 0x1_0000_0002,
+        nodes: 5,
+        connections: 1,
+        outstanding: 0,
+    };
+    let mut connection = Connection::new(rt.alloc(), 1);
+    assert!(rt; connection.hear(b"srvr").is_ok());
+    let Ok(Some(Taken::Word(word))) = connection.take(rt.alloc()) else {
+        panic!(rt; "no word");
+    };
+    assert!(rt; word == Word::Srvr);
+    let Ok(text) = text_of(rt.alloc(), word, &status) else {
+        panic!(rt; "no text");
+    };
+    assert!(rt;
+        text.as_str()
+            == "Zookeeper version: 3.4\nConnections: 1\nOutstanding: 0\nZxid: 0x100000002\nMode: leader\nNode count: 5\n"
+    );
+    assert!(rt; connection.write_text(text.as_str()).is_ok());
+    assert!(rt; connection.unsent() == text.as_str().as_bytes());
+}
