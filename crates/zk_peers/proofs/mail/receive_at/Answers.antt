@@ -1,0 +1,14 @@
+use Rattle.std.proofs.Common.{◌≡◌, false, Some, slice_get, sym, ◌∙◌, rules}
+use Rattle.zk_peers.specs.Hosts.{setting_for}
+use Rattle.zk_peers.specs.Links.{is_cut}
+use Rattle.zk_peers.proofs.Hearing.{hears_own}
+use Rattle.zk_peers.proofs.mail.receive_at.Goals as goal
+
+pub returns : goal.returns
+returns g c =
+    let message = c.in-Some.message.now in
+    let is : Some message ≡ slice_get c.args.mail.now c.args.index = c.in-Some.ensures.found in
+    let mine : message.addressee ≡ c.args.server = search rules in
+    let whole : is_cut c.args.cuts.now message.sender c.args.server ≡ false = sym c.is_cut.ensures ∙ c.if-is_cut.false in
+    hears_own g.S.Storage.may_recover g.S.Storage.boots (setting_for c.args.quorums.now.servers) c.args.cuts.now c.args.server c.args.host.now c.receive.new.host c.args.mail.now c.args.index message
+    is mine whole c.in_ok-receive.ensures

@@ -1,0 +1,7 @@
+-- What the contracts of this crate cite.
+pub mod Elections
+pub mod Faults
+pub mod Hosts
+pub mod Links
+pub mod Peers
+pub mod Places
