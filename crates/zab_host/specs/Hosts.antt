@@ -10,6 +10,7 @@ use Rattle.zab_epoch.specs.declared.message.Message.{Message}
 use Rattle.zab_epoch.specs.declared.stable.Stable.{Stable}
 use Rattle.zab_broadcast.specs.declared.state.State.{State}
 use Rattle.zab_broadcast.specs.Calls.{Setting}
+use Rattle.zab_broadcast.specs.Guards.{EndsBelow}
 use Rattle.zab_broadcast.specs.Rules as rules
 use Rattle.zab_broadcast.specs.Rules.{Acts}
 use Rattle.zab_model.specs.Worlds.{receives}
@@ -90,12 +91,18 @@ pub record HasActed {C S : Type 0} (setting : Setting C) (old : HostView C S) (i
   pub now : new ≡ host_after setting old input
   pub returned : result_of (acts_of setting old.state input).1 ≡ result
 
--- The host after an input, for each result. An input for another server, or out of order, changes
--- nothing. If an allocation fails, either nothing changes or the input's messages are lost.
+-- why an input has no rule here: it is not for this server, or a leader's history ends too high
+abbrev pub IsOutside : {C : Type 0} → State → Input C → HostFault → Type 0
+IsOutside state input faults.NoServer = IsFor state input → ⊥
+IsOutside state input faults.OutOfOrder = EndsBelow state → ⊥
+IsOutside state input fault = ⊥
+
+-- The host after an input, for each result. An input that has no rule here changes nothing. If an
+-- allocation fails, either nothing changes or the input's messages are lost.
 abbrev pub StepsTo : {C S : Type 0} → Setting C → HostView C S → Input C → HostView C S → Result Unit HostFault → Type 0
 StepsTo setting old input new (Ok _) = HasActed setting old input new (Ok tt)
-StepsTo setting old input new (Err faults.NoServer) = new ≡ old
-StepsTo setting old input new (Err faults.OutOfOrder) = new ≡ old
+StepsTo setting old input new (Err faults.NoServer) = (new ≡ old) × IsOutside old.state input faults.NoServer
+StepsTo setting old input new (Err faults.OutOfOrder) = (new ≡ old) × IsOutside old.state input faults.OutOfOrder
 StepsTo setting old input new (Err faults.NotServing) = HasActed setting old input new (Err faults.NotServing)
 StepsTo setting old input new (Err faults.EpochFull) = HasActed setting old input new (Err faults.EpochFull)
 StepsTo setting old input new (Err faults.NoMemory) =

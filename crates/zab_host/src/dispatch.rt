@@ -1,6 +1,6 @@
 //! A message's rule at the server that it is addressed to.
 
-ghost use Rattle.std.specs.Prelude.{◌≡◌, ◌≢◌, true, Err};
+ghost use Rattle.std.specs.Prelude.{◌≡◌, ◌≢◌, true, false, Err};
 ghost use Rattle.zab_epoch.specs.declared.fault.RuleFault.TheVariants as faults;
 ghost use Rattle.zab_epoch.specs.Shortness.{IsShortBody};
 ghost use Rattle.zab_broadcast.specs.Calls.{setting_of};
@@ -16,7 +16,8 @@ use zab_epoch::{Body, Messages, Quorums, Role, RuleFault, Vote};
 
 /// Whether a leader's history ends below the zxid of its next entry. In each run it does.
 pub(crate) fn ends_below(state: &State) -> bool
-    ensures { result ≡ true → EndsBelow state.now }
+    ensures below { result ≡ true → EndsBelow state.now }
+    ensures above { result ≡ false → EndsBelow state.now → ⊥ }
 {
     match &state.peer.role {
         Role::Broadcast => match next_zxid(state.peer.stable.promised, state.made) {
@@ -30,7 +31,8 @@ pub(crate) fn ends_below(state: &State) -> bool
 /// Whether a message appends at most one entry to what its server stores. The four others, of
 /// discovery and synchronization, may replace what it stores.
 pub fn is_append_only<C>(body: &Body<C>) -> bool
-    ensures { result ≡ true → IsAppendOnlyBody body.now }
+    ensures one { result ≡ true → IsAppendOnlyBody body.now }
+    ensures more { result ≡ false → IsAppendOnlyBody body.now → ⊥ }
 {
     !matches!(
         body,

@@ -48,7 +48,7 @@ impl<P: Primary, S: Storage> Host<P, S> {
     ghost use Rattle.zab_broadcast.specs.Guards.{EndsBelow};
     ghost use Rattle.zab_broadcast.specs.Rules.{restored, is_serving};
     ghost use Rattle.zab_host.specs.declared.fault.HostFault.TheVariants as faults;
-    ghost use Rattle.zab_host.specs.Hosts.{acts_of, messages_of, IsAppendOnlyBody, Receives, Submits, Syncs, Leads, Follows, StepsTo, IsRejected, IsStored};
+    ghost use Rattle.zab_host.specs.Hosts.{acts_of, messages_of, IsAppendOnlyBody, Receives, Submits, Syncs, Leads, Follows, StepsTo, IsOutside, IsRejected, IsStored};
     ghost use Rattle.zab_host.specs.Durability.{IsDurable, IsPartialStore};
     ghost use Rattle.zab_host.specs.Votes.{vote_of};
 
@@ -61,7 +61,7 @@ impl<P: Primary, S: Storage> Host<P, S> {
         me: usize,
         storage: S,
     ) -> Result<Host<P, S>, StoreFault>
-        ensures state { IfOk result (λ it. (stable : Stable) × (S.may_recover storage stable
+        ensures state { IfOk result (λ it. (stable : Stable) × ((S.is_clean it.storage → S.may_recover storage stable)
             × ((it.state ≡ restored servers me stable) × ((it.outbox ≡ [])
             × IsDurable stable (S.may_recover it.storage))))) }
         ensures boots { IfOk result (λ it. S.boots it.storage ≡ S.boots storage) }
@@ -126,7 +126,7 @@ impl<P: Primary, S: Storage> Host<P, S> {
     }
 
     /// Receives a message that appends at most one entry.
-    #[tactic(auto, using(crate::proofs::Growth::still_stored))]
+    #[tactic(auto, using(crate::proofs::Growth::still_stored, crate::proofs::Outside::rejected))]
     pub fn receive<Q: Quorums>(
         &mut self,
         alloc: Global,
@@ -211,7 +211,7 @@ impl<P: Primary, S: Storage> Host<P, S> {
     fn admit(&self, message: &Message<P::Call>) -> Result<(), HostFault>
         ensures mine { OnOk result (message.now.addressee ≡ self.now.state.peer.me) }
         ensures below { OnOk result (EndsBelow self.now.state) }
-        ensures rejected { IfErr result (λ fault. (fault ≡ faults.NoServer) ⊎ (fault ≡ faults.OutOfOrder)) }
+        ensures rejected { IfErr result (IsOutside self.now.state (Receives message.now)) }
     {
         let state = self.server.state();
         if message.addressee != state.peer.me {
@@ -223,7 +223,7 @@ impl<P: Primary, S: Storage> Host<P, S> {
         Ok(())
     }
 
-    #[tactic(auto, using(crate::proofs::Growth::none_stored))]
+    #[tactic(auto, using(crate::proofs::Growth::none_stored, crate::proofs::Outside::rejected))]
     fn apply_message<Q: Quorums>(
         &mut self,
         alloc: Global,

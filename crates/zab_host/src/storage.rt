@@ -12,19 +12,23 @@ pub enum StoreFault {
     /// The medium failed.
     #[error("H2")]
     Failed,
-    /// The number of starts of the store's host is used up.
+    /// The number of starts of the store's host is used up: it has 24 bits.
     #[error("H7")]
     BootsFull,
 }
 
 /// Keeps a server's stable part across crashes.
 pub trait Storage: Drop {
-    ghost use Rattle.std.specs.Prelude.{◌≡◌, ◌≤◌, ◌+◌, ◌⊎◌, drop, IfOk, OnOk};
+    ghost use Rattle.std.specs.Prelude.{◌≡◌, ◌≤◌, ◌+◌, ◌⊎◌, drop, IfOk, OnOk, IsErrOf};
     ghost use Rattle.zab_epoch.specs.declared.stable.Stable.{Stable};
+    ghost use Rattle.zab_host.specs.declared.storage.StoreFault.TheVariants as faults;
     ghost use Rattle.zab_host.specs.Durability.{IsDurable, IsPartialStore, IsStoredUpTo};
 
-    /// The stable parts that recovery may find after a crash now.
+    /// The stable parts that recovery may find after a crash now; none if the store is not clean.
     ghost may_recover: { Self → Stable → Type 0 };
+
+    /// No wrong answer of the medium has been taken as true.
+    ghost is_clean: { Self → Type 0 };
 
     /// The number of starts of a host on it.
     ghost boots: { Self → ℕ };
@@ -51,7 +55,7 @@ pub trait Storage: Drop {
 
     /// Recovers what the last crash has left.
     fn load(&mut self, alloc: Global) -> Result<Stable, StoreFault>
-        ensures found { IfOk result (λ stable. may_recover self.old stable) }
+        ensures found { IfOk result (λ stable. is_clean self.new → may_recover self.old stable) }
         ensures durable { IfOk result (λ stable. IsDurable stable (may_recover self.new)) }
         ensures crash { (found : Stable) → may_recover self.new found → may_recover self.old found }
         ensures starts { boots self.new ≡ boots self.old };
@@ -61,10 +65,13 @@ pub trait Storage: Drop {
         ensures counted { IfOk result (λ boot. boot ≡ boots self.old + 1) }
         ensures raised { OnOk result (boots self.new ≡ boots self.old + 1) }
         ensures rises { boots self.old ≤ boots self.new }
+        ensures full { IsErrOf result faults.BootsFull → 16777215 ≤ boots self.old }
         ensures crash { (found : Stable) → may_recover self.new found → may_recover self.old found };
 
     /// Returns a copy of the stored entries after the first `count`.
-    fn entries_after(&self, alloc: Global, count: usize) -> Result<History, StoreFault>
-        ensures { IfOk result (λ entries. (stable : Stable) → may_recover self.now stable
-            → IsDurable stable (may_recover self.now) → entries ≡ drop count stable.history) };
+    fn entries_after(&mut self, alloc: Global, count: usize) -> Result<History, StoreFault>
+        ensures entries { IfOk result (λ entries. (stable : Stable) → may_recover self.new stable
+            → IsDurable stable (may_recover self.old) → entries ≡ drop count stable.history) }
+        ensures crash { (found : Stable) → may_recover self.new found → may_recover self.old found }
+        ensures starts { boots self.new ≡ boots self.old };
 }

@@ -16,8 +16,9 @@ pub struct TagIssuer {
 }
 
 impl TagIssuer {
-    ghost use Rattle.std.specs.Prelude.{◌≡◌, ◌≤◌, ◌+◌, ◌⊎◌, IfOk, IfSome, IfNone, OnOk, OnSome};
+    ghost use Rattle.std.specs.Prelude.{◌≡◌, ◌≤◌, ◌+◌, ◌⊎◌, IfOk, IfSome, IfNone, OnOk, OnSome, IsErrOf};
     ghost use Rattle.zab_epoch.specs.declared.stable.Stable.{Stable};
+    ghost use Rattle.zab_host.specs.declared.storage.StoreFault.TheVariants as faults;
     ghost use Rattle.zab_host.specs.Tags.{tag_of};
 
     /// Counts a start of the host on its store, and issues tags that no earlier start has issued.
@@ -27,6 +28,7 @@ impl TagIssuer {
         ensures unused { IfOk result (λ it. it.used ≡ 0) }
         ensures counted { OnOk result (S.boots storage.new ≡ S.boots storage.old + 1) }
         ensures rises { S.boots storage.old ≤ S.boots storage.new }
+        ensures full { IsErrOf result faults.BootsFull → 16777215 ≤ S.boots storage.old }
         ensures crash { (found : Stable) → S.may_recover storage.new found → S.may_recover storage.old found }
     {
         let boot = storage.count_boot()?;
