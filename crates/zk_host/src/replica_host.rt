@@ -46,6 +46,7 @@ impl<S: Storage> ReplicaHost<S> {
     ghost use Rattle.zk_model.specs.Ensembles.{profile_by, reply_of};
     ghost use Rattle.zk_host.specs.Delivered.{delivered_in, closed_in};
     ghost use Rattle.zk_host.specs.WatchedTrees.{new_tree, after_entries, after_read, after_close};
+    ghost use Rattle.zk_host.specs.Failures.{ReleaseFails, CannotRead};
     ghost use Rattle.zk_table.specs.States.{start_state};
     ghost use Rattle.zk_host.specs.declared.fault.ReleaseFault.TheVariants as faults;
     ghost use Rattle.zk_host.specs.declared.fault.ReadFault.TheVariants as read_faults;
@@ -58,7 +59,7 @@ impl<S: Storage> ReplicaHost<S> {
         me: u8,
         storage: S,
     ) -> Result<ReplicaHost<S>, StoreFault>
-        ensures host { IfOk result (λ it. (stable : Stable) × (S.may_recover storage stable
+        ensures host { IfOk result (λ it. (stable : Stable) × ((S.is_clean it.host.storage → S.may_recover storage stable)
             × ((it.host.state ≡ restored servers me stable) × ((it.host.outbox ≡ [])
             × IsDurable stable (S.may_recover it.host.storage))))) }
         ensures tree { IfOk result (λ it. it.tree ≡ new_tree) }
@@ -240,6 +241,7 @@ impl<S: Storage> ReplicaHost<S> {
         ensures fault { IfErr result (λ fault. fault ≢ faults.NoMemory
             → (self.new.tree ≡ self.old.tree) × (self.new.shown ≡ self.old.shown)) }
         ensures forgets { IsErrOf result faults.NoMemory → (self.new.tree ≡ new_tree) × (self.new.shown ≡ 0) }
+        ensures fails { IfErr result (ReleaseFails S.may_recover self.old self.new) }
         ensures tags { self.new.tags ≡ self.old.tags }
         ensures crash { (found : Stable) → S.may_recover self.new.host.storage found
             → S.may_recover self.old.host.storage found
@@ -253,7 +255,6 @@ impl<S: Storage> ReplicaHost<S> {
         }
         let entries = delivered.behind(self.shown);
         if self.tree.deliver_all(alloc, &entries).is_err() {
-            self.tree = WatchedTree::new(alloc);
             self.shown = 0;
             return Err(ReleaseFault::NoMemory);
         }
@@ -268,6 +269,7 @@ impl<S: Storage> ReplicaHost<S> {
         ensures watches { IfOk result (λ reply. self.new.tree ≡ after_read connection question.now reply self.old.tree) }
         ensures behind { int_lt self.old.tree.tree.last question.now.seen ≡ true
             → IsErrOf result (read_faults.Behind question.now.seen self.old.tree.tree.last) }
+        ensures fault { IfErr result (CannotRead question.now self.old.tree) }
         ensures unchanged { OnErr result (self.new.tree ≡ self.old.tree) }
         ensures rest { (self.new.host ≡ self.old.host) × ((self.new.shown ≡ self.old.shown) × (self.new.tags ≡ self.old.tags)) }
     {

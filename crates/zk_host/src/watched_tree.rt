@@ -82,9 +82,23 @@ impl WatchedTree {
         Ok(())
     }
 
-    /// Delivers entries in order.
-    #[tactic(auto, using(zk_replicas::proofs::Lent::as_many_tags, zk_replicas::proofs::Lent::as_many_txns))]
+    /// Delivers entries in order. If an allocation fails, the tree starts again as empty, without
+    /// watches and news.
     pub fn deliver_all(&mut self, alloc: Global, entries: &Entries<'_>) -> Result<(), NoMemory>
+        ensures delivered { OnOk result (self.new ≡ after_entries self.old entries.now) }
+        ensures some { OnErr result (0 < length entries.now) }
+        ensures forgets { OnErr result (self.new ≡ new_tree) }
+    {
+        let delivered = self.deliver_each(alloc, entries);
+        if delivered.is_err() {
+            *self = WatchedTree::new(alloc);
+        }
+        delivered
+    }
+
+    /// Delivers entries in order. After an error nothing is specified of the tree.
+    #[tactic(auto, using(zk_replicas::proofs::Lent::as_many_tags, zk_replicas::proofs::Lent::as_many_txns))]
+    fn deliver_each(&mut self, alloc: Global, entries: &Entries<'_>) -> Result<(), NoMemory>
         ensures delivered { OnOk result (self.new ≡ after_entries self.old entries.now) }
         ensures some { OnErr result (0 < length entries.now) }
     {

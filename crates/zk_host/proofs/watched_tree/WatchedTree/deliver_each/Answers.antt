@@ -1,7 +1,7 @@
 use Rattle.std.proofs.Common.{rules, ◌∙◌, ◌<◌, ◌+◌, ap, sym, drop, length}
 use Rattle.zk_host.specs.WatchedTrees.{after_entries}
 use Rattle.zk_replicas.proofs.Lent.{next_one}
-use Rattle.zk_host.proofs.watched_tree.WatchedTree.deliver_all.Goals as goal
+use Rattle.zk_host.proofs.watched_tree.WatchedTree.deliver_each.Goals as goal
 
 pub loop-index-preserved : goal.loop-index-preserved
 loop-index-preserved c =
