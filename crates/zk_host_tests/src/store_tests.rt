@@ -73,8 +73,16 @@ fn has(
 }
 
 /// Whether a store has these tags after its first entry.
-fn has_after_one(alloc: Global, storage: &MemoryStorage, tags: &[u64]) -> bool {
+fn has_after_one(alloc: Global, storage: &mut MemoryStorage, tags: &[u64]) -> bool {
     matches!(storage.entries_after(alloc, 1), Ok(history) if history.entries().tags() == tags)
+}
+
+/// Whether a store's copy has these tags.
+fn has_copy(alloc: Global, storage: &MemoryStorage, tags: &[u64]) -> bool {
+    match storage.copy() {
+        Ok(mut copy) => has(alloc, &mut copy, 3, 2, tags),
+        Err(_) => false,
+    }
 }
 
 /// Whether a store keeps two entries, and then three, and returns those after the first.
@@ -103,6 +111,7 @@ fn a_store_keeps_what_was_stored_last(rt: HostRuntime) {
     assert_eq!(rt; storage.count_boot(), Ok(1));
     assert_eq!(rt; storage.count_boot(), Ok(2));
     assert!(rt; has(alloc, &mut storage, 3, 2, &[10, 20, 30]));
+    assert!(rt; has_copy(alloc, &storage, &[10, 20, 30]));
 }
 
 /// The first two tags that a host issues after a start on its store.
