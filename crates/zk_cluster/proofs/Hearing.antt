@@ -1,5 +1,5 @@
 -- A host receives one message more.
-use Rattle.std.proofs.Common.{◌≡◌, ◌≢◌, ◌+◌, ℕ, Result, Ok, Err, String, codes, List, [], ◌∷◌, ◌++◌, slice_get, Option, Some, None, refl, subst}
+use Rattle.std.proofs.Common.{◌≡◌, ◌≢◌, ◌+◌, ℕ, Result, Ok, Err, String, codes, List, [], ◌∷◌, ◌++◌, slice_get, Option, Some, None, refl, sym, subst}
 use Rattle.std.specs.Fmt.{decimal}
 use Rattle.std.specs.String.{string_bytes}
 use Rattle.std.specs.declared.alloc.Global.{Global}
@@ -10,6 +10,7 @@ use Rattle.zk_cluster.specs.declared.fault.ClusterFault.TheVariants as faults
 use Rattle.zab_epoch.specs.declared.message.Message.{Message}
 use Rattle.zk_requests.specs.declared.call.Call.{Call}
 use Rattle.zk_cluster.specs.declared.running.Running.{Running}
+use Rattle.zk_cluster.specs.Faults.{IsFatalOr}
 use Rattle.zk_cluster.specs.Steps.{IsTaken, IsNoted, Hears, HearsOwn, HearsAll}
 
 pub hears_more : (setting : Setting Call) (host : ℕ) (sent : List (Message Call)) (due : List ℕ) (index : ℕ) (old mid new : Running)
@@ -35,11 +36,14 @@ module _ (setting : Setting Call) (index : ℕ) (message : Message Call) (old ne
   pub heard_by : (result : Result (Unit {0}) ClusterFault) → IsTaken result → IsNoted setting old line (hosts.Receives message) new result → Hears setting index message old new
   heard_by result taken noted = record { line = line; line_is = line_is; result = result; taken = taken; noted = noted }
 
-  pub heard_ok : (result : Result (Unit {0}) ClusterFault) (x : Unit {0}) → Ok x ≡ result → IsNoted setting old line (hosts.Receives message) new result → Hears setting index message old new
-  heard_ok result x is noted = heard_by result (subst IsTaken is tt) noted
+  abbrev Took : Result (Unit {0}) ClusterFault → Type 0
+  Took result = IsNoted setting old line (hosts.Receives message) new result
 
-  pub heard_unserved : (result : Result (Unit {0}) ClusterFault) → Err faults.NotServing ≡ result → IsNoted setting old line (hosts.Receives message) new result → Hears setting index message old new
-  heard_unserved result is noted = heard_by result (subst IsTaken is tt) noted
+  pub heard_ok : (result : Result (Unit {0}) ClusterFault) (x : Unit {0}) → Ok x ≡ result → IsFatalOr Took result → Hears setting index message old new
+  heard_ok result x is noted = heard_by (Ok x) tt (subst (IsFatalOr Took) (sym is) noted)
 
-  pub heard_full : (result : Result (Unit {0}) ClusterFault) → Err faults.EpochFull ≡ result → IsNoted setting old line (hosts.Receives message) new result → Hears setting index message old new
-  heard_full result is noted = heard_by result (subst IsTaken is tt) noted
+  pub heard_unserved : (result : Result (Unit {0}) ClusterFault) → Err faults.NotServing ≡ result → IsFatalOr Took result → Hears setting index message old new
+  heard_unserved result is noted = heard_by (Err faults.NotServing) tt (subst (IsFatalOr Took) (sym is) noted)
+
+  pub heard_full : (result : Result (Unit {0}) ClusterFault) → Err faults.EpochFull ≡ result → IsFatalOr Took result → Hears setting index message old new
+  heard_full result is noted = heard_by (Err faults.EpochFull) tt (subst (IsFatalOr Took) (sym is) noted)

@@ -1,5 +1,5 @@
 pub mod Changing
 pub mod Hearing
-pub mod Posting
+pub mod Reading
 pub mod Starting
 pub mod Stepping

@@ -21,8 +21,8 @@ pub record HasNothing (seen : Seen) : Type 0 where
   pub events : seen.events.items ≡ []
   pub syncs : seen.syncs.items ≡ []
 
--- news in order, and all completed syncs
+-- news and completed syncs, each in order
 pub record Takes (old : Seen) (news : List News) (completed : List Caught) (new : Seen) : Type 0 where
   pub answers : new.answers.items ≡ old.answers.items ++ flat_map answer_in news
   pub events : new.events.items ≡ old.events.items ++ flat_map event_in news
-  pub syncs : new.syncs.items ≡ completed
+  pub syncs : new.syncs.items ≡ old.syncs.items ++ completed

@@ -1,11 +1,20 @@
 -- The errors of a cluster, by those of its hosts.
-use Rattle.std.specs.Prelude.{Result, Ok, Err}
+use Rattle.std.specs.Prelude.{◌≡◌, ◌⊎◌, Result, Ok, Err}
 use Rattle.zab_host.specs.declared.fault.HostFault.{HostFault}
 use Rattle.zab_host.specs.declared.fault.HostFault.TheVariants as host_faults
 use Rattle.zab_host.specs.declared.storage.StoreFault.{StoreFault}
 use Rattle.zab_host.specs.declared.storage.StoreFault.TheVariants as store_faults
 use Rattle.zk_cluster.specs.declared.fault.ClusterFault.{ClusterFault}
 use Rattle.zk_cluster.specs.declared.fault.ClusterFault.TheVariants as faults
+
+-- an allocation failed, or a store or a host did
+abbrev pub IsFatal : ClusterFault → Type 0
+IsFatal fault = (fault ≡ faults.NoMemory) ⊎ (fault ≡ faults.Failed)
+
+abbrev pub IsFatalOr : (Result (Unit {0}) ClusterFault → Type 0) → Result (Unit {0}) ClusterFault → Type 0
+IsFatalOr Holds (Err faults.NoMemory) = Unit {0}
+IsFatalOr Holds (Err faults.Failed) = Unit {0}
+IsFatalOr Holds result = Holds result
 
 abbrev pub store_fault : StoreFault → ClusterFault
 store_fault store_faults.NoMemory = faults.NoMemory

@@ -4,7 +4,6 @@ pub mod Clients
 pub mod Clusters
 pub mod Faults
 pub mod Lines
-pub mod Links
 pub mod Processes
 pub mod Records
 pub mod Shown

@@ -72,8 +72,7 @@ abbrev pub NotesOutcome : Running → String Global → ℕ → Running → Resu
 NotesOutcome old line before new (Ok x) = HasStep old line (Ok (length new.host.host.outbox - before)) new
 NotesOutcome old line before new (Err faults.NotServing) = HasStep old line (Err ensemble_faults.NotServing) new
 NotesOutcome old line before new (Err faults.EpochFull) = HasStep old line (Err ensemble_faults.EpochFull) new
-NotesOutcome old line before new (Err faults.NoHost) = new.steps ≡ old.steps
-NotesOutcome old line before new (Err fault) = Unit {0}
+NotesOutcome old line before new (Err fault) = new.steps.items ≡ old.steps.items
 
 pub record Notes (old : Running) (line : String Global) (before : ℕ) (done : Result (Unit {0}) HostFault) (new : Running) (result : Result (Unit {0}) ClusterFault) : Type 0 where
   pub host : new.host ≡ old.host
@@ -81,8 +80,16 @@ pub record Notes (old : Running) (line : String Global) (before : ℕ) (done : R
   pub noted : NotesOutcome old line before new result
   pub returned : (result ≡ returned_by done) ⊎ (result ≡ Err faults.NoMemory)
 
--- A host's input with its line of the script, for each result. Nothing is said after the two errors
--- after which the cluster is not used any more.
+-- A host has taken an input with some result, or an allocation failed, and no line is noted.
+-- What it has stored and shown is as it was, so a crash leaves what it would have left.
+pub record IsUnnoted (setting : Setting Call) (old : Running) (input : Input Call) (new : Running) : Type 0 where
+  pub done : Result (Unit {0}) HostFault
+  pub steps_by : StepsBy setting old.host.host input new.host.host done
+  pub stored : new.host.host.storage ≡ old.host.host.storage
+  pub unseen : IsUnseen old new
+  pub noted : new.steps.items ≡ old.steps.items
+
+-- a host's input with its line of the script, for each result
 abbrev pub IsNoted : Setting Call → Running → String Global → Input Call → Running → Result (Unit {0}) ClusterFault → Type 0
 IsNoted setting old line input new (Ok x) =
     StepsBy setting old.host.host input new.host.host (Ok tt) × IsUnseen old new × HasStep old line (Ok (length new.host.host.outbox - length old.host.host.outbox)) new
@@ -91,14 +98,15 @@ IsNoted setting old line input new (Err faults.NotServing) =
 IsNoted setting old line input new (Err faults.EpochFull) =
     StepsBy setting old.host.host input new.host.host (Err host_faults.EpochFull) × IsUnseen old new × HasStep old line (Err ensemble_faults.EpochFull) new
 IsNoted setting old line input new (Err faults.NoHost) =
-    StepsBy setting old.host.host input new.host.host (Err host_faults.NoServer) × IsUnseen old new × (new.steps ≡ old.steps)
-IsNoted setting old line input new (Err faults.NoMemory) = Unit {0}
-IsNoted setting old line input new (Err faults.Failed) = Unit {0}
+    StepsBy setting old.host.host input new.host.host (Err host_faults.NoServer) × IsUnseen old new × (new.steps.items ≡ old.steps.items)
+IsNoted setting old line input new (Err faults.NoMemory) = IsUnnoted setting old input new
+IsNoted setting old line input new (Err faults.Failed) =
+    StepsBy setting old.host.host input new.host.host (Err host_faults.OutOfOrder) × IsUnseen old new × (new.steps.items ≡ old.steps.items)
 IsNoted setting old line input new (Err fault) = ⊥
 
 -- ---- a release
 
--- the tree delivers what the server has delivered, and its news are taken
+-- the tree delivers what the server has delivered; its news and the completed syncs are taken
 abbrev pub delivered_now : Running → WatchedTreeView
 delivered_now it = after_entries it.host.tree (drop it.host.shown (delivered_in it.host.host.state))
 
@@ -115,7 +123,7 @@ pub record IsShownAfter (old new : Running) : Type 0 where
 pub record Releases (old new : Running) (steps : List Step) (messages : List (Message Call)) : Type 0 where
   pub steps_are : steps ≡ old.steps.items
   pub messages_are : messages ≡ old.host.host.outbox
-  pub state : new.host.host.state ≡ old.host.host.state
+  pub state : new.host.host.state ≡ record old.host.host.state { caught = [] }
   pub stored : new.host.host.storage.stable ≡ old.host.host.state.peer.stable
   pub empty : (new.host.host.outbox ≡ []) × (new.steps.items ≡ [])
   pub shown : IsShownAfter old new

@@ -30,7 +30,8 @@ pub enum ClusterFault {
     /// The host has issued all tags since its start.
     #[error("K8")]
     TagsUsed,
-    /// Out of memory. The cluster is not used any more.
+    /// Out of memory. After a round the cluster is not used any more; after another step only what its
+    /// host has not released may have changed, so crash this host before its next turn.
     #[error("K9")]
     NoMemory,
     /// A host has failed in another way. No run reaches this. The cluster is not used any more.

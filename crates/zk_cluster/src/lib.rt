@@ -7,7 +7,6 @@ mod call;
 mod cluster;
 mod fault;
 mod line;
-mod link;
 mod process;
 mod recording;
 mod request;
@@ -17,5 +16,5 @@ mod step;
 
 pub use cluster::Cluster;
 pub use fault::ClusterFault;
-pub use link::Link;
 pub use recording::Recorded;
+pub use zk_network::Link;

@@ -31,8 +31,9 @@ impl Drop for Process {
 }
 
 impl Process {
-    ghost use Rattle.std.specs.Prelude.{◌≡◌, false, IfOk};
-    ghost use Rattle.zk_cluster.specs.Processes.{after_crash, is_up, IsRestarted, IsNotedAt, IsReadAt, IssuesAt, TurnsAt, answers_at, events_at, syncs_at, tree_at};
+    ghost use Rattle.std.specs.Prelude.{◌≡◌, false, IfOk, IfErr, OnErr};
+    ghost use Rattle.zk_cluster.specs.Faults.{IsFatal};
+    ghost use Rattle.zk_cluster.specs.Processes.{after_crash, is_up, StartsFrom, IsNotedAt, IsReadAt, IssuesAt, TurnsAt, answers_at, events_at, syncs_at, tree_at};
     ghost use Rattle.zk_cluster.specs.Steps.{setting_for, input_of};
 
     /// Whether it runs.
@@ -52,19 +53,24 @@ impl Process {
         }
     }
 
-    /// Starts a process that is down on its store.
-    pub(crate) fn restart(
-        self,
+    /// Starts a host on a copy of the process's store; `None` if the process runs.
+    pub(crate) fn start(
+        &self,
         alloc: Global,
         hosts: usize,
         me: u8,
-    ) -> Result<Process, ClusterFault>
-        ensures { IfOk result (IsRestarted hosts me self) }
+    ) -> Result<Option<Running>, ClusterFault>
+        ensures started { IfOk result (StartsFrom hosts me self.now) }
+        ensures down { OnErr result (is_up self.now ≡ false) }
+        ensures fault { IfErr result IsFatal }
     {
         match self {
-            Process::Running(running) => Ok(Process::Running(running)),
+            Process::Running(_) => Ok(None),
             Process::Down(storage) => {
-                Ok(Process::Running(Running::start(alloc, hosts, me, storage)?))
+                let Ok(storage) = storage.copy() else {
+                    return Err(ClusterFault::NoMemory);
+                };
+                Ok(Some(Running::start(alloc, hosts, me, storage)?))
             }
         }
     }
@@ -105,7 +111,8 @@ impl Process {
         sent: &Messages<Call>,
         due: &[usize],
     ) -> Result<Option<(Vec<Step>, Messages<Call>)>, ClusterFault>
-        ensures { TurnsAt (setting_for quorums.now.servers) host sent.now due.now self.old self.new result }
+        ensures turns { TurnsAt (setting_for quorums.now.servers) host sent.now due.now self.old self.new result }
+        ensures fault { IfErr result IsFatal }
     {
         match self {
             Process::Running(running) => {

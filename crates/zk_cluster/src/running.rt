@@ -35,12 +35,12 @@ impl Drop for Running {
 }
 
 impl Running {
-    ghost use Rattle.std.specs.Prelude.{◌≡◌, ◌⊎◌, slice_get, false, IfOk, OnOk, IfErr};
+    ghost use Rattle.std.specs.Prelude.{◌≡◌, slice_get, false, IfOk, OnOk, IfErr};
     ghost use Rattle.zab_epoch.specs.Shortness.{IsShortBody};
     ghost use Rattle.zab_host.specs.Hosts.{Receives};
     ghost use Rattle.zk_cluster.specs.Steps.{setting_for, input_of, IsNoted, IsNotedBy, Notes, Hears, HearsOwn, HearsAll, Releases};
     ghost use Rattle.zk_cluster.specs.Processes.{HasStarted, Issues, Reads};
-    ghost use Rattle.zk_cluster.specs.declared.fault.ClusterFault.TheVariants as faults;
+    ghost use Rattle.zk_cluster.specs.Faults.{IsFatal, IsFatalOr};
 
     /// Starts a host on its store. Its clients have nothing from it yet.
     pub(crate) fn start(
@@ -49,7 +49,8 @@ impl Running {
         me: u8,
         storage: MemoryStorage,
     ) -> Result<Running, ClusterFault>
-        ensures { IfOk result (HasStarted hosts me storage) }
+        ensures started { IfOk result (HasStarted hosts me storage) }
+        ensures fault { IfErr result IsFatal }
     {
         let host = match ReplicaHost::start(alloc, hosts, me, storage) {
             Ok(host) => host,
@@ -87,8 +88,7 @@ impl Running {
 
     /// Issues the tag of the next call or sync at the host.
     pub(crate) fn issue_tag(&mut self) -> Result<u64, ClusterFault>
-        ensures issued { IfOk result (Issues self.old self.new) }
-        ensures fault { IfErr result (λ fault. fault ≡ faults.TagsUsed) }
+        ensures { Issues self.old self.new result }
     {
         match self.host.issue_tag() {
             Some(tag) => Ok(tag),
@@ -119,7 +119,8 @@ impl Running {
         quorums: &Majority,
         request: Request,
     ) -> Result<(), HostFault>
-        ensures { IsNotedBy (setting_for quorums.now.servers) self.old (input_of request) self.new result }
+        ensures steps { IsNotedBy (setting_for quorums.now.servers) self.old (input_of request) self.new result }
+        ensures stored { self.new.host.host.storage ≡ self.old.host.host.storage }
     {
         match request {
             Request::Lead => self.host.lead(alloc, quorums),
@@ -130,7 +131,7 @@ impl Running {
     }
 
     /// Receives a message with its line of the script.
-    #[tactic(auto, using(crate::proofs::Stepping::is_noted, crate::proofs::Stepping::failed))]
+    #[tactic(auto, using(crate::proofs::Stepping::is_heard, crate::proofs::Stepping::failed))]
     pub(crate) fn receive(
         &mut self,
         alloc: Global,
@@ -139,7 +140,7 @@ impl Running {
         message: &Message<Call>,
     ) -> Result<(), ClusterFault>
         requires short { IsShortBody message.now.body }
-        ensures { IsNoted (setting_for quorums.now.servers) self.old line (Receives message.now) self.new result }
+        ensures { IsFatalOr (IsNoted (setting_for quorums.now.servers) self.old line (Receives message.now) self.new) result }
     {
         let before = self.host.outbox_len();
         let done = self.hear(alloc, quorums, message)?;
@@ -156,7 +157,7 @@ impl Running {
     ) -> Result<Result<(), HostFault>, ClusterFault>
         requires short { IsShortBody message.now.body }
         ensures heard { IfOk result (λ done. IsNotedBy (setting_for quorums.now.servers) self.old (Receives message.now) self.new done) }
-        ensures store { IfErr result (λ fault. (fault ≡ faults.NoMemory) ⊎ (fault ≡ faults.Failed)) }
+        ensures store { IfErr result IsFatal }
     {
         if is_append_only(&message.body) {
             return Ok(self.host.receive(alloc, quorums, message));
@@ -179,7 +180,7 @@ impl Running {
         due: &[usize],
     ) -> Result<(), ClusterFault>
         ensures heard { OnOk result (HearsAll (setting_for quorums.now.servers) host sent.now due.now self.old self.new) }
-        ensures fault { IfErr result (λ fault. (fault ≡ faults.NoMemory) ⊎ (fault ≡ faults.Failed)) }
+        ensures fault { IfErr result IsFatal }
     {
         for index in due {
             self.receive_own(alloc, quorums, host, sent, *index)?;
@@ -198,7 +199,7 @@ impl Running {
         index: usize,
     ) -> Result<(), ClusterFault>
         ensures heard { OnOk result (HearsOwn (setting_for quorums.now.servers) host index (slice_get sent.now index) self.old self.new) }
-        ensures fault { IfErr result (λ fault. (fault ≡ faults.NoMemory) ⊎ (fault ≡ faults.Failed)) }
+        ensures fault { IfErr result IsFatal }
     {
         let Some(message) = sent.as_slice().get(index) else {
             return Ok(());
@@ -220,7 +221,7 @@ impl Running {
     ) -> Result<(), ClusterFault>
         requires short { IsShortBody message.now.body }
         ensures heard { OnOk result (Hears (setting_for quorums.now.servers) index message.now self.old self.new) }
-        ensures fault { IfErr result (λ fault. (fault ≡ faults.NoMemory) ⊎ (fault ≡ faults.Failed)) }
+        ensures fault { IfErr result IsFatal }
     {
         let line = format_arrival(alloc, index)?;
         match self.receive(alloc, quorums, line, message) {
@@ -261,7 +262,7 @@ impl Running {
         alloc: Global,
     ) -> Result<(Vec<Step>, Messages<Call>), ClusterFault>
         ensures released { IfOk result (λ it. Releases self.old self.new it.0.items it.1) }
-        ensures fault { IfErr result (λ fault. (fault ≡ faults.NoMemory) ⊎ (fault ≡ faults.Failed)) }
+        ensures fault { IfErr result IsFatal }
     {
         let messages = match self.host.release(alloc) {
             Ok(messages) => messages,
@@ -269,7 +270,8 @@ impl Running {
             Err(ReleaseFault::NoMemory) => return Err(ClusterFault::NoMemory),
             Err(ReleaseFault::Shrunk) => return Err(ClusterFault::Failed),
         };
-        self.seen.take_syncs(self.host.syncs())?;
+        let syncs = self.host.take_syncs(alloc);
+        self.seen.take_syncs(syncs.as_slice())?;
         self.seen.take_news(self.host.take_news())?;
         Ok((replace(&mut self.steps, Vec::new(alloc)), messages))
     }

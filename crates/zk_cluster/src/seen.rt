@@ -47,12 +47,12 @@ impl Seen {
         Ok(())
     }
 
-    /// Takes all syncs that a host has completed since it started.
+    /// Takes completed syncs in order.
     pub(crate) fn take_syncs(&mut self, syncs: &[Caught]) -> Result<(), NoMemory>
-        ensures syncs { OnOk result (self.new.syncs.items ≡ syncs.now) }
+        ensures syncs { OnOk result (self.new.syncs.items ≡ self.old.syncs.items ++ syncs.now) }
         ensures rest { (self.new.answers ≡ self.old.answers) × (self.new.events ≡ self.old.events) }
     {
-        self.syncs = Vec::from_slice(*self.syncs.allocator(), syncs)?;
+        self.syncs.extend_from_slice(syncs)?;
         Ok(())
     }
 }

@@ -1,13 +1,28 @@
-use Rattle.std.proofs.Common.{rules, ◌≡◌}
+use Rattle.std.proofs.Common.{rules, ◌≡◌, Err, ap, refl}
 use Rattle.std.specs.String.{string_bytes}
+use Rattle.zab_host.specs.Hosts as hosts
 use Rattle.zk_requests.specs.Requests.{closing_call}
-use Rattle.zk_cluster.proofs.Changing.{tagged}
 use Rattle.zk_cluster.specs.Lines.{expire_line}
+use Rattle.zk_cluster.specs.declared.fault.ClusterFault.TheVariants as faults
+use Rattle.zk_cluster.proofs.Changing.{tagged, untaken, unlined}
 use Rattle.zk_cluster.proofs.cluster.Cluster.expire.Goals as goal
 
-pub returns-clause-takes : goal.returns-clause-takes
-returns-clause-takes c =
+pub returns-in_err-line : goal.returns-in_err-line
+returns-in_err-line c =
+    let failed : c.from_residual-in_err-line.result ≡ Err faults.NoMemory = search rules in
+    unlined c.args.self.now c.issue_tag.new.self c.args.host (λ tag. expire_line c.args.host tag c.args.session c.args.now) (λ tag. hosts.Submits (closing_call tag c.args.session c.args.now)) c.in_ok-tag.tag c.in_ok-tag.ensures c.issue_tag.new.self c.from_residual-in_err-line.result failed refl
+
+pub returns-in_err-take : goal.returns-in_err-take
+returns-in_err-take c =
     let tag = c.in_ok-tag.tag in
-    let is : string_bytes c.in_ok-line.line ≡ expire_line c.args.host tag c.args.session c.args.now = search rules in
+    let failed : c.from_residual-in_err-take.result ≡ Err c.in_err-take.field-0.0 = search rules in
     let same : c.closing_call-call.result ≡ closing_call tag c.args.session c.args.now = search rules in
-    tagged c.args.self.now c.issue_tag.new.self c.take.new.self c.args.host tag c.in_ok-line.line (expire_line c.args.host tag c.args.session c.args.now) c.closing_call-call.result (closing_call tag c.args.session c.args.now) c.in_ok-tag.ensures is c.in_ok-take.ensures same
+    let is : string_bytes c.in_ok-line.line ≡ expire_line c.args.host tag c.args.session c.args.now = search rules in
+    untaken c.args.self.now c.issue_tag.new.self c.args.host (λ tag. expire_line c.args.host tag c.args.session c.args.now) (λ tag. hosts.Submits (closing_call tag c.args.session c.args.now)) tag c.in_ok-tag.ensures c.take.new.self c.in_ok-line.line (hosts.Submits c.closing_call-call.result) c.in_err-take.field-0.0 c.from_residual-in_err-take.result failed is (ap hosts.Submits same) c.in_err-take.ensures
+
+pub returns : goal.returns
+returns c =
+    let tag = c.in_ok-tag.tag in
+    let same : c.closing_call-call.result ≡ closing_call tag c.args.session c.args.now = search rules in
+    let is : string_bytes c.in_ok-line.line ≡ expire_line c.args.host tag c.args.session c.args.now = search rules in
+    tagged c.args.self.now c.issue_tag.new.self c.args.host (λ tag. expire_line c.args.host tag c.args.session c.args.now) (λ tag. hosts.Submits (closing_call tag c.args.session c.args.now)) tag c.in_ok-tag.ensures c.take.new.self c.in_ok-line.line (hosts.Submits c.closing_call-call.result) is (ap hosts.Submits same) c.in_ok-take.ensures

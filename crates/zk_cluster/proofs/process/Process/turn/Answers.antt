@@ -6,8 +6,8 @@ use Rattle.zk_cluster.specs.Processes.{TurnsAt}
 use Rattle.zk_cluster.specs.Steps.{setting_for}
 use Rattle.zk_cluster.proofs.process.Process.turn.Goals as goal
 
-pub returns-in_ok-steps-in-Running : goal.returns-in_ok-steps-in-Running
-returns-in_ok-steps-in-Running c =
+pub returns-in_ok-steps-in-Running-clause-turns : goal.returns-in_ok-steps-in-Running-clause-turns
+returns-in_ok-steps-in-Running-clause-turns c =
     let it = c.in_ok-steps-in-Running in
     let setting = setting_for c.args.quorums.now.servers in
     let is : Runs c.in-Running.running ≡ c.args.self.now = search rules in
