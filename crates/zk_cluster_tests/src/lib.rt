@@ -5,6 +5,10 @@
 #[cfg(test)]
 mod draws;
 #[cfg(test)]
+mod fault_tests;
+#[cfg(test)]
+mod link_tests;
+#[cfg(test)]
 mod play;
 #[cfg(test)]
 mod schedule;
