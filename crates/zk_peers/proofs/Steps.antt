@@ -38,10 +38,10 @@ module _ {S : Type 0} (may_recover : S → Stable → Type 0) (boots : S → ℕ
       → new.leader ≡ leader_without old.leader server → new.cuts ≡ old.cuts → new.posted ≡ old.posted → new.arriving ≡ old.arriving → Crashes may_recover boots server old new
   crashes server up crash leader cuts posted arriving = record { up = up; crash = crash; leader_is = leader; around = around cuts posted arriving }
 
-  pub restarts : (server : ℕ) (between : List (Place S)) → ChangesAt server (Restarts may_recover boots (length old.places.items) server) old.places.items between
+  pub restarts : (clean : S → Type 0) (server : ℕ) (between : List (Place S)) → ChangesAt server (Restarts clean may_recover boots (length old.places.items) server) old.places.items between
       → FollowsIf may_recover boots old.leader server between new.places.items → new.leader ≡ old.leader → new.cuts ≡ old.cuts → new.posted ≡ old.posted → new.arriving ≡ old.arriving
-      → RestartsAt may_recover boots server old new
-  restarts server between start follow leader cuts posted arriving = record { between = between; start = start; follow = follow; leader_is = leader; around = around cuts posted arriving }
+      → RestartsAt may_recover boots clean server old new
+  restarts clean server between start follow leader cuts posted arriving = record { between = between; start = start; follow = follow; leader_is = leader; around = around cuts posted arriving }
 
   pub receives : (server : ℕ) → ChangesAt server (HearsAt may_recover boots (setting_for (length old.places.items)) (mail_for old.cuts.items server old.arriving)) old.places.items new.places.items
       → new.leader ≡ old.leader → new.cuts ≡ old.cuts → new.posted ≡ old.posted → new.arriving ≡ old.arriving → Receives may_recover boots server old new

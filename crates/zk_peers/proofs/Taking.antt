@@ -20,8 +20,8 @@ module _ {S : Type 0} (setting : Setting Call) (input : Input Call) (old new : H
   -- the store is as it was
   same_storage : (result : Result (Unit {0}) HostFault) → StepsTo setting old input new result → new.storage ≡ old.storage
   same_storage (Ok x) h = storage_of _ _ h.now
-  same_storage (Err host_faults.NoServer) h = storage_of old.state old.outbox h
-  same_storage (Err host_faults.OutOfOrder) h = storage_of old.state old.outbox h
+  same_storage (Err host_faults.NoServer) h = storage_of old.state old.outbox h.0
+  same_storage (Err host_faults.OutOfOrder) h = storage_of old.state old.outbox h.0
   same_storage (Err host_faults.NotServing) h = storage_of _ _ h.now
   same_storage (Err host_faults.EpochFull) h = storage_of _ _ h.now
   same_storage (Err host_faults.NoMemory) (inl same) = storage_of old.state old.outbox same

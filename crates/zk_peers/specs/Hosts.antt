@@ -74,10 +74,10 @@ role_input server leader = if server == leader then hosts.Leads else hosts.Follo
 
 -- ---- a start
 
--- a host has started on what its store recovers, with an empty tree
-pub record HasStarted {S : Type 0} (may_recover : S → Stable → Type 0) (boots : S → ℕ) (servers me : ℕ) (storage : S) (it : ReplicaHost S) : Type 0 where
+-- a host has started on what its store recovers if it is clean, with an empty tree
+pub record HasStarted {S : Type 0} (clean : S → Type 0) (may_recover : S → Stable → Type 0) (boots : S → ℕ) (servers me : ℕ) (storage : S) (it : ReplicaHost S) : Type 0 where
   pub stable : Stable
-  pub found : may_recover storage stable
+  pub found : clean it.host.storage → may_recover storage stable
   pub state : it.host.state ≡ restored servers me stable
   pub outbox : it.host.outbox ≡ []
   pub durable : IsDurable stable (may_recover it.host.storage)

@@ -137,21 +137,21 @@ pub record SameAround {S : Type 0} (old new : Peers S) : Type 0 where
   pub posted : new.posted ≡ old.posted
   pub arriving : new.arriving ≡ old.arriving
 
-module _ {S : Type 0} (may_recover : S → Stable → Type 0) (boots : S → ℕ) where
+module _ {S : Type 0} (clean : S → Type 0) (may_recover : S → Stable → Type 0) (boots : S → ℕ) where
   -- ---- a start
 
   -- the servers from number `me` on have started, each on its store
   abbrev pub StartAll : ℕ → ℕ → List S → List (Place S) → Type 0
   StartAll servers me [] [] = Unit {0}
   StartAll servers me (storage ∷ storages) (place ∷ places) =
-      Restarts may_recover boots servers me (Down storage) place × StartAll servers (me + 1) storages places
+      Restarts clean may_recover boots servers me (Down storage) place × StartAll servers (me + 1) storages places
   StartAll servers me [] (place ∷ places) = ⊥
   StartAll servers me (storage ∷ storages) [] = ⊥
 
   -- the next server has started on its store
   pub record StartsNext (servers : ℕ) (storage : S) (old new : List (Place S)) : Type 0 where
     pub host : ReplicaHost S
-    pub started : HasStarted may_recover boots servers (length old + 1) storage host
+    pub started : HasStarted clean may_recover boots servers (length old + 1) storage host
     pub added : new ≡ old ++ Up host ∷ []
 
   pub record Starts (storages : List S) (new : Peers S) : Type 0 where
@@ -161,6 +161,7 @@ module _ {S : Type 0} (may_recover : S → Stable → Type 0) (boots : S → ℕ
     pub posted : new.posted ≡ []
     pub arriving : new.arriving ≡ []
 
+module _ {S : Type 0} (may_recover : S → Stable → Type 0) (boots : S → ℕ) where
   -- ---- roles
 
   -- a server of these that is up leads, or follows the leader
@@ -225,9 +226,9 @@ module _ {S : Type 0} (may_recover : S → Stable → Type 0) (boots : S → ℕ
   FollowsIf (Some leader) server old new = TakesRoleAt server leader old new
 
   -- a server that is down starts on its store, and follows the leader
-  pub record RestartsAt (server : ℕ) (old new : Peers S) : Type 0 where
+  pub record RestartsAt (clean : S → Type 0) (server : ℕ) (old new : Peers S) : Type 0 where
     pub between : List (Place S)
-    pub start : ChangesAt server (Restarts may_recover boots (length old.places.items) server) old.places.items between
+    pub start : ChangesAt server (Restarts clean may_recover boots (length old.places.items) server) old.places.items between
     pub follow : FollowsIf old.leader server between new.places.items
     pub leader_is : new.leader ≡ old.leader
     pub around : SameAround old new

@@ -25,9 +25,9 @@ after_crash (Up host) = Down host.host.storage
 after_crash place = place
 
 -- a server that is down starts on its store
-abbrev pub Restarts : {S : Type 0} → (S → Stable → Type 0) → (S → ℕ) → ℕ → ℕ → Place S → Place S → Type 0
-Restarts may_recover boots servers me (Down storage) (Up host) = HasStarted may_recover boots servers me storage host
-Restarts may_recover boots servers me old new = ⊥
+abbrev pub Restarts : {S : Type 0} → (S → Type 0) → (S → Stable → Type 0) → (S → ℕ) → ℕ → ℕ → Place S → Place S → Type 0
+Restarts clean may_recover boots servers me (Down storage) (Up host) = HasStarted clean may_recover boots servers me storage host
+Restarts clean may_recover boots servers me old new = ⊥
 
 -- a server that is up leads, or follows the leader
 abbrev pub TakesRole : {S : Type 0} → (S → Stable → Type 0) → (S → ℕ) → Setting Call → ℕ → ℕ → Place S → Place S → Type 0

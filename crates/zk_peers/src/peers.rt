@@ -54,7 +54,7 @@ impl<S: Storage> Peers<S> {
 
     /// Starts 2 to 15 servers, each on its store. They have no leader, and all links are healthy.
     pub fn start(alloc: Global, storages: Vec<S>) -> Result<Peers<S>, PeersFault>
-        ensures started { IfOk result (Starts S.may_recover S.boots storages.items) }
+        ensures started { IfOk result (Starts S.is_clean S.may_recover S.boots storages.items) }
         ensures range { OnOk result ((2 ≤ length storages.items) × (length storages.items ≤ 15)) }
         ensures few { length storages.items < 2 → IsErrOf result faults.Count }
         ensures many { 15 < length storages.items → IsErrOf result faults.Count }
@@ -240,7 +240,7 @@ impl<S: Storage> Peers<S> {
     /// Starts a server that is down on its store. It follows the leader.
     #[tactic(auto, using(crate::proofs::Steps::restarts))]
     pub fn restart(&mut self, server: usize) -> Result<(), PeersFault>
-        ensures restarts { OnOk result (RestartsAt S.may_recover S.boots server self.old self.new) }
+        ensures restarts { OnOk result (RestartsAt S.may_recover S.boots S.is_clean server self.old self.new) }
         ensures unknown { is_server self.old.places.items server ≡ false → IsErrOf result faults.NoServer }
         ensures up { is_server self.old.places.items server ≡ true → is_up_at self.old.places.items server ≡ true
             → IsErrOf result faults.NotDown × (self.new.places ≡ self.old.places) }
@@ -422,7 +422,7 @@ fn leader_without(leader: Option<usize>, server: usize) -> Option<usize>
 #[tactic(auto, using(crate::proofs::Starting::first))]
 fn start_all<S: Storage>(alloc: Global, storages: Vec<S>) -> Result<Vec<Place<S>>, PeersFault>
     requires { length storages.items ≤ 15 }
-    ensures { IfOk result (λ places. StartAll S.may_recover S.boots (length storages.items) 1 storages.items places.items) }
+    ensures { IfOk result (λ places. StartAll S.is_clean S.may_recover S.boots (length storages.items) 1 storages.items places.items) }
 {
     let servers = storages.len();
     let mut places = Vec::new(alloc);
@@ -440,7 +440,7 @@ fn start_next<S: Storage>(
     storage: S,
 ) -> Result<(), PeersFault>
     requires { length places.old.items < 255 }
-    ensures { OnOk result (StartsNext S.may_recover S.boots servers storage places.old.items places.new.items) }
+    ensures { OnOk result (StartsNext S.is_clean S.may_recover S.boots servers storage places.old.items places.new.items) }
 {
     let me = next_number(places);
     let host = start(alloc, servers, me, storage)?;

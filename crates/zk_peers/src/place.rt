@@ -71,7 +71,7 @@ impl<S: Storage> Place<S> {
         servers: usize,
         me: u8,
     ) -> Result<Place<S>, PeersFault>
-        ensures { IfOk result (Restarts S.may_recover S.boots servers me self) }
+        ensures { IfOk result (Restarts S.is_clean S.may_recover S.boots servers me self) }
     {
         match self {
             Place::Down(storage) => Ok(Place::Up(start(alloc, servers, me, storage)?)),
@@ -124,7 +124,7 @@ pub(crate) fn start<S: Storage>(
     me: u8,
     storage: S,
 ) -> Result<ReplicaHost<S>, StoreFault>
-    ensures { IfOk result (HasStarted S.may_recover S.boots servers me storage) }
+    ensures { IfOk result (HasStarted S.is_clean S.may_recover S.boots servers me storage) }
 {
     ReplicaHost::start(alloc, servers, me, storage)
 }

@@ -124,7 +124,7 @@ pub(crate) fn restart<S: Storage>(
     server: usize,
 ) -> Result<(), PeersFault>
     requires { is_server places.old.items server ≡ true }
-    ensures starts { OnOk result (ChangesAt server (Restarts S.may_recover S.boots (length places.old.items) server) places.old.items places.new.items) }
+    ensures starts { OnOk result (ChangesAt server (Restarts S.is_clean S.may_recover S.boots (length places.old.items) server) places.old.items places.new.items) }
     ensures servers { length places.new.items ≡ length places.old.items }
 {
     let Ok(me) = u8::try_from(server) else {

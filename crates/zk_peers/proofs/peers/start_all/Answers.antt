@@ -11,6 +11,7 @@ loop-storage-preserved g c =
     let S = g.row.S.Denot in
     let may_recover = g.S.Storage.may_recover in
     let boots = g.S.Storage.boots in
+    let clean = g.S.Storage.is_clean in
     let all : List S = c.args.storages.items in
     let storage : S = c.in-Some.storage in
     let pending : List S = into_iter_items c.loop-storage.storage-iterator in
@@ -19,10 +20,10 @@ loop-storage-preserved g c =
     let new = c.start_next.new.places.items in
     let step : pending ≡ storage ∷ rest = search rules in
     let servers : c.len-servers.result ≡ length all = search rules in
-    let it = subst (λ (n : ℕ). StartsNext may_recover boots n storage places new) servers c.in_ok-start_next.ensures in
+    let it = subst (λ (n : ℕ). StartsNext clean may_recover boots n storage places new) servers c.in_ok-start_next.ensures in
     record {
-      started = next may_recover boots (length all) all pending rest storage places new step c.loop-storage.invariant.started it;
-      number = as_many may_recover boots (length all) storage places new pending rest (length all) it step c.loop-storage.invariant.number;
+      started = next clean may_recover boots (length all) all pending rest storage places new step c.loop-storage.invariant.started it;
+      number = as_many clean may_recover boots (length all) storage places new pending rest (length all) it step c.loop-storage.invariant.number;
     }
 
 pub returns : goal.returns
@@ -31,4 +32,4 @@ returns g c =
     let all : List S = c.args.storages.items in
     let pending : List S = into_iter_items c.loop-storage.storage-iterator in
     let none : pending ≡ [] = nil_from_length pending (search (rules, c.in-None.ensures.steps.0)) in
-    last g.S.Storage.may_recover g.S.Storage.boots (length all) all pending c.loop-storage.places.items none c.loop-storage.invariant.started
+    last g.S.Storage.is_clean g.S.Storage.may_recover g.S.Storage.boots (length all) all pending c.loop-storage.places.items none c.loop-storage.invariant.started
