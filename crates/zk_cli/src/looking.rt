@@ -2,7 +2,8 @@
 
 use crate::disk_folder::DiskFolder;
 use std::io;
-use zk_cli_args::{FolderJob, FolderOrder};
+use zk_cli_args::{FolderJob, FolderOrder, Until};
+use zk_directory_commands::{Upto, list, show};
 use zk_folder_commands::files;
 use zk_log::Sink;
 use zk_path::NoMemory;
@@ -15,5 +16,22 @@ pub(crate) fn look(rt: &HostRuntime, job: &FolderJob) -> Result<u8, NoMemory> {
     let mut faults = Sink::new(rt.stderr());
     match job.order {
         FolderOrder::Files => files(rt.alloc(), &snapshots, &logs, &mut output, &mut faults),
+        FolderOrder::List => list(rt.alloc(), &snapshots, &logs, &mut output, &mut faults),
+        FolderOrder::Show { until } => show(
+            rt.alloc(),
+            &snapshots,
+            &logs,
+            upto_of(until),
+            &mut output,
+            &mut faults,
+        ),
+    }
+}
+
+fn upto_of(until: Until) -> Upto {
+    match until {
+        Until::Last => Upto::Last,
+        Until::Zxid(zxid) => Upto::Zxid { zxid },
+        Until::Time(time) => Upto::Time { time },
     }
 }

@@ -15,6 +15,7 @@ mod servers;
 mod serving;
 mod start_barrier;
 
+use disk_folder::is_directory;
 use listening::listen;
 use looking::look;
 use std::io::{IsTerminal, Read, Write};
@@ -24,7 +25,8 @@ use std::sync::Wait;
 use std::thread::Threads;
 use std::{env, fs, io, time};
 use zk_cli_args::{
-    Command, CommandFault, Job, Order, Refusal, read_command_line, refusal_of_bytes,
+    Command, CommandFault, Job, Order, Refusal, folder_job_from, read_command_line,
+    refusal_of_bytes,
 };
 use zk_commands::act;
 use zk_log::{Sink, Source};
@@ -56,7 +58,7 @@ fn run<R: Threads + Wait + Net<Listener = TcpListener, Stream = TcpStream> + tim
         .map(|word| word.as_str())
         .collect::<Vec<_>>(rt.alloc())?;
     match read_command_line(rt.alloc(), texts.as_slice()) {
-        Ok(Command::Act(job)) => open_and_act(rt, &job),
+        Ok(Command::Act(job)) => act_or_look(rt, &job),
         Ok(Command::Look(job)) => look(rt, &job),
         Ok(Command::Serve(serving)) => listen(threads, rt, serving),
         Err(CommandFault::Refused(refusal)) => Ok(print(rt, &refusal)),
@@ -74,6 +76,17 @@ fn print(rt: &HostRuntime, refusal: &Refusal) -> u8 {
     } else {
         let _ = rt.print(refusal.text.as_str());
         0
+    }
+}
+
+/// Runs the command on its directory, if the input is one, and else on its files. Returns the exit
+/// status.
+fn act_or_look(rt: &HostRuntime, job: &Job) -> Result<u8, NoMemory> {
+    match folder_job_from(job) {
+        Some(folder_job) if job.input != "@" && is_directory(rt, job.input) => {
+            look(rt, &folder_job)
+        }
+        _ => open_and_act(rt, job),
     }
 }
 

@@ -7,7 +7,7 @@ use Rattle.hex.specs.Hex.{decode_sized}
 use Rattle.hex.specs.declared.error.FromHexError.{FromHexError}
 use Rattle.zk_format.specs.Spelling.{sixteen_digits}
 
-bytes_fit : (k n i : ℕ) → get_or (bytes_high_first k n) i 0 < 256
+pub bytes_fit : (k n i : ℕ) → get_or (bytes_high_first k n) i 0 < 256
 bytes_fit zero n i = omega arith
 bytes_fit (suc zero) n zero = omega arith
 bytes_fit (suc (suc k)) n zero = omega arith

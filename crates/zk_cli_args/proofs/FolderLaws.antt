@@ -24,7 +24,7 @@ beside logs given = option_map (λ values. (logs, values)) given
 same_pair : (x y : Option (List ℕ) × List (List ℕ)) → Some x ≡ Some y → x ≡ y
 same_pair x y e = cc
 
-is_beside : (logs asked : Option (List ℕ)) (given : Option (List (List ℕ))) (values : List (List ℕ)) → beside logs given ≡ Some (asked, values) → (given ≡ Some values) × (asked ≡ logs)
+pub is_beside : (logs asked : Option (List ℕ)) (given : Option (List (List ℕ))) (values : List (List ℕ)) → beside logs given ≡ Some (asked, values) → (given ≡ Some values) × (asked ≡ logs)
 is_beside logs asked None values e = absurd (cc e)
 is_beside logs asked (Some found) values e =
     let same = same_pair (logs, found) (asked, values) e in

@@ -10,7 +10,7 @@ beside prompts given = option_map (λ values. (prompts, values)) given
 same_pair : (x y : Bool × List (List ℕ)) → Some x ≡ Some y → x ≡ y
 same_pair x y e = cc
 
-is_beside : (prompts asked : Bool) (given : Option (List (List ℕ))) (values : List (List ℕ)) → beside prompts given ≡ Some (asked, values) → (given ≡ Some values) × (asked ≡ prompts)
+pub is_beside : (prompts asked : Bool) (given : Option (List (List ℕ))) (values : List (List ℕ)) → beside prompts given ≡ Some (asked, values) → (given ≡ Some values) × (asked ≡ prompts)
 is_beside prompts asked None values e = absurd (cc e)
 is_beside prompts asked (Some found) values e =
     let same = same_pair (prompts, found) (asked, values) e in

@@ -1,9 +1,11 @@
 pub mod BehindLaws
 pub mod DigitsLaws
+pub mod DirectoryLaws
 pub mod FolderLaws
 pub mod GivenLaws
 pub mod LinesLaws
 pub mod NamesLaws
 pub mod OptionLaws
 pub mod ServingLaws
+pub mod UntilLaws
 pub mod WordsLaws

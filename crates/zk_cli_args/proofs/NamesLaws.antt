@@ -16,7 +16,7 @@ bits_below : (z : ℤ) → FitsSigned w64 z → of_z w64 z < 2 ^ 64
 bits_below (pos n) fits = let small : n < 2 ^ 63 = fits.sfits in omega arith
 bits_below (negsuc n) fits = omega arith
 
-one_number : (z y : ℤ) → FitsSigned w64 z → FitsSigned w64 y → id_digits z ≡ id_digits y → z ≡ y
+pub one_number : (z y : ℤ) → FitsSigned w64 z → FitsSigned w64 y → id_digits z ≡ id_digits y → z ≡ y
 one_number z y p q e =
     let n = of_z w64 z in
     let m = of_z w64 y in
@@ -26,7 +26,7 @@ one_number z y p q e =
     let bits : n ≡ m = sym (same_bits word bytes n (bits_below z p) read refl) ∙ same_bits word bytes m (bits_below y q) read e in
     sym (to_z-of_z w64 z p) ∙ ap (to_z w64) bits ∙ to_z-of_z w64 y q
 
-no_number : (z : ℤ) → codes "last" ≡ id_digits z → ⊥
+pub no_number : (z : ℤ) → codes "last" ≡ id_digits z → ⊥
 unfolding sixteen_digits
 no_number z e =
     let bytes = to_be_bytes w64 (cast_unsigned w64 z) in

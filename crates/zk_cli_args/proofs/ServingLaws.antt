@@ -1,11 +1,10 @@
 -- The servers that words name.
-use Rattle.std.proofs.Common.{◌≡◌, ◌≢◌, ◌==◌, true, false, ℕ, ◌<◌, ◌≤◌, ◌^◌, ℤ, pos, List, [], ◌∷◌, ◌++◌, ◌-◌, Bor, get_or, take, drop, length, Option, Some, None, Result, Ok, Err, ◌⊎◌, inl, inr, FitsSigned, IfOk, OkIff, unsigned_abs, refl, sym, ap, ◌∙◌, subst, codes, arith, append_assoc, append-nil, to_z, of_z, w64}
+use Rattle.std.proofs.Common.{◌≡◌, ◌≢◌, ◌==◌, true, false, ℕ, ◌<◌, ◌≤◌, ◌^◌, ℤ, pos, List, [], ◌∷◌, ◌-◌, Bor, get_or, take, drop, length, Option, Some, None, Result, Ok, Err, ◌⊎◌, inl, inr, FitsSigned, IfOk, OkIff, unsigned_abs, refl, sym, ap, ◌∙◌, subst, codes, arith, append-nil, to_z, of_z, w64}
 use Rattle.std.proofs.lemmas.Int.{to_z-of_z}
 use Rattle.std.proofs.lemmas.List.{take_all}
 use Rattle.std.specs.Fmt.{signed_decimal}
 use Rattle.std.specs.Int.{FitsUnsignedBits}
 use Rattle.std.specs.Result.{result_ok}
-use Rattle.std.specs.Str.{bytes_eq}
 use Rattle.zk_listing.specs.Promises.{ReadsOnly}
 use Rattle.zk_listing.specs.declared.fault.ListCause.{ListCause}
 use Rattle.zk_cli_args.specs.Serving.{NamesBehind, NamesServers, ReadsDecimal, ReadsServers, ReadsServersOf, ReadsServing, ReadsServingBehind, ReadsServingNamed, SpellsWithin}

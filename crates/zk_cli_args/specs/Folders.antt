@@ -1,17 +1,37 @@
 -- The words of a command line that reads a data directory.
-use Rattle.std.specs.Prelude.{◌≡◌, ℕ, List, [], ◌∷◌, Option, Some, None, codes, option_map}
+use Rattle.std.specs.Prelude.{◌≡◌, ℕ, ℤ, List, [], ◌∷◌, Option, Some, None, IsSome, FitsSigned, codes, option_map}
+use Rattle.std.specs.Int.{w64}
+use Rattle.zk_format.specs.Spelling.{id_digits}
+use Rattle.zk_times.specs.Times.{time_of}
 use Rattle.zk_cli_args.specs.Options.{given_with_option}
+use Rattle.zk_cli_args.specs.declared.command.Order.{Order}
+use Rattle.zk_cli_args.specs.declared.command.Order.TheVariants as job_orders
 use Rattle.zk_cli_args.specs.declared.folders.FolderJob.{FolderJob}
 use Rattle.zk_cli_args.specs.declared.folders.FolderOrder.{FolderOrder}
 use Rattle.zk_cli_args.specs.declared.folders.FolderOrder.TheVariants as orders
+use Rattle.zk_cli_args.specs.declared.folders.Until.{Until}
+use Rattle.zk_cli_args.specs.declared.folders.Until.TheVariants as untils
 
 -- the directory of the logs, if it is another, and the values
 abbrev pub looked_by : List (List ℕ) → Option (Option (List ℕ) × List (List ℕ))
 looked_by words = given_with_option (codes "--logs") (codes "--logs=") words
 
+-- up to which transaction a directory is shown: the last one, one of a zxid, or one of a time
+abbrev pub SpellsUntil : List ℕ → Until → Type 0
+SpellsUntil word untils.Last = word ≡ codes "last"
+SpellsUntil word (untils.Zxid zxid) = FitsSigned w64 zxid × (word ≡ id_digits zxid)
+SpellsUntil word (untils.Time time) = time_of word ≡ Some time
+
+-- without "--logs", only a time says that `show` reads a directory
+abbrev pub NeedsDirectory : Until → Option (List ℕ) → Type 0
+NeedsDirectory (untils.Time time) logs = Unit {0}
+NeedsDirectory until logs = IsSome logs
+
 -- a command's name and its values determine a command and its directory
 abbrev pub NamesFolderBy : List ℕ → List (List ℕ) → Option (List ℕ) → FolderOrder → List ℕ → Type 0
 NamesFolderBy name values logs orders.Files folder = (name ≡ codes "files") × (values ≡ folder ∷ [])
+NamesFolderBy name values logs orders.List folder = (name ≡ codes "list") × (values ≡ folder ∷ []) × IsSome logs
+NamesFolderBy name values logs (orders.Show until) folder = (word : List ℕ) × (name ≡ codes "show") × (values ≡ folder ∷ word ∷ []) × SpellsUntil word until × NeedsDirectory until logs
 
 -- the words are the program's name, a command's, and words with its values
 pub record NamesFolder (words : List (List ℕ)) (order : FolderOrder) (folder : List ℕ) (logs : Option (List ℕ)) : Type 0 where
@@ -29,12 +49,31 @@ NamesNoFolder words = (order : FolderOrder) (folder : List ℕ) (logs : Option (
 abbrev pub logs_of : FolderJob → Option (List ℕ)
 logs_of job = option_map (λ logs. logs.now) job.logs
 
+-- the job on a directory, where a job's input is one
+abbrev pub until_of : Option ℤ → Until
+until_of None = untils.Last
+until_of (Some zxid) = untils.Zxid zxid
+
+abbrev pub folder_order_of : Order → Option FolderOrder
+folder_order_of (job_orders.Show upto) = Some (orders.Show (until_of upto))
+folder_order_of job_orders.List = Some orders.List
+folder_order_of order = None
+
 -- a job is what the words name
 abbrev pub ReadsFolder : List (List ℕ) → Option FolderJob → Type 0
 ReadsFolder words (Some job) = NamesFolder words job.order job.folder.now (logs_of job)
 ReadsFolder words None = NamesNoFolder words
 
 -- ---- its parts
+
+abbrev pub ReadsUntil : List ℕ → Option Until → Type 0
+ReadsUntil word (Some until) = SpellsUntil word until
+ReadsUntil word None = (until : Until) → ¬ SpellsUntil word until
+
+-- the tree of this directory, if it needs one
+abbrev pub IsShownIn : List ℕ → Until → Option (List ℕ) → Option FolderJob → Type 0
+IsShownIn folder until logs (Some job) = (job.order ≡ orders.Show until) × (job.folder.now ≡ folder) × (logs_of job ≡ logs) × NeedsDirectory until logs
+IsShownIn folder until logs None = ¬ NeedsDirectory until logs
 
 -- the job of a command's name and values, with this directory of logs
 abbrev pub ReadsFolderBy : List ℕ → List (List ℕ) → Option (List ℕ) → Option FolderJob → Type 0

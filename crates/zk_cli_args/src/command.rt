@@ -275,7 +275,7 @@ fn is_option(word: &str) -> bool
 
 /// The zxid up to which the tree is shown, `None` for all: the sixteen lower-case hexadecimal
 /// digits of its 64 bits, or `last`. Returns `None` for any other word.
-fn read_upto(alloc: Global, word: &str) -> Result<Option<Option<i64>>, NoMemory>
+pub(crate) fn read_upto(alloc: Global, word: &str) -> Result<Option<Option<i64>>, NoMemory>
     ensures { IfOk result (λ read. ReadsUpto word.now read) }
 {
     if word == "last" {

@@ -45,28 +45,28 @@ pub(crate) const ORDERS: [OrderHelp; 8] = [SHOW, LIST, FILES, ASM, MEND, DEBUG, 
 pub(crate) const SHOW: OrderHelp = OrderHelp {
     name: "show",
     title: "zk show",
-    about: "Prints the tree as of a transaction of a log",
+    about: "Prints the tree of a data directory or a log, as of a transaction",
     notes: LOG_NOTES,
     values: &[
-        LOG,
+        LOGS_OR_LOG,
         ValueHelp {
             name: "ZXID",
-            help: "The last transaction to apply: sixteen lower-case hexadecimal digits, or `last`",
+            help: "The last transaction to apply: sixteen lower-case hexadecimal digits, or `last`; of a directory also a time in UTC, such as 2026-11-27T14:03:05.123, for the last transaction with it or an earlier one",
             required: true,
         },
     ],
     flags: &[],
-    options: &[],
+    options: &[LOGS],
 };
 
 const LIST: OrderHelp = OrderHelp {
     name: "list",
     title: "zk list",
-    about: "Prints the transactions of a log, one line each",
+    about: "Prints the transactions of a data directory or a log, one line each",
     notes: LOG_NOTES,
-    values: &[LOG],
+    values: &[LOGS_OR_LOG],
     flags: &[],
-    options: &[],
+    options: &[LOGS],
 };
 
 const FILES: OrderHelp = OrderHelp {
@@ -181,6 +181,13 @@ pub(crate) const SERVE: OrderHelp = OrderHelp {
     }],
 };
 
+/// The value that names a data directory or a log to read.
+const LOGS_OR_LOG: ValueHelp = ValueHelp {
+    name: "DIR|FILE",
+    help: "The data directory, or its version-2; or one log: a path, or @ for standard input",
+    required: true,
+};
+
 /// The value that names a log to read.
 const LOG: ValueHelp = ValueHelp {
     name: "FILE",
@@ -205,12 +212,23 @@ const LOG_NOTES: &str =
     r#"Errors, on standard error after `zk: `; AT is the byte where the entry begins:
   G1          not a transaction log: a snapshot, compressed or empty
   G2 AT       checksum mismatch: the entry is corrupt
-  G3 AT       no record of 3.4; `zk mend` converts logs of 3.5 to 3.8 servers
+  G3 AT       no record of 3.4; show the directory of a 3.5 to 3.8 server, or `zk mend` the log
   G4 AT       the zxid is not above the one before
   G5 AT       the length is above 16777216 bytes
   G6          a read failed
   G7          no end after 1048576 reads
-and `read` and `write` if a file cannot be opened or written, and `memory`.
+Of a directory these have the file's NAME before AT, and there are more:
+  D1          no snapshot and no log
+  D2 FIRST    no snapshot serves, and the logs begin with FIRST
+  D3 FROM TO  the transactions between these two are missing
+  D4 NAME AT  another entry than an earlier one of its zxid
+  D5 NAME ZXID
+              the logs end before ZXID, from which this snapshot is exact
+  D6 NAME ZXID
+              this snapshot is exact from ZXID on, and no earlier one serves
+  S1 NAME to S8 NAME
+              this snapshot is unusable, and no log has a record
+and `read` and `write` if a file or directory cannot be opened or written, and `memory`.
 
 In the source repository, docs/ERRORS.md has what helps."#;
 

@@ -15,7 +15,7 @@ mod usage;
 
 pub use clap::error::ErrorKind;
 pub use command::{Job, Order};
-pub use folders::{FolderJob, FolderOrder};
+pub use folders::{FolderJob, FolderOrder, Until, folder_job_from};
 pub use line::{Command, CommandFault, read_command_line};
 pub use serving::Serving;
 pub use usage::{Refusal, refusal_of, refusal_of_bytes};

@@ -71,7 +71,7 @@ fn value_fault(alloc: Global, is_debug: bool) -> Result<Error, AllocError> {
         alloc,
         &SHOW,
         ErrorKind::ValueValidation,
-        "ZXID is neither sixteen lower-case hexadecimal digits nor `last`",
+        "ZXID is neither sixteen lower-case hexadecimal digits, `last`, nor a time such as 2026-11-27T14:03",
     )
 }
 
