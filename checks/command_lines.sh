@@ -30,11 +30,11 @@ refuses "zk <COMMAND>" tree "$listing"
 refuses "zk <COMMAND>" -- list "$listing"
 refuses "zk <COMMAND>" $'\377' "$listing"
 refuses "zk <COMMAND>" asm "$listing" $'\377'
-refuses "zk show <FILE> <ZXID>" show examples/first_log.log
-refuses "zk show <FILE> <ZXID>" show examples/first_log.log 1
-refuses "zk show <FILE> <ZXID>" show examples/first_log.log 000000010000000A
-refuses "zk show <FILE> <ZXID>" show examples/first_log.log last last
-refuses "zk list <FILE>" list -x
+refuses "zk show <DIR|FILE> <ZXID>" show examples/first_log.log
+refuses "zk show [OPTIONS] <DIR|FILE> <ZXID>" show examples/first_log.log 1
+refuses "zk show [OPTIONS] <DIR|FILE> <ZXID>" show examples/first_log.log 000000010000000A
+refuses "zk show [OPTIONS] <DIR|FILE> <ZXID>" show examples/first_log.log last last
+refuses "zk list [OPTIONS] <DIR|FILE>" list -x
 refuses "zk files <DIR>" files
 refuses "zk debug <FILE> [SCRIPT]" debug
 refuses "zk debug [OPTIONS] <FILE> [SCRIPT]" debug @
@@ -68,7 +68,7 @@ ends 0 --version
 ends 0 --help
 grep -qF "Usage: zk <COMMAND>" "$work/out"
 ends 0 show --help
-grep -qF "Usage: zk show <FILE> <ZXID>" "$work/out"
+grep -qF "Usage: zk show [OPTIONS] <DIR|FILE> <ZXID>" "$work/out"
 ends 0 serve 0 0 --help
 grep -qF "Usage: zk serve [OPTIONS] <PORT> <N>" "$work/out"
 ends 0 help asm
@@ -78,7 +78,7 @@ grep -qF "Usage: zk asm <TEXT> <FILE>" "$work/out"
 cp "$zk" "$work/other"
 zk=$work/other
 refuses "zk <COMMAND>"
-refuses "zk show <FILE> <ZXID>" show examples/first_log.log 1
+refuses "zk show [OPTIONS] <DIR|FILE> <ZXID>" show examples/first_log.log 1
 ends 0 --version
 [ "$(cat "$work/out")" = "zk 0.1.0" ]
 echo "command_lines: refused and told"

@@ -1,6 +1,7 @@
 #!/usr/bin/env bash
-# `zk files` over the real directory examples/directories/follower: as it is, above `version-2`, with the logs in another directory,
-# and with files that are missing, damaged or no snapshots and logs; and over directories that have none.
+# `zk files`, `zk show` and `zk list` over the real directory examples/directories/follower: as it is, above `version-2`, with the
+# logs in another directory, and with files that are missing, damaged or no snapshots and logs; and over directories that have none.
+# The trees are what the live servers said to a client (examples/directories/README.md).
 . checks/lib.sh
 real=$PWD/examples/directories/follower
 lines=$PWD/examples/directories/follower.files
@@ -15,12 +16,19 @@ prints() {
     sed "$script" "$lines" | diff - "$work/out"
 }
 
-# rejects LINE WORD..: `zk files WORD..` prints nothing but this line on standard error, with status 1
+# fails LINE WORD..: `zk WORD..` prints nothing but this line on standard error, with status 1
+fails() {
+    local line=$1
+    shift
+    [ "$(ends "$zk" "$@")" = "1 zk: $line" ]
+    [ ! -s "$work/out" ]
+}
+
+# rejects LINE WORD..: the same of `zk files WORD..`
 rejects() {
     local line=$1
     shift
-    [ "$(ends "$zk" files "$@")" = "1 zk: $line" ]
-    [ ! -s "$work/out" ]
+    fails "$line" files "$@"
 }
 
 # copied NAME: a copy of the directory
@@ -104,4 +112,119 @@ mkdir "$work/empty/log.5"
 rejects "G6 log.5" "$work/empty"
 mkdir "$work/empty/snapshot.0"
 rejects "G6 snapshot.0" "$work/empty"
-echo "directories: as the files' bytes say"
+
+# ---- the tree
+
+# shows ZXID LINES WORD..: `zk show WORD..` prints this zxid first, the nodes that a live server had after it, and these lines last,
+# with status 0. /zookeeper/config is the one node that each server of an ensemble sets by itself.
+shows() {
+    local zxid=$1 lines=$2
+    shift 2
+    [ "$(ends "$zk" show "$@")" = "0 " ]
+    [ "$(head -n 1 "$work/out")" = "zxid $zxid" ]
+    grep '^"' "$work/out" | grep -v '^"/zookeeper/config"' | cmp - "examples/directories/follower.$zxid.nodes"
+    [ "$(grep -v '^"\|^zxid \|^session ' "$work/out")" = "$lines" ]
+}
+early=00000002000000b6
+late=000000020000013d
+of_early=$'base snapshot.20000004e 000000020000004e\nend padding'
+of_late=$'base snapshot.2000000d6 00000002000000d6\nend padding'
+passed_late=$'base snapshot.20000004e 000000020000004e\npassed snapshot.2000000d6 S4\nend padding'
+
+shows $early "$of_early" "$real" $early
+shows $late "$of_late" "$work/data" $late
+shows $late "$of_late" "$work/snapshots" $late --logs "$work/logs"
+shows $late "$of_late" --logs="$work/logs" -- "$work/snapshots" $late
+shows $late "$of_late" "$other" $late
+
+# a time is that of the last transaction with it or an earlier one: these were at 14:56:02.249 and 14:58:02.472, the next ones at
+# 14:56:02.530 and 14:58:02.687
+shows $early "$of_early" "$real" 2026-11-27T14:56:02.249
+shows $early "$of_early" "$real" 2026-11-27T14:56:02.529
+shows $late "$of_late" "$work/snapshots" 2026-11-27T14:58:02.5 --logs "$work/logs"
+[ "$(ends "$zk" show "$real" 2026-11-27T14:56)" = "0 " ]
+[ "$(head -n 1 "$work/out")" = "zxid 0000000200000079" ]
+
+# the end, and what lies after it
+for upto in last 0000000f00000000 2026-11-28T00:00:00; do
+    [ "$(ends "$zk" show "$real" $upto)" = "0 " ]
+    [ "$(head -n 1 "$work/out")" = "zxid 000000020000013f" ]
+    [ "$(tail -n 2 "$work/out")" = "$of_late" ]
+done
+
+# a broken snapshot is passed over; its log must reach back to an earlier one
+broken=$(copied broken)
+printf '\377' | dd of="$broken/$snapshot" bs=1 seek=1000 conv=notrunc status=none
+shows $late "$passed_late" "$broken" $late
+shows $early "$of_early" "$broken" $early
+rm "$broken/log.200000050"
+fails "D3 000000020000004f 00000002000000d8" show "$broken" last
+shows $late "$of_late" "$missing" $late
+fails "D3 000000020000004f 00000002000000d8" show "$missing" $early
+fails "D2 000000010000022d" show "$work/logs" last
+fails "D2 000000010000022d" show "$real" 000000020000004d
+fails "S4 $snapshot" show "$broken" last --logs "$work/empty"
+rm "$broken"/snapshot.20000004e "$broken"/log.*
+fails "S4 $snapshot" show "$broken" last
+
+# a log that is broken: all before the entry that is corrupt is shown
+corrupt=$(copied corrupt)
+printf '\377' | dd of="$corrupt/$log" bs=1 seek=8700 conv=notrunc status=none
+shows $late $'base snapshot.2000000d6 00000002000000d6\nend none' "$corrupt" $late
+fails "G2 $log 8657" show "$corrupt" last
+
+# a record that stands twice is taken once, unless the two differ
+twice=$(copied twice)
+cp "$real/$log" "$twice/log.2000000d9"
+shows $late "$of_late" "$twice" $late
+python3 - "$twice/log.2000000d9" <<'END'
+import struct, sys, zlib
+path = sys.argv[1]
+log = bytearray(open(path, "rb").read())
+size = struct.unpack_from(">I", log, 24)[0]
+log[28 + size - 9] ^= 1
+struct.pack_into(">Q", log, 16, zlib.adler32(log[28 : 28 + size]))
+open(path, "wb").write(log)
+END
+fails "D4 log.2000000d9 16" show "$twice" last
+fails "D4 log.2000000d9 16" list "$twice"
+
+# ---- the transactions
+
+# listed DIR WORD..: `zk list WORD..` prints the transactions of the logs in DIR as `mend` and `list` print those of each, each once
+listed() {
+    local logs=$1 each
+    shift
+    [ "$(ends "$zk" list "$@")" = "0 " ]
+    for each in "$logs"/log.*; do
+        "$zk" mend "$each" "$work/each.log" >"$work/none"
+        "$zk" list "$work/each.log"
+    done | sort -u | cmp - "$work/out"
+}
+listed "$real" "$real"
+listed "$real" "$work/data"
+listed "$real" --logs "$work/logs" "$work/snapshots"
+listed "$real" "$other"
+fails "D3 000000020000004f 00000002000000d8" list "$missing"
+fails "G2 $log 8657" list "$corrupt"
+
+# ---- what is no directory with files
+for command in "show last" "list"; do
+    set -- $command
+    rm -rf "$work/empty"
+    mkdir "$work/empty"
+    fails D1 "$1" "$work/empty" ${2-}
+    fails D1 "$1" "$work/empty" ${2-} --logs "$work/snapshots"
+    fails read "$1" "$work/none at all" ${2-} --logs "$work/logs"
+    fails read "$1" "$real" ${2-} --logs "$lines"
+    mkdir "$work/empty/log.5"
+    fails "G6 log.5" "$1" "$work/empty" ${2-}
+done
+mkdir "$work/empty/snapshot.0"
+fails "G6 snapshot.0" show "$work/empty" last
+
+# a word that is no zxid and no time
+for word in 2026-11-27 2026-11-27T14:60 2026-13-27T14:56 2026-11-27T14:56:02.2491 LAST 2000000b6; do
+    [ "$(ends "$zk" show "$real" $word | head -c 1)" = 2 ]
+done
+echo "directories: as the files' bytes say, and as live servers said"

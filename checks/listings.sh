@@ -47,7 +47,7 @@ printf '\377' >"$work/bad"
 
 # files that can't be opened, read or written
 [ "$(ends "$zk" list "$work/none")" = "1 zk: read" ]
-[ "$(ends "$zk" list "$work")" = "1 zk: G6" ]
+[ "$(ends "$zk" list "$work/none/")" = "1 zk: read" ]
 [ "$(ends "$zk" asm "$work" "$work/out")" = "1 zk: read" ]
 [ "$(ends "$zk" asm "$listing" "$work")" = "1 zk: write" ]
 [ "$(ends "$zk" asm "$listing" /dev/full)" = "1 zk: write" ]

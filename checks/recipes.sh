@@ -1,7 +1,7 @@
 #!/usr/bin/env bash
-# Runs each recipe of docs/CLI.md, over logs of examples/lock.listing: the whole one, one in two files, and one with a corrupt
-# entry. The output is compared with a file of examples/recipes, worked out by hand from the listing and from the lengths
-# of its records. The recipes that take logs of any server also run over one of a 3.8 server: their trees are what that server said.
+# Runs each recipe of docs/CLI.md, over logs of examples/lock.listing: the whole one, and one with a corrupt entry. The output is
+# compared with a file of examples/recipes, worked out by hand from the listing and from the lengths of its records. The recipes that
+# take logs of any server also run over one of a 3.8 server: their trees are what that server said.
 set -euo pipefail
 work=$(mktemp -d)
 trap 'rm -rf "$work"' EXIT
@@ -9,13 +9,11 @@ listing=examples/lock.listing
 expected=$PWD/examples/recipes
 recipes=docs/CLI.md
 alone=examples/stock/check_alone
-mkdir "$work/bin" "$work/logs"
+mkdir "$work/bin"
 ln -s "$PWD/crates/zk_cli/out/zk_cli" "$work/bin/zk"
 PATH=$work/bin:$PATH
 
 zk asm "$listing" "$work/whole"
-head -n 3 "$listing" | zk asm @ "$work/logs/log.100000001"
-tail -n +4 "$listing" | zk asm @ "$work/logs/log.100000004"
 
 # corrupt LOG AT: a log with a wrong byte at AT
 corrupt() {
@@ -36,7 +34,7 @@ prints() {
     mkdir "$work/run"
     (
         cd "$work/run"
-        LOG=$2 LOGS=$work/logs bash -u "$work/recipe" 2>"$work/err"
+        LOG=$2 bash -u "$work/recipe" 2>"$work/err"
     )
 }
 
@@ -52,10 +50,7 @@ nodes() {
     grep '^"' | grep -v '^"/zookeeper["/]'
 }
 
-runs "The log up to a zxid" "$work/whole" log_up_to_a_zxid
-runs "What names a path" "$work/whole" lines_that_name_a_path
 runs "One path's history" "$work/whole" one_paths_history
-runs "A history over several files" "$work/whole" history_over_files
 runs "The tree before a corrupt entry" "$work/corrupt" tree_before_a_corrupt_entry
 
 # ---- a log of a 3.8 server
@@ -71,15 +66,6 @@ for _ in range(10):
 print(at)' "$alone/log.1")
 corrupt "$alone/log.1" $((at + 12)) >"$work/corrupt"
 prints "The tree before a corrupt entry" "$work/corrupt" | nodes | cmp - "$alone/000000000000000a.nodes"
-
-# the same log in two files
-rm "$work"/logs/*
-head -c "$at" "$alone/log.1" >"$work/logs/log.1"
-{
-    head -c 16 "$alone/log.1"
-    tail -c "+$((at + 1))" "$alone/log.1"
-} >"$work/logs/log.b"
-prints "A history over several files" "$work/logs/log.1" | nodes | cmp - "$alone/0000000000000011.nodes"
 
 # each recipe was run
 [ "$(printf '%s' "$headings" | sort -u | wc -l)" = "$(grep -c '^```sh$' "$recipes")" ]
