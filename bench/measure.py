@@ -104,4 +104,5 @@ def main():
         of_a_log(folder, 20_000, "colliding")
 
 
-main()
+if __name__ == "__main__":
+    main()
