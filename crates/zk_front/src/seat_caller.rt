@@ -10,9 +10,7 @@ use std::alloc::Global;
 use std::marker::Model;
 use std::sync::Wait;
 use zk_model::{Answer, EnsembleFault, Event};
-use zk_servers::{
-    CallFault, CallLedger, Looked, Mark, Outcome, Receipt, Seat, Senders, Shared, send_on,
-};
+use zk_servers::{CallFault, CallLedger, Looked, Mark, Outcome, Receipt, Seat, Senders, Shared};
 use zk_service::{HOME, Reply, ReplyKind, ServiceFault, looked_by, service_fault_of};
 
 /// Calls by a seat, and keeps a receipt for each call.
@@ -85,11 +83,10 @@ impl<L: CallLedger, R: Wait> SeatCaller<'_, L, R> {
         }
         match self
             .shared
-            .call_routed(self.rt, self.alloc, &mut self.seat, event)
+            .call_routed(self.rt, &self.senders, &mut self.seat, event)
         {
-            Ok(routed) => {
-                self.receipts
-                    .push_reserved(send_on(self.rt, &self.senders, routed));
+            Ok(receipt) => {
+                self.receipts.push_reserved(receipt);
                 Ok(())
             }
             Err(fault) => Err(fault_of_call(fault)),

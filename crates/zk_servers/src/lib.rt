@@ -28,8 +28,8 @@ pub use ledger::CallLedger;
 pub use looked::Looked;
 pub use running::{Run, Turns, run_servers};
 pub use seat::Seat;
-pub use serving::{Gate, Worked, Worker, send_on};
-pub use shared::{Routed, Shared, Started, Unclosed};
+pub use serving::{Gate, Worked, Worker};
+pub use shared::{Shared, Started, Unclosed};
 pub use shared_state::SharedState;
 pub use zk_chronicle::{
     CallFault, Chronicle, CloseFault, Ensemble, Made, Mark, Outcome, Receipt, Record,

@@ -5,7 +5,7 @@ ghost use Rattle.zk_servers.specs.Turns.{DidTurns};
 use crate::inbox::{Inbox, Senders};
 use crate::ledger::CallLedger;
 use crate::seat::Seat;
-use crate::shared::{Routed, Shared};
+use crate::shared::Shared;
 use std::alloc::Global;
 use std::sync::Wait;
 use std::sync::ledger::Ledger;
@@ -63,7 +63,7 @@ pub(crate) fn serve<L: CallLedger, G: Gate, R: Wait>(
     for job in jobs {
         gate.enter(server, turn);
         turn += 1;
-        if !call_once(rt, alloc, shared, senders, &mut seat, &mut receipts, job) {
+        if !call_once(rt, shared, senders, &mut seat, &mut receipts, job) {
             passed += 1;
         }
     }
@@ -74,7 +74,6 @@ pub(crate) fn serve<L: CallLedger, G: Gate, R: Wait>(
         };
         call_once(
             rt,
-            alloc,
             shared,
             senders,
             &mut seat,
@@ -92,7 +91,6 @@ pub(crate) fn serve<L: CallLedger, G: Gate, R: Wait>(
 /// Makes one call, and sends its new messages to their addressees. Returns whether it was made.
 fn call_once<L: CallLedger, R: Wait>(
     rt: &R,
-    alloc: Global,
     shared: &Shared<L>,
     senders: &Senders,
     seat: &mut Seat<L>,
@@ -105,25 +103,9 @@ fn call_once<L: CallLedger, R: Wait>(
     if receipts.reserve(1).is_err() {
         return false;
     }
-    let Ok(routed) = shared.call_routed(rt, alloc, seat, event) else {
+    let Ok(receipt) = shared.call_routed(rt, senders, seat, event) else {
         return false;
     };
-    receipts.push_reserved(send_on(rt, senders, routed));
+    receipts.push_reserved(receipt);
     true
-}
-
-/// Sends the numbers of an event's messages to their addressees; one that can't be sent is lost.
-pub fn send_on<R: Wait>(rt: &R, senders: &Senders, routed: Routed) -> Receipt
-    ensures { result ≡ routed.receipt }
-{
-    let Routed {
-        receipt,
-        addressees,
-    } = routed;
-    let mut message = receipt.sent().first;
-    for addressee in addressees {
-        senders.send(rt, addressee, message);
-        message = message.wrapping_add(1);
-    }
-    receipt
 }

@@ -6,6 +6,7 @@ ghost use Rattle.zk_views.specs.Catching.{AreOfOneView};
 
 use crate::closing::compare;
 use crate::counted_chronicle::CountedChronicle;
+use crate::inbox::Senders;
 use crate::ledger::CallLedger;
 use crate::looked::Looked;
 use crate::pausing::pause;
@@ -42,14 +43,6 @@ impl<L: CallLedger> Drop for Shared<L> {
             called: _,
         } = self;
     }
-}
-
-/// The receipt of a call, and the addressees of its event's messages.
-#[derive(Drop)]
-pub struct Routed {
-    pub receipt: Receipt,
-    /// A server for each message, from the receipt's first on; fewer after an allocation failure.
-    pub addressees: Vec<usize>,
 }
 
 /// The parts of a new ensemble.
@@ -150,27 +143,27 @@ impl<L: CallLedger> Shared<L> {
         told
     }
 
-    /// Does the same, and returns the addressees of the event's messages, under one lock.
+    /// Does the same, and sends the numbers of the event's messages to their addressees; one that
+    /// can't be sent is lost.
     pub fn call_routed<R: Wait>(
         &self,
         rt: &R,
-        alloc: Global,
+        senders: &Senders,
         seat: &mut Seat<L>,
         event: Event,
-    ) -> Result<Routed, CallFault>
-        ensures seated { IfOk result (λ routed. seat.new ≡ seat.old ++ made routed.receipt.number event ∷ []) }
+    ) -> Result<Receipt, CallFault>
+        ensures seated { IfOk result (λ receipt. seat.new ≡ seat.old ++ made receipt.number event ∷ []) }
         ensures refused { OnErr result (seat.new ≡ seat.old) }
     {
         let mut board = self.held(rt);
         let server = board.server_of(&event);
         let receipt = board.add(rt, seat, event)?;
-        let addressees = board.addressees(alloc, &receipt);
+        // Under the lock, each inbox gets its numbers in the order of the events. If threads sent
+        // after releasing it, a commit could overtake its proposal, and its server would reject it.
+        board.send_messages(rt, senders, &receipt);
         drop(board);
         self.count(server);
-        Ok(Routed {
-            receipt,
-            addressees,
-        })
+        Ok(receipt)
     }
 
     /// Calls a read under the lock; the seat keeps the call. Returns it with the events of its

@@ -1,6 +1,5 @@
-//! One caller of three servers, of which two agree on a session. The tests check the addressees of
-//! messages, the server of each call, the outcome of a call, and the results of readers beside the
-//! calls.
+//! One caller of three servers, of which two agree on a session. The tests check the server of each
+//! call, the outcome of a call, and the results of readers beside the calls.
 
 ghost use Rattle.std.specs.Prelude.{◌≡◌, ◌<◌, ◌^◌};
 
@@ -11,7 +10,7 @@ use std::sync::Wait;
 use std::sync::ledger::Blank;
 use std::test::Fail;
 use zk_front::servers::{
-    CallLedger, Mark, Pass, Reader, Receipt, Routed, Seat, Shared, Started, ViewFault,
+    CallLedger, Mark, Pass, Reader, Receipt, Seat, Shared, Started, ViewFault,
 };
 use zk_path::{NoMemory, Path};
 use zk_table::{ReadCall, ReadReply};
@@ -24,19 +23,16 @@ const MADE: i64 = 0x1_0000_0002;
 /// The tag of the call that creates the node.
 const NODE_TAG: u64 = 2;
 
-/// The number of messages that an event sent, and the server that the last of them is for.
-type Route = (usize, Option<usize>);
-
 /// The first server becomes the leader of the second, and a session is opened.
-static BEGINNING: [(Happening, Route); 8] = [
-    (Happening::Lead(1), (0, None)),
-    (Happening::Follow(2, 1), (1, Some(1))),
-    (Happening::Arrive(1), (1, Some(2))),
-    (Happening::Arrive(2), (1, Some(1))),
-    (Happening::Arrive(3), (1, Some(2))),
-    (Happening::Arrive(4), (1, Some(1))),
-    (Happening::Arrive(5), (1, Some(2))),
-    (Happening::Open(1), (1, Some(2))),
+static BEGINNING: [Happening; 8] = [
+    Happening::Lead(1),
+    Happening::Follow(2, 1),
+    Happening::Arrive(1),
+    Happening::Arrive(2),
+    Happening::Arrive(3),
+    Happening::Arrive(4),
+    Happening::Arrive(5),
+    Happening::Open(1),
 ];
 
 /// The two servers agree on the session.
@@ -66,8 +62,6 @@ type Outcome = (Option<i64>, usize);
 /// What was seen while events were called.
 #[derive(Clone, Copy, Debug)]
 struct Open {
-    /// The first event of the beginning whose messages had other addressees.
-    misrouted: Option<usize>,
     /// The numbers of calls at servers 1, 2, 3 and 16 after the beginning.
     called: [u64; 4],
     /// The outcome of the call at the first server before it was called.
@@ -94,31 +88,6 @@ struct Seen {
     /// The number of servers with a list of readers, and whether each list is empty.
     servers: usize,
     unread: bool,
-}
-
-fn route_of(routed: &Routed) -> Route {
-    let addressees = &routed.addressees;
-    (addressees.len(), addressees.last().copied())
-}
-
-/// Calls the beginning. Returns the first event whose messages had other addressees.
-fn begin<L: CallLedger, R: Wait>(
-    rt: &R,
-    alloc: Global,
-    shared: &Shared<L>,
-    seat: &mut Seat<L>,
-    receipts: &mut Vec<Receipt>,
-) -> Result<Option<usize>, Fail> {
-    let mut misrouted = None;
-    for (place, (happening, route)) in BEGINNING.iter().enumerate() {
-        let event = event_of(alloc, *happening)?;
-        let routed = shared.call_routed(rt, alloc, seat, event)?;
-        if misrouted.is_none() && route_of(&routed) != *route {
-            misrouted = Some(place);
-        }
-        receipts.push(routed.receipt)?;
-    }
-    Ok(misrouted)
 }
 
 /// Calls events in turn.
@@ -188,7 +157,7 @@ fn watch<L: CallLedger, R: Wait>(
     pass: &mut Pass,
 ) -> Result<Open, Fail> {
     let seat = seats.last_mut().ok_or(NoMemory)?;
-    let misrouted = begin(rt, alloc, shared, seat, receipts)?;
+    call_all(rt, alloc, shared, seat, &BEGINNING, receipts)?;
     let called = [1, 2, 3, 16].map(|server| shared.called(server));
     call_all(rt, alloc, shared, seat, &AGREED, receipts)?;
     receipts.get(ARRIVE_8).ok_or(NoMemory)?.show(pass);
@@ -200,7 +169,6 @@ fn watch<L: CallLedger, R: Wait>(
     let (unheard, _) = outcome(rt, shared, 3, Mark::new())?;
     let made = ask(alloc, readers, 0, pass)?;
     Ok(Open {
-        misrouted,
         called,
         before,
         third,
@@ -278,9 +246,8 @@ fn outcome_of_a_call_behind_a_mark(rt: HostRuntime) -> Result<(), Fail> {
 }
 
 #[test]
-fn messages_are_for_leader_and_follower_in_turn(rt: HostRuntime) -> Result<(), Fail> {
+fn calls_are_counted_by_server(rt: HostRuntime) -> Result<(), Fail> {
     let seen = seen_by(&rt, rt.alloc(), 0)?;
-    assert_eq!(rt; seen.open.misrouted, None);
     assert_eq!(rt; seen.open.called, [5, 3, 0, 0]);
     assert_eq!(rt; (seen.servers, seen.unread), (3, true));
     Ok(())
