@@ -113,6 +113,9 @@ rejects "G6 log.5" "$work/empty"
 mkdir "$work/empty/snapshot.0"
 rejects "G6 snapshot.0" "$work/empty"
 
+rm -r "$work/empty"
+mkdir "$work/empty"
+
 # ---- the tree
 
 # shows ZXID LINES WORD..: `zk show WORD..` prints this zxid first, the nodes that a live server had after it, and these lines last,
@@ -141,7 +144,7 @@ shows $late "$of_late" "$other" $late
 # 14:56:02.530 and 14:58:02.687
 shows $early "$of_early" "$real" 2026-11-27T14:56:02.249
 shows $early "$of_early" "$real" 2026-11-27T14:56:02.529
-shows $late "$of_late" "$work/snapshots" 2026-11-27T14:58:02.5 --logs "$work/logs"
+shows $late "$of_late" "$work/snapshots" 2026-11-27T14:58:02.500 --logs "$work/logs"
 [ "$(ends "$zk" show "$real" 2026-11-27T14:56)" = "0 " ]
 [ "$(head -n 1 "$work/out")" = "zxid 0000000200000079" ]
 
@@ -159,11 +162,12 @@ shows $late "$passed_late" "$broken" $late
 shows $early "$of_early" "$broken" $early
 rm "$broken/log.200000050"
 fails "D3 000000020000004f 00000002000000d8" show "$broken" last
-shows $late "$of_late" "$missing" $late
+fails "D3 00000002000000d6 00000002000000d8" show "$missing" $late
 fails "D3 000000020000004f 00000002000000d8" show "$missing" $early
 fails "D2 000000010000022d" show "$work/logs" last
 fails "D2 000000010000022d" show "$real" 000000020000004d
-fails "S4 $snapshot" show "$broken" last --logs "$work/empty"
+[ "$(ends "$zk" show "$broken" last --logs "$work/empty")" = "0 " ]
+[ "$(tail -n 3 "$work/out")" = $'base snapshot.20000004e 000000020000004e\npassed snapshot.2000000d6 S4\nend none' ]
 rm "$broken"/snapshot.20000004e "$broken"/log.*
 fails "S4 $snapshot" show "$broken" last
 
@@ -182,7 +186,7 @@ import struct, sys, zlib
 path = sys.argv[1]
 log = bytearray(open(path, "rb").read())
 size = struct.unpack_from(">I", log, 24)[0]
-log[28 + size - 9] ^= 1
+log[28 + size - 1] ^= 1
 struct.pack_into(">Q", log, 16, zlib.adler32(log[28 : 28 + size]))
 open(path, "wb").write(log)
 END
