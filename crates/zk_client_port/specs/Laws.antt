@@ -1,4 +1,4 @@
--- What holds of each connection, whatever is written to the others. ZooKeeper Programmer's Guide,
+-- What holds of each connection, with any output to the others. ZooKeeper Programmer's Guide,
 -- "Consistency Guarantees".
 use Rattle.std.specs.Prelude.{◌≡◌, ℕ, ℤ, ◌==◌, List, [], ◌∷◌, find, option_map, if◌then◌else◌}
 use Rattle.zk_client_port.specs.Outputs.{is_numbered, after_outputs}

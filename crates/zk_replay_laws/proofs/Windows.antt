@@ -307,7 +307,7 @@ abbrev pub all_replayed : DraftMap → List NewerRecord → DraftMap
 all_replayed d [] = d
 all_replayed d (r ∷ rs) = all_replayed (nodes_replayed d r) rs
 
--- a record that ends no session changes the same, whatever it lists
+-- a record that ends no session changes the same with any list
 abbrev ends_session : Op → Bool
 ends_session ops.CloseSession = true
 ends_session _ = false
