@@ -1,5 +1,6 @@
 pub mod Demands
 pub mod Laws
+pub mod Listings
 pub mod Outputs
 pub mod Ports
 pub mod Results

@@ -1,7 +1,8 @@
-ghost use Rattle.std.specs.Prelude.{◌≡◌, [], length, map, IfOk, OnOk};
+ghost use Rattle.std.specs.Prelude.{◌≡◌, [], length, map, nat_eq, if◌then◌else◌, IfOk, OnOk, OnErr};
 ghost use Rattle.std.specs.List.{list_any};
 ghost use Rattle.std.specs.Ordering.{int_eq};
-ghost use Rattle.zk_client_port.specs.Ports.{closed_if, cut_off_if, is_among, is_selected, numbers_over};
+ghost use Rattle.zk_client_port.specs.Ports.{all_detached, closed_if, cut_off_if, is_among, is_selected, numbers_over, without_over, without_requests};
+ghost use Rattle.zk_client_port.specs.declared.client_port.Selection.TheVariants as selections;
 ghost use Rattle.zab_host.specs.Hosts.{IsStored};
 
 use crate::admission::Admission;
@@ -21,6 +22,7 @@ use zk_host::{ReleaseFault, ReplicaHost};
 use zk_hub::{Hub, News};
 use zk_path::NoMemory;
 use zk_requests::Call;
+use zk_sessions::ClientSessions;
 use zk_watch::Fired;
 
 /// A server's connections, and their outstanding requests.
@@ -205,23 +207,38 @@ impl ClientPort {
             .is_err()
             {
                 connection.cut_off();
+                self.cut_off_if_lost();
             }
         }
     }
 
-    /// Removes the connections that are over, and takes them from their sessions. Returns their
-    /// numbers.
+    /// Cuts off all connections if there are no outstanding requests: a failed allocation may have
+    /// lost those of all, whose replies would never come.
+    fn cut_off_if_lost(&mut self)
+        ensures connections { self.new.connections.items ≡ (if nat_eq (length self.old.hub) 0 then map (cut_off_if selections.All) self.old.connections.items else self.old.connections.items) }
+        ensures hub { self.new.hub ≡ self.old.hub }
+    {
+        if self.hub.len() == 0 {
+            self.cut_off(Selection::All);
+        }
+    }
+
+    /// Removes the connections that are over with their outstanding requests, and takes them from
+    /// their sessions. Returns their numbers. After an allocation failure, nothing has changed.
     pub fn remove_over(
         &mut self,
         alloc: Global,
         admission: &mut Admission,
-    ) -> Result<Vec<u64>, NoMemory> {
+    ) -> Result<Vec<u64>, NoMemory>
+        ensures numbers { IfOk result (λ over. over.items ≡ numbers_over self.old.connections.items) }
+        ensures connections { OnOk result (self.new.connections.items ≡ without_over self.old.connections.items) }
+        ensures hub { OnOk result (self.new.hub ≡ without_requests (numbers_over self.old.connections.items) self.old.hub) }
+        ensures sessions { OnOk result (admission.new ≡ record admission.old { sessions = all_detached (numbers_over self.old.connections.items) admission.old.sessions }) }
+        ensures unchanged { OnErr result ((self.new ≡ self.old) × (admission.new ≡ admission.old)) }
+    {
         let over = numbers_over(alloc, &self.connections)?;
-        for number in &over {
-            self.hub.close(*number);
-            admission.sessions.detach(*number);
-        }
-        self.connections.retain(|it| !it.is_over());
+        forget_all(&mut self.hub, &mut admission.sessions, &over);
+        retain_open(&mut self.connections);
         Ok(over)
     }
 
@@ -280,6 +297,23 @@ fn has(ended: &[i64], session: i64) -> bool
     ensures { result ≡ list_any (λ it. int_eq it session) ended.now }
 {
     ended.iter().any(|it| *it == session)
+}
+
+/// Drops the outstanding requests of connections, and takes them from their sessions.
+fn forget_all(hub: &mut Hub<Expected, Outcome>, sessions: &mut ClientSessions, numbers: &[u64])
+    ensures hub { hub.new ≡ without_requests numbers.now hub.old }
+    ensures sessions { sessions.new ≡ all_detached numbers.now sessions.old }
+{
+    for number in numbers {
+        hub.close(*number);
+        sessions.detach(*number);
+    }
+}
+
+fn retain_open(connections: &mut Vec<Connection>)
+    ensures { connections.new.items ≡ without_over connections.old.items }
+{
+    connections.retain(|it| !it.is_over());
 }
 
 fn numbers_over(alloc: Global, connections: &[Connection]) -> Result<Vec<u64>, NoMemory>

@@ -10,6 +10,7 @@ mod client_port;
 mod demand;
 mod expected;
 pub mod laws;
+mod listing;
 mod outputs;
 mod reading;
 mod result;

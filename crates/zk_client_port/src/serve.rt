@@ -100,6 +100,9 @@ fn known(connection: u64, expected: Expected) -> Outstanding<Expected, Outcome> 
     }
 }
 
+/// The nodes of a tree without entries: the root, `/zookeeper` and `/zookeeper/quota`.
+const FIRST_NODES: usize = 3;
+
 /// What a server replies to four-letter words.
 fn status_of<S: Storage>(
     host: &ReplicaHost<S>,
@@ -108,7 +111,7 @@ fn status_of<S: Storage>(
 ) -> Result<Status, NoMemory> {
     let nodes = match host.tree() {
         Some(tree) => tree.paths()?.len(),
-        None => 0,
+        None => FIRST_NODES,
     };
     Ok(Status {
         mode: moment.mode,
@@ -174,7 +177,8 @@ fn push(
     }
 }
 
-/// Writes the reply to a four-letter word, and closes the connection.
+/// Writes the reply to a four-letter word, and closes the connection; if the reply is a list, it is
+/// written after the turn of all connections.
 fn print<S: Storage>(
     alloc: Global,
     host: &ReplicaHost<S>,
@@ -184,8 +188,10 @@ fn print<S: Storage>(
     word: Word,
 ) -> Result<bool, NoMemory> {
     let status = status_of(host, hub, moment)?;
-    let text = text_of(alloc, word, &status)?;
-    connection.write_text(text.as_str())?;
+    match text_of(alloc, word, &status)? {
+        Some(text) => connection.write_text(text.as_str())?,
+        None => connection.await_listing(word),
+    }
     Ok(false)
 }
 
@@ -267,8 +273,8 @@ fn read<S: Storage>(
     }
 }
 
-/// Takes what a connection has sent: frame by frame, until an earlier read of it waits, or the
-/// server has too many requests. After an error, the connection is lost.
+/// Takes what a connection has sent: frame by frame, until an earlier read of it waits, too many of
+/// its bytes are unsent, or the server has too many requests. After an error, the connection is lost.
 pub(crate) fn serve<S: Storage, Q: Quorums>(
     alloc: Global,
     host: &mut ReplicaHost<S>,
@@ -285,7 +291,8 @@ pub(crate) fn serve<S: Storage, Q: Quorums>(
         flush(alloc, host, hub, connection, admission, moment)?;
     }
     'frames: for _ in 0..=connection.unread_len() {
-        if hub.is_blocked(connection.number()) || hub.len() >= MOST_OUTSTANDING {
+        let waits = hub.is_blocked(connection.number()) || connection.is_slow();
+        if waits || hub.len() >= MOST_OUTSTANDING {
             return Ok(());
         }
         let Some(taken) = connection.take(alloc)? else {

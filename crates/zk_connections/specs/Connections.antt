@@ -4,6 +4,7 @@ use Rattle.std.specs.Prelude.{ℕ, ℤ, pos, List, [], ◌∷◌, ◌++◌, leng
 use Rattle.zk_connections.specs.declared.connection.Connection.{Connection}
 use Rattle.zk_connections.specs.declared.connection.Phase.{Phase}
 use Rattle.zk_connections.specs.declared.connection.Phase.TheVariants.{New, Connected}
+use Rattle.zk_connections.specs.declared.word.Word.{Word}
 use Rattle.zk_frames.specs.Frames.{framed}
 use Rattle.zk_frames.specs.Replies.{connect_response_of}
 use Rattle.zk_frames.specs.declared.reply.ConnectResponse.{ConnectResponse}
@@ -18,10 +19,12 @@ use Rattle.zk_machine.specs.declared.change.ChangeKind.{ChangeKind}
 abbrev pub new_connection : ℕ → Connection
 new_connection number = record {
   number = number;
+  peer = None;
   phase = New;
   watches = [];
   input = [];
   output = [];
+  listing = None;
   ends = false;
   closes = false;
 }
@@ -99,7 +102,17 @@ session_in other = None
 abbrev pub session_of : Connection → Option ℤ
 session_of it = session_in it.phase
 
+-- ---- a client that does not read
+
+-- no more of its input is taken: more than 1 MB waits to be sent
+abbrev pub is_slow : Connection → Bool
+is_slow it = nat_lt 1048576 (length it.output)
+
 -- ---- the end
+
+-- the word whose reply is a list that is not written yet
+abbrev pub awaited : Connection → Option Word
+awaited it = if it.closes then None else it.listing
 
 -- what waits to be sent is dropped
 abbrev pub lost : Connection → Connection

@@ -1,4 +1,5 @@
 pub mod Connections
 pub mod Inputs
+pub mod Listings
 pub mod Statuses
 pub mod Words

@@ -1,12 +1,12 @@
 -- A server's replies to four-letter words. ZooKeeper Administrator's Guide, "The Four Letter
 -- Words".
-use Rattle.std.specs.Prelude.{ℕ, List, ◌++◌, false, codes}
+use Rattle.std.specs.Prelude.{ℕ, List, ◌++◌, false, Option, Some, None, codes}
 use Rattle.std.specs.Fmt.{decimal, digits}
 use Rattle.zk_connections.specs.declared.status.Mode.{Mode}
 use Rattle.zk_connections.specs.declared.status.Mode.TheVariants as modes
 use Rattle.zk_connections.specs.declared.status.Status.{Status}
 use Rattle.zk_connections.specs.declared.word.Word.{Word}
-use Rattle.zk_connections.specs.declared.word.Word.TheVariants.{Ruok, Srvr, Stat, Mntr, Isro}
+use Rattle.zk_connections.specs.declared.word.Word.TheVariants.{Ruok, Srvr, Stat, Mntr, Isro, Cons, Dump}
 
 abbrev pub mode_text : Mode → List ℕ
 mode_text modes.Leader = codes "leader"
@@ -35,13 +35,15 @@ mntr_text status =
     ++ counted (codes "zk_outstanding_requests\t") status.outstanding
     ++ named (codes "zk_server_state\t") (mode_text status.mode) ++ counted (codes "zk_znode_count\t") status.nodes
 
--- from a server that has a leader
-abbrev pub serving_text : Word → Status → List ℕ
-serving_text Ruok status = codes "imok"
-serving_text Isro status = codes "rw"
-serving_text Srvr status = srvr_text status
-serving_text Stat status = srvr_text status
-serving_text Mntr status = mntr_text status
+-- from a server that has a leader; the others list what is not in its statistics
+abbrev pub serving_text : Word → Status → Option (List ℕ)
+serving_text Ruok status = Some (codes "imok")
+serving_text Isro status = Some (codes "rw")
+serving_text Srvr status = Some (srvr_text status)
+serving_text Stat status = Some (srvr_text status)
+serving_text Mntr status = Some (mntr_text status)
+serving_text Cons status = None
+serving_text Dump status = None
 
 -- from a server that has none
 abbrev pub looking_text : Word → List ℕ
@@ -49,9 +51,9 @@ looking_text Ruok = codes "imok"
 looking_text Isro = codes "null"
 looking_text other = codes "This ZooKeeper instance is not currently serving requests\n"
 
-abbrev pub text_by : Mode → Word → Status → List ℕ
-text_by modes.Looking word status = looking_text word
+abbrev pub text_by : Mode → Word → Status → Option (List ℕ)
+text_by modes.Looking word status = Some (looking_text word)
 text_by other word status = serving_text word status
 
-abbrev pub text_of : Word → Status → List ℕ
+abbrev pub text_of : Word → Status → Option (List ℕ)
 text_of word status = text_by status.mode word status

@@ -1,8 +1,10 @@
-ghost use Rattle.std.specs.Prelude.{◌≡◌};
+ghost use Rattle.std.specs.Prelude.{◌≡◌, Some};
 ghost use Rattle.zk_connections.specs.Connections.{new_connection};
 
 use crate::byte_queue::ByteQueue;
+use crate::word::Word;
 use std::alloc::Global;
+use std::net::SocketAddr;
 use zk_links::{ConnectionWatches, Link};
 
 /// How far a connection has come.
@@ -23,12 +25,16 @@ pub enum Phase {
 pub struct Connection {
     /// Its number. No other connection of the ensemble has or had it.
     pub(crate) number: u64,
+    /// Its client's address, once that is set.
+    pub(crate) peer: Option<SocketAddr>,
     pub(crate) phase: Phase,
     pub(crate) watches: ConnectionWatches,
     /// What was heard, and is not taken yet.
     pub(crate) input: ByteQueue,
     /// What was written, and is not sent yet.
     pub(crate) output: ByteQueue,
+    /// The word that it has sent, if the reply is a list that is not written yet.
+    pub(crate) listing: Option<Word>,
     /// No more is taken.
     pub(crate) ends: bool,
     /// It closes once its output is sent.
@@ -39,18 +45,30 @@ impl Connection {
     /// The most bytes of output that may wait, before a client that does not read is cut off.
     pub const MOST_OUTPUT: usize = 4_194_304;
 
+    /// The most bytes of output that may wait while more of the client's input is taken.
+    pub const ENOUGH_OUTPUT: usize = 1_048_576;
+
     /// Allocates no memory.
     pub fn new(alloc: Global, number: u64) -> Connection
         ensures { result ≡ new_connection number }
     {
         Connection {
             number,
+            peer: None,
             phase: Phase::New,
             watches: ConnectionWatches::new(alloc),
             input: ByteQueue::new(alloc),
             output: ByteQueue::new(alloc),
+            listing: None,
             ends: false,
             closes: false,
         }
+    }
+
+    /// Sets its client's address.
+    pub fn set_peer(&mut self, peer: SocketAddr)
+        ensures { self.new ≡ record self.old { peer = Some peer } }
+    {
+        self.peer = Some(peer);
     }
 }

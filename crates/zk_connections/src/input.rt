@@ -1,4 +1,4 @@
-ghost use Rattle.std.specs.Prelude.{◌≡◌, ◌+◌, ◌≤◌, length, IfOk, IfSome, OnOk, OnErr};
+ghost use Rattle.std.specs.Prelude.{◌≡◌, ◌+◌, ◌≤◌, length, IfOk, IfNone, IfSome, OnOk, OnErr};
 ghost use Rattle.zk_connections.specs.Inputs.{heard, broken, frame_in, ends_by, taken_connect, taken_frame, taken_of, taken_first, taken_request, wants_input};
 ghost use Rattle.zk_frames.specs.Frames.{next_frame_in};
 
@@ -61,7 +61,8 @@ impl Connection {
     /// connection waits for its session, or has ended. After an allocation failure, the connection
     /// is lost.
     pub fn take(&mut self, alloc: Global) -> Result<Option<Taken>, NoMemory>
-        ensures { IfOk result (λ taken. taken_of self.old ≡ (self.new, taken)) }
+        ensures taken { IfOk result (λ taken. taken_of self.old ≡ (self.new, taken)) }
+        ensures idle { IfOk result (λ taken. IfNone taken (self.new ≡ self.old)) }
     {
         if self.ends {
             return Ok(None);
@@ -75,7 +76,8 @@ impl Connection {
 
     /// Takes a four-letter word or a connect request.
     fn take_first(&mut self, alloc: Global) -> Result<Option<Taken>, NoMemory>
-        ensures { IfOk result (λ taken. taken_first self.old ≡ (self.new, taken)) }
+        ensures taken { IfOk result (λ taken. taken_first self.old ≡ (self.new, taken)) }
+        ensures idle { IfOk result (λ taken. IfNone taken (self.new ≡ self.old)) }
     {
         if let Some(word) = word_in(self.input.as_slice()) {
             self.ends = true;
@@ -91,7 +93,8 @@ impl Connection {
     /// Takes a connect request of this length.
     fn take_connect(&mut self, alloc: Global, count: usize) -> Result<Option<Taken>, NoMemory>
         requires { 4 + count ≤ length self.old.input }
-        ensures { IfOk result (λ taken. taken_connect count self.old ≡ (self.new, taken)) }
+        ensures taken { IfOk result (λ taken. taken_connect count self.old ≡ (self.new, taken)) }
+        ensures idle { IfOk result (λ taken. IfNone taken (self.new ≡ self.old)) }
     {
         let frame = frame_in(self.input.as_slice(), count);
         let request = match read_connect_request(alloc, frame) {
@@ -106,7 +109,8 @@ impl Connection {
 
     /// Takes a frame of the session.
     fn take_request(&mut self, alloc: Global) -> Result<Option<Taken>, NoMemory>
-        ensures { IfOk result (λ taken. taken_request self.old ≡ (self.new, taken)) }
+        ensures taken { IfOk result (λ taken. taken_request self.old ≡ (self.new, taken)) }
+        ensures idle { IfOk result (λ taken. IfNone taken (self.new ≡ self.old)) }
     {
         match first_frame(self.input.as_slice()) {
             Ok(Some(count)) => self.take_frame(alloc, count),
@@ -118,7 +122,8 @@ impl Connection {
     /// Takes a frame of this length.
     fn take_frame(&mut self, alloc: Global, count: usize) -> Result<Option<Taken>, NoMemory>
         requires { 4 + count ≤ length self.old.input }
-        ensures { IfOk result (λ taken. taken_frame self.old.phase count self.old ≡ (self.new, taken)) }
+        ensures taken { IfOk result (λ taken. taken_frame self.old.phase count self.old ≡ (self.new, taken)) }
+        ensures idle { IfOk result (λ taken. IfNone taken (self.new ≡ self.old)) }
     {
         let Phase::Connected(link) = &mut self.phase else {
             return Ok(None);

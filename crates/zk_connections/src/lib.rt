@@ -7,6 +7,7 @@
 mod byte_queue;
 mod connection;
 mod input;
+mod listing;
 mod output;
 mod status;
 mod word;
@@ -14,5 +15,6 @@ mod word;
 pub use byte_queue::ByteQueue;
 pub use connection::{Connection, Phase};
 pub use input::Taken;
+pub use listing::{OwnedNodes, connections_text, sessions_text};
 pub use status::{Mode, Status, text_of};
 pub use word::Word;

@@ -1,10 +1,11 @@
-ghost use Rattle.std.specs.Prelude.{◌≡◌, drop, length, OnOk, OnErr, nat_lt};
-ghost use Rattle.zk_connections.specs.Connections.{with_event, with_reply, with_immediate, with_session, with_no_session, with_output, closing, lost, is_over, is_new, session_of};
+ghost use Rattle.std.specs.Prelude.{◌≡◌, drop, length, OnOk, OnErr, nat_lt, Some};
+ghost use Rattle.zk_connections.specs.Connections.{with_event, with_reply, with_immediate, with_session, with_no_session, with_output, awaited, closing, lost, is_over, is_slow, is_new, session_of};
 ghost use Rattle.zk_frames.specs.Frames.{framed};
 ghost use Rattle.zk_frames.specs.Replies.{connect_response_of};
 ghost use Rattle.zk_links.specs.ConnectionWatches.{after_read, has_any, without_any};
 
 use crate::connection::{Connection, Phase};
+use crate::word::Word;
 use std::alloc::Global;
 use zk_frames::{ConnectResponse, FrameFault, write_connect_response};
 use zk_links::{ExpectedReply, Immediate, Link, Reply, WatcherType};
@@ -163,6 +164,23 @@ impl Connection {
         self.watches.remove(kind, path)
     }
 
+    /// Records that the reply to this word is a list, which is written later.
+    pub fn await_listing(&mut self, word: Word)
+        ensures { self.new ≡ record self.old { listing = Some word } }
+    {
+        self.listing = Some(word);
+    }
+
+    /// The word whose reply is a list that is not written yet.
+    pub fn listing(&self) -> Option<Word>
+        ensures { result ≡ awaited self.now }
+    {
+        if self.closes {
+            return None;
+        }
+        self.listing
+    }
+
     /// Closes once what is written is sent.
     pub fn close(&mut self)
         ensures { self.new ≡ closing self.old }
@@ -191,6 +209,20 @@ impl Connection {
         ensures { self.new ≡ record self.old { output = drop count self.old.output } }
     {
         self.output.remove(count);
+    }
+
+    /// Whether its client reads more slowly than it asks: no more of its input is to be taken.
+    pub fn is_slow(&self) -> bool
+        ensures { result ≡ is_slow self.now }
+    {
+        self.output.len() > Connection::ENOUGH_OUTPUT
+    }
+
+    /// Whether it closes once its output is sent.
+    pub fn is_closing(&self) -> bool
+        ensures { result ≡ self.now.closes }
+    {
+        self.closes
     }
 
     /// Whether its client has read so little that it is to be cut off.

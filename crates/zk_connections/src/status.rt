@@ -1,4 +1,5 @@
 ghost use Rattle.std.specs.Prelude.{◌≡◌, ◌++◌, IfOk, OnOk};
+ghost use Rattle.std.specs.Option.{option_map};
 ghost use Rattle.std.specs.String.{string_bytes};
 ghost use Rattle.zk_connections.specs.Statuses.{counted, named, zxid_line, mode_text, srvr_text, mntr_text, serving_text, looking_text, text_of};
 
@@ -84,15 +85,17 @@ fn mntr_text(alloc: Global, status: &Status) -> Result<String, NoMemory>
 }
 
 /// The reply of a server that has a leader.
-fn serving_text(alloc: Global, word: Word, status: &Status) -> Result<String, NoMemory>
-    ensures { IfOk result (λ text. string_bytes text ≡ serving_text word status.now) }
+fn serving_text(alloc: Global, word: Word, status: &Status) -> Result<Option<String>, NoMemory>
+    ensures { IfOk result (λ text. option_map string_bytes text ≡ serving_text word status.now) }
 {
-    match word {
-        Word::Ruok => Ok(String::from_str(alloc, "imok")?),
-        Word::Isro => Ok(String::from_str(alloc, "rw")?),
-        Word::Srvr | Word::Stat => srvr_text(alloc, status),
-        Word::Mntr => mntr_text(alloc, status),
-    }
+    let text = match word {
+        Word::Ruok => String::from_str(alloc, "imok")?,
+        Word::Isro => String::from_str(alloc, "rw")?,
+        Word::Srvr | Word::Stat => srvr_text(alloc, status)?,
+        Word::Mntr => mntr_text(alloc, status)?,
+        Word::Cons | Word::Dump => return Ok(None),
+    };
+    Ok(Some(text))
 }
 
 /// The reply of a server that has no leader.
@@ -102,21 +105,25 @@ fn looking_text(alloc: Global, word: Word) -> Result<String, NoMemory>
     let text = match word {
         Word::Ruok => "imok",
         Word::Isro => "null",
-        Word::Srvr | Word::Stat | Word::Mntr => {
+        Word::Srvr | Word::Stat | Word::Mntr | Word::Cons | Word::Dump => {
             "This ZooKeeper instance is not currently serving requests\n"
         }
     };
     Ok(String::from_str(alloc, text)?)
 }
 
-/// A server's reply to a four-letter word.
+/// A server's reply to a four-letter word; `None` if the server has a leader and the word asks for
+/// lists, which [`connections_text`] and [`sessions_text`] write.
 ///
 /// ZooKeeper Administrator's Guide, "The Four Letter Words".
-pub fn text_of(alloc: Global, word: Word, status: &Status) -> Result<String, NoMemory>
-    ensures { IfOk result (λ text. string_bytes text ≡ text_of word status.now) }
+///
+/// [`connections_text`]: crate::connections_text
+/// [`sessions_text`]: crate::sessions_text
+pub fn text_of(alloc: Global, word: Word, status: &Status) -> Result<Option<String>, NoMemory>
+    ensures { IfOk result (λ text. option_map string_bytes text ≡ text_of word status.now) }
 {
     match status.mode {
-        Mode::Looking => looking_text(alloc, word),
+        Mode::Looking => Ok(Some(looking_text(alloc, word)?)),
         Mode::Leader | Mode::Follower => serving_text(alloc, word, status),
     }
 }

@@ -16,6 +16,10 @@ pub enum Word {
     Mntr,
     /// Whether the server is read-only.
     Isro,
+    /// The server's connections.
+    Cons,
+    /// The sessions, and the ephemeral nodes of each.
+    Dump,
 }
 
 fn word_of(bytes: &[u8]) -> Option<Word>
@@ -27,6 +31,8 @@ fn word_of(bytes: &[u8]) -> Option<Word>
         b"stat" => Some(Word::Stat),
         b"mntr" => Some(Word::Mntr),
         b"isro" => Some(Word::Isro),
+        b"cons" => Some(Word::Cons),
+        b"dump" => Some(Word::Dump),
         _ => None,
     }
 }

@@ -1,9 +1,13 @@
 //! A connection as a real 3.8 server and kazoo 2.8 held it, by the bytes of their sockets.
 
 use std::alloc::Global;
-use zk_connections::{Connection, Mode, Status, Taken, Word, text_of};
+use std::net::{Ipv4Addr, SocketAddr};
+use zk_connections::{
+    Connection, Mode, OwnedNodes, Status, Taken, Word, connections_text, sessions_text, text_of,
+};
 use zk_frames::ConnectResponse;
 use zk_links::{Action, Immediate};
+use zk_path::Path;
 
 /// kazoo's first frame, with its length.
 const CONNECT: &[u8] =
@@ -80,6 +84,8 @@ fn an_expired_session_is_rejected(rt: HostRuntime) {
     assert!(rt; connection.wants_input());
     assert!(rt; connection.reject_session(rt.alloc(), None).is_ok());
     assert!(rt; connection.unsent().len() == 40);
+    assert!(rt; !connection.is_slow());
+    assert!(rt; connection.is_closing());
     assert!(rt; !connection.wants_input());
     connection.cut_off();
     assert!(rt; connection.is_over());
@@ -101,7 +107,7 @@ fn words_have_their_replies(rt: HostRuntime) {
         panic!(rt; "no word");
     };
     assert!(rt; word == Word::Srvr);
-    let Ok(text) = text_of(rt.alloc(), word, &status) else {
+    let Ok(Some(text)) = text_of(rt.alloc(), word, &status) else {
         panic!(rt; "no text");
     };
     assert!(rt;
@@ -110,4 +116,57 @@ fn words_have_their_replies(rt: HostRuntime) {
     );
     assert!(rt; connection.write_text(text.as_str()).is_ok());
     assert!(rt; connection.unsent() == text.as_str().as_bytes());
+}
+
+/// A client that has sent `cons` waits for a list.
+#[test]
+fn a_list_is_awaited(rt: HostRuntime) {
+    let mut connection = Connection::new(rt.alloc(), 1);
+    connection.await_listing(Word::Cons);
+    assert!(rt; connection.listing() == Some(Word::Cons));
+    connection.close();
+    assert!(rt; connection.listing().is_none());
+}
+
+/// The connection of a client at this port.
+fn connected_from(alloc: Global, port: u16) -> Option<Connection> {
+    let mut connection = connected(alloc)?;
+    connection.set_peer(SocketAddr::from((Ipv4Addr::LOCALHOST, port)));
+    Some(connection)
+}
+
+/// As a 3.8 server writes them, without its counts of packets and its latencies.
+#[test]
+fn connections_are_listed(rt: HostRuntime) {
+    let Some(connection) = connected_from(rt.alloc(), 45576) else {
+        panic!(rt; "no session");
+    };
+    let connections = [connection, Connection::new(rt.alloc(), 8)];
+    let Ok(text) = connections_text(rt.alloc(), &connections) else {
+        panic!(rt; "no text");
+    };
+    assert!(rt; text.as_str() == " /127.0.0.1:45576[1](sid=0x100001bf01f0000)\n /unknown[1]()\n\n");
+}
+
+/// As a 3.8 follower writes them, without the times at which connections expire.
+#[test]
+fn sessions_are_listed(rt: HostRuntime) {
+    let Some(connection) = connected_from(rt.alloc(), 45576) else {
+        panic!(rt; "no session");
+    };
+    let Ok(path) = Path::read(rt.alloc(), "/e1") else {
+        panic!(rt; "no path");
+    };
+    let mut paths = Vec::new(rt.alloc());
+    assert!(rt; paths.push(path).is_ok());
+    let session = 0x0100_001b_f01f_0000;
+    let owned = [OwnedNodes { session, paths }];
+    let sessions = [(session, 6000)];
+    let Ok(text) = sessions_text(rt.alloc(), &[connection], &sessions, &owned) else {
+        panic!(rt; "no text");
+    };
+    assert!(rt;
+        text.as_str()
+            == "SessionTracker dump:\nGlobal Sessions(1):\n0x100001bf01f0000\t6000ms\nephemeral nodes dump:\nSessions with Ephemerals (1):\n0x100001bf01f0000:\n\t/e1\nConnections dump:\n\tip: /127.0.0.1:45576 sessionId: 0x100001bf01f0000\n"
+    );
 }

@@ -4,6 +4,7 @@ ghost use Rattle.zab_host.specs.Durability.{IsPartialStore};
 ghost use Rattle.zab_host.specs.Hosts.{IsStored};
 ghost use Rattle.zk_delivery.specs.Deliveries.{hub_news, news_at};
 ghost use Rattle.zk_host.specs.Delivered.{delivered_in, closed_in};
+ghost use Rattle.zk_host.specs.Failures.{CannotRead};
 ghost use Rattle.zk_host.specs.WatchedTrees.{after_entries, after_read};
 ghost use Rattle.zk_host.specs.declared.fault.ReadFault.TheVariants as read_faults;
 ghost use Rattle.zk_hub.specs.Deliveries.{outputs_of, left_after};
@@ -127,7 +128,11 @@ pub fn read<S: Storage>(
     ensures behind { int_lt host.old.tree.tree.last question.now.seen ≡ true
         → IsErrOf result (read_faults.Behind question.now.seen host.old.tree.tree.last) }
     ensures near { OnOk result (int_lt host.old.tree.tree.last question.now.seen ≡ false) }
+    ensures fault { IfErr result (CannotRead question.now host.old.tree) }
+    ensures unchanged { OnErr result (host.new.tree ≡ host.old.tree) }
     ensures written { host.new.tree.news ≡ [] }
+    ensures tree { host.new.tree.tree ≡ host.old.tree.tree }
+    ensures rest { (host.new.host ≡ host.old.host) × ((host.new.shown ≡ host.old.shown) × (host.new.tags ≡ host.old.tags)) }
 {
     host.read(connection, question)
 }

@@ -26,6 +26,14 @@ use Rattle.zk_peers.specs.Places.{host_in, is_up, after_crash, Restarts, TakesRo
 abbrev pub is_server : {S : Type 0} → List (Place S) → ℕ → Bool
 is_server places server = nat_lt 0 server && nat_le server (length places)
 
+-- two servers have a link
+abbrev pub is_link : {S : Type 0} → List (Place S) → ℕ → ℕ → Bool
+is_link places one other = is_server places one && (is_server places other && not (one == other))
+
+-- the place of a server
+abbrev pub place_at : {S : Type 0} → List (Place S) → ℕ → Option (Place S)
+place_at places server = if server == 0 then None else slice_get places (server - 1)
+
 abbrev pub host_of : {S : Type 0} → Option (Place S) → Option (ReplicaHost S)
 host_of None = None
 host_of (Some place) = host_in place

@@ -47,9 +47,11 @@ impl<S: Storage + Drop> Drop for Peers<S> {
 
 impl<S: Storage> Peers<S> {
     ghost use Rattle.std.specs.Prelude.{◌≡◌, ◌≤◌, ◌<◌, ◌++◌, ◌∷◌, [], length, nat_lt, Some, None, true, false, IfOk, OnOk, OnErr, IsErrOf};
-    ghost use Rattle.std.specs.Option.{option_map};
+    ghost use Rattle.std.specs.Borrow.{sem};
+    ghost use Rattle.std.specs.Option.{option_copied_mut, option_map};
+    ghost use Rattle.zk_peers.specs.Lending.{lends_place};
     ghost use Rattle.zk_peers.specs.Links.{is_cut, with_cut, listed};
-    ghost use Rattle.zk_peers.specs.Peers.{is_server, host_at, is_up_at, has_quorum, candidate, candidates, is_leading_host, is_led, serves, is_leader, state_of, SameAround, Starts, Leads, Elects, Rejoin, Heals, FollowsIf, Crashes, RestartsAt, Receives};
+    ghost use Rattle.zk_peers.specs.Peers.{is_server, is_link, host_at, is_up_at, place_at, has_quorum, candidate, candidates, is_leading_host, is_led, serves, is_leader, state_of, SameAround, Starts, Leads, Elects, Rejoin, Heals, FollowsIf, Crashes, RestartsAt, Receives};
     ghost use Rattle.zk_peers.specs.declared.fault.PeersFault.TheVariants as faults;
 
     /// Starts 2 to 15 servers, each on its store. They have no leader, and all links are healthy.
@@ -91,7 +93,10 @@ impl<S: Storage> Peers<S> {
     }
 
     /// The place of a server, borrowed; `None` if no server has the number.
-    pub fn place_mut(&mut self, server: usize) -> Option<&mut Place<S>> {
+    pub fn place_mut(&mut self, server: usize) -> Option<&mut Place<S>>
+        ensures* writes_back { sem 𝓛 (lends_place S.row S.Storage self.entry server result) }
+        ensures value { option_copied_mut result ≡ place_at self.old.places.items server }
+    {
         if server == 0 {
             return None;
         }
@@ -273,6 +278,9 @@ impl<S: Storage> Peers<S> {
         ensures cut { OnOk result (self.new.cuts.items ≡ with_cut one other self.old.cuts.items) }
         ensures rest { (self.new.places ≡ self.old.places) × ((self.new.leader ≡ self.old.leader)
             × ((self.new.posted ≡ self.old.posted) × (self.new.arriving ≡ self.old.arriving))) }
+        ensures unknown { is_link self.old.places.items one other ≡ false → IsErrOf result faults.NoServer }
+        ensures known { OnOk result (is_link self.old.places.items one other ≡ true) }
+        ensures unchanged { OnErr result (self.new.cuts.items ≡ self.old.cuts.items) }
     {
         if !self.is_server(one) || !self.is_server(other) || one == other {
             return Err(PeersFault::NoServer);

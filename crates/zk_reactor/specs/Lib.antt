@@ -1,0 +1,3 @@
+pub mod Commands
+pub mod Ports
+pub mod Sockets

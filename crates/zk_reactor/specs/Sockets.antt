@@ -1,0 +1,72 @@
+-- What a connection hears of its socket, and what is sent to it. ZooKeeper Programmer's Guide,
+-- "ZooKeeper Sessions".
+use Rattle.std.specs.Prelude.{◌≡◌, ℕ, ◌+◌, ◌≤◌, ◌⊎◌, ◌==◌, ◌&&◌, nat_lt, not, List, length, take, drop, Option, Result, Ok, Err, if◌then◌else◌}
+use Rattle.std.specs.Io.KnownBytes.{Appends, ReadConsumes}
+use Rattle.std.specs.IoError.{error_kind}
+use Rattle.std.specs.declared.io.Error.{Error}
+use Rattle.std.specs.declared.io.ErrorKind.{ErrorKind}
+use Rattle.std.specs.declared.io.ErrorKind.TheVariants as kinds
+use Rattle.zk_connections.specs.Connections.{lost}
+use Rattle.zk_connections.specs.Inputs.{heard}
+use Rattle.zk_connections.specs.declared.connection.Connection.{Connection}
+use Rattle.zk_reactor.specs.declared.outcome.Outcome.{Outcome}
+use Rattle.zk_reactor.specs.declared.outcome.Outcome.TheVariants as outcomes
+
+abbrev pub failed_with : ErrorKind → Outcome
+failed_with kinds.WouldBlock = outcomes.Waits
+failed_with kinds.Interrupted = outcomes.Interrupted
+failed_with kind = outcomes.Failed
+
+abbrev pub outcome_of : Result ℕ Error → Outcome
+outcome_of (Ok n) = if n == 0 then outcomes.Ended else outcomes.Bytes n
+outcome_of (Err error) = failed_with (error_kind error)
+
+-- ---- reading
+
+-- The connection hears the first bytes of the chunk. It is lost if its client has ended, or for an
+-- error; and if memory runs out.
+abbrev pub HearsOutcome : Outcome → List ℕ → Connection → Connection → Type 0
+HearsOutcome outcomes.Ended chunk old new = new ≡ lost old
+HearsOutcome (outcomes.Bytes n) chunk old new = (new ≡ heard (take n chunk) old) ⊎ (new ≡ lost old)
+HearsOutcome outcomes.Waits chunk old new = new ≡ old
+HearsOutcome outcomes.Interrupted chunk old new = new ≡ old
+HearsOutcome outcomes.Failed chunk old new = new ≡ lost old
+
+-- of a socket with these bytes before and after, at most 65,536 are read and heard
+pub record HearsFrom (before after : Option (List ℕ)) (old new : Connection) : Type 0 where
+  pub chunk : List ℕ
+  pub few : length chunk ≡ 65536
+  pub returned : Result ℕ Error
+  pub consumes : ReadConsumes before after returned chunk
+  pub hears : HearsOutcome (outcome_of returned) chunk old new
+
+-- ---- writing
+
+-- the bytes that were taken are no longer to be sent
+abbrev pub without_sent : ℕ → Connection → Connection
+without_sent n it = record it { output = drop n it.output }
+
+abbrev pub after_write : Outcome → Connection → Connection
+after_write outcomes.Ended it = lost it
+after_write (outcomes.Bytes n) it = without_sent n it
+after_write outcomes.Waits it = it
+after_write outcomes.Interrupted it = it
+after_write outcomes.Failed it = lost it
+
+-- A socket with these bytes before and after takes the first bytes of the output. The others still
+-- wait, unless the connection is lost.
+pub record SendsTo (before after : Option (List ℕ)) (old new : Connection) : Type 0 where
+  pub count : ℕ
+  pub within : count ≤ length old.output
+  pub taken : Appends before after (take count old.output)
+  pub left : (new ≡ without_sent count old) ⊎ (new ≡ lost old)
+
+-- ---- ticks
+
+-- the ticks since a connection has been closing, up to 5
+abbrev pub ticks_after : ℕ → Connection → ℕ
+ticks_after ticks it = if it.closes then (if nat_lt ticks 5 then ticks + 1 else ticks) else 0
+
+-- its client does not read the rest
+abbrev pub after_tick : ℕ → Connection → Connection
+after_tick ticks it = if it.closes && not (nat_lt ticks 5) then lost it else it

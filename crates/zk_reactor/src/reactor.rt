@@ -1,0 +1,324 @@
+use crate::client::Client;
+use crate::clients::Clients;
+use crate::commands::execute;
+use crate::lines::Lines;
+use crate::setup::{ReactorFault, Settings};
+use crate::stops::Stops;
+use crate::stores::Stores;
+use mio::net::TcpListener;
+use mio::unix::SourceFd;
+use mio::{Events, Interest, Poll, Token};
+use std::alloc::Global;
+use std::io::{ErrorKind, Read};
+use std::net::{Net, SocketAddr};
+use std::time::Duration;
+use zab_host::Storage;
+use zk_client_service::ClientService;
+
+/// The descriptor of standard input.
+const STANDARD_INPUT: i32 = 0;
+
+/// The token of standard input. Those of listeners are their server's number.
+const INPUT: usize = 0;
+
+/// The token of connection 0. Those of the others follow.
+const FIRST_CONNECTION: usize = 16;
+
+/// More connections than the system lets wait to be accepted. Each one that waits is accepted, or
+/// closed: the system reports the listener again only when another comes.
+const MOST_ACCEPTED: usize = 65_536;
+
+/// The time of a tick in milliseconds: half of a session's shortest timeout.
+const TICK: i64 = 2000;
+
+/// The rounds of mail before what is written is sent.
+const ROUNDS: usize = 64;
+
+/// How long the reactor waits if nothing happens, in milliseconds.
+const PAUSE: u64 = 500;
+
+/// The bytes that are read of standard input at once.
+const PAGE: usize = 4096;
+
+/// The sockets of an ensemble, and its servers.
+pub(crate) struct Reactor<S: Storage> {
+    alloc: Global,
+    poll: Poll,
+    listeners: Vec<TcpListener>,
+    clients: Clients,
+    service: ClientService<S>,
+    stops: Stops,
+    lines: Lines,
+    /// Whether there may be bytes of standard input.
+    is_typed: bool,
+    /// Whether standard input can be waited for. A file cannot: it is read at once.
+    waits_for_input: bool,
+    /// Whether standard input has ended.
+    has_ended: bool,
+    /// Whether the servers have something to do.
+    is_unsettled: bool,
+    /// The time of the last tick, in milliseconds.
+    ticked: i64,
+}
+
+impl<S: Storage + Drop> Drop for Reactor<S> {
+    fn drop(self) {
+        let Reactor {
+            alloc: _,
+            poll: _,
+            listeners: _,
+            clients: _,
+            service: _,
+            stops: _,
+            lines: _,
+            is_typed: _,
+            waits_for_input: _,
+            has_ended: _,
+            is_unsettled: _,
+            ticked: _,
+        } = self;
+    }
+}
+
+impl<S: Storage + Drop> Reactor<S> {
+    /// Starts the servers, each on its store, and listens on their ports.
+    pub(crate) fn start<N: Net>(
+        net: &N,
+        alloc: Global,
+        settings: &Settings,
+        storages: Vec<S>,
+        secret: [u8; 16],
+        now: i64,
+    ) -> Result<Reactor<S>, ReactorFault> {
+        let Ok(poll) = Poll::new(net) else {
+            return Err(ReactorFault::Listen);
+        };
+        let mut listeners = Vec::new(alloc);
+        for index in 0..settings.servers {
+            let listener = listen(net, &poll, settings, index)?;
+            listeners.push(listener)?;
+        }
+        let waits_for_input = poll
+            .registry()
+            .register(
+                &mut SourceFd(&STANDARD_INPUT),
+                Token(INPUT),
+                Interest::READABLE,
+            )
+            .is_ok();
+        Ok(Reactor {
+            alloc,
+            poll,
+            listeners,
+            clients: Clients::new(alloc, settings.most_connections),
+            service: ClientService::start(alloc, storages, secret, now)?,
+            stops: Stops::new(alloc),
+            lines: Lines::new(alloc),
+            is_typed: !waits_for_input,
+            waits_for_input,
+            has_ended: false,
+            is_unsettled: false,
+            ticked: now,
+        })
+    }
+
+    pub(crate) fn has_ended(&self) -> bool {
+        self.has_ended
+    }
+
+    /// Waits until a socket is ready, or a pause is over.
+    pub(crate) fn wait(&mut self, events: &mut Events<Global>) -> Result<(), ReactorFault> {
+        let pause = if self.has_work() { 0 } else { PAUSE };
+        match self.poll.poll(events, Some(Duration::from_millis(pause))) {
+            Ok(()) => Ok(()),
+            Err(error) if error.kind() == ErrorKind::Interrupted => Ok(()),
+            Err(_) => Err(ReactorFault::Listen),
+        }
+    }
+
+    /// Whether something was left undone, for the sake of others.
+    fn has_work(&mut self) -> bool {
+        self.is_unsettled
+            || (self.is_typed && !self.has_ended)
+            || self.clients.has_input(&mut self.service)
+    }
+
+    /// Records that a source is ready, and accepts connections.
+    pub(crate) fn note(&mut self, token: Token) -> Result<(), ReactorFault> {
+        let Token(token) = token;
+        if token == INPUT {
+            self.is_typed = true;
+            return Ok(());
+        }
+        if token < FIRST_CONNECTION {
+            return self.accept_all(token);
+        }
+        self.clients
+            .note(token.saturating_sub(FIRST_CONNECTION) as u64);
+        Ok(())
+    }
+
+    /// Accepts the connections to a server that wait.
+    fn accept_all(&mut self, server: usize) -> Result<(), ReactorFault> {
+        for _ in 0..MOST_ACCEPTED {
+            if !self.accept(server)? {
+                break;
+            }
+        }
+        Ok(())
+    }
+
+    /// Accepts a connection. Returns whether another may wait.
+    fn accept(&mut self, server: usize) -> Result<bool, ReactorFault> {
+        let Some(listener) = self.listeners.get(server.saturating_sub(1)) else {
+            return Ok(false);
+        };
+        let (mut stream, peer) = match listener.accept() {
+            Ok(accepted) => accepted,
+            Err(error) => return Ok(may_accept_more(error.kind())),
+        };
+        // The connections beyond the most are closed at once.
+        if !self.clients.has_room() {
+            return Ok(true);
+        }
+        let Some(number) = self.service.open(server)? else {
+            return Ok(true);
+        };
+        let _ = stream.set_nodelay(true);
+        if let Some(connection) = self.service.connection_mut(server, number) {
+            connection.set_peer(peer);
+        }
+        let registered = self.poll.registry().register(
+            &mut stream,
+            Token(token_of(number)),
+            Interest::READABLE | Interest::WRITABLE,
+        );
+        if registered.is_err() {
+            if let Some(connection) = self.service.connection_mut(server, number) {
+                connection.cut_off();
+            }
+            return Ok(true);
+        }
+        self.clients.push(Client {
+            server,
+            number,
+            stream,
+            readable: true,
+            ticks: 0,
+        })?;
+        Ok(true)
+    }
+
+    /// Reads what clients have sent, executes it, writes what it gives, and closes the connections
+    /// that are over. Returns the lines on servers that have stopped by themselves, or run again.
+    pub(crate) fn turn<O: Stores<S>>(
+        &mut self,
+        stores: &O,
+        now: i64,
+    ) -> Result<String, ReactorFault> {
+        let mut notices = String::new(self.alloc);
+        self.clients.read(&mut self.service);
+        if now.saturating_sub(self.ticked) >= TICK {
+            self.ticked = now;
+            self.stops
+                .restart(&mut self.service, stores, now, &mut notices)?;
+            self.clients.tick(&mut self.service);
+            self.service.elect_if_lost(now)?;
+            self.service.expire(now)?;
+        }
+        self.is_unsettled = self.service.turn_for(ROUNDS, now)?;
+        self.stops.note(&mut self.service, &mut notices)?;
+        self.flush()?;
+        Ok(notices)
+    }
+
+    /// Writes what is written to clients, and closes the connections that are over.
+    fn flush(&mut self) -> Result<(), ReactorFault> {
+        if self.clients.write(&mut self.service) {
+            self.is_unsettled = true;
+        }
+        for server in 1..=self.service.len() {
+            for number in self.service.remove_over(server)? {
+                self.clients.remove(number);
+            }
+        }
+        Ok(())
+    }
+
+    /// Reads commands of standard input, and executes them. Returns what they print.
+    pub(crate) fn obey<I: Read, O: Stores<S>>(
+        &mut self,
+        input: &mut I,
+        stores: &O,
+        now: i64,
+    ) -> Result<String, ReactorFault> {
+        let mut printed = String::new(self.alloc);
+        if !self.is_typed || self.has_ended {
+            return Ok(printed);
+        }
+        self.read_input(input)?;
+        for _ in 0..=PAGE {
+            let Some(line) = self.lines.take(self.alloc)? else {
+                break;
+            };
+            let text = execute(self.alloc, &mut self.service, stores, line.as_slice(), now)?;
+            printed.push_str(text.as_str())?;
+        }
+        self.flush()?;
+        Ok(printed)
+    }
+
+    fn read_input<I: Read>(&mut self, input: &mut I) -> Result<(), ReactorFault> {
+        let mut page = [0u8; PAGE];
+        match input.read(&mut page) {
+            Ok(0) => self.has_ended = true,
+            Ok(count) => self.lines.push(&page[..count])?,
+            Err(error) if error.kind() == ErrorKind::Interrupted => (),
+            Err(_) => self.has_ended = true,
+        }
+        if self.waits_for_input {
+            self.is_typed = false;
+            let again = self.poll.registry().reregister(
+                &mut SourceFd(&STANDARD_INPUT),
+                Token(INPUT),
+                Interest::READABLE,
+            );
+            if again.is_err() {
+                self.has_ended = true;
+            }
+        }
+        Ok(())
+    }
+}
+
+/// Whether another connection may wait after an error of `accept`.
+fn may_accept_more(kind: ErrorKind) -> bool {
+    matches!(kind, ErrorKind::ConnectionAborted | ErrorKind::Interrupted)
+}
+
+fn token_of(number: u64) -> usize {
+    FIRST_CONNECTION.saturating_add(number as usize)
+}
+
+/// Listens on the port of the server at an index.
+fn listen<N: Net>(
+    net: &N,
+    poll: &Poll,
+    settings: &Settings,
+    index: usize,
+) -> Result<TcpListener, ReactorFault> {
+    let Some(port) = settings.port_at(index) else {
+        return Err(ReactorFault::Listen);
+    };
+    let Ok(mut listener) = TcpListener::bind(net, SocketAddr::from((settings.address, port))) else {
+        return Err(ReactorFault::Listen);
+    };
+    let token = Token(index.saturating_add(1));
+    match poll
+        .registry()
+        .register(&mut listener, token, Interest::READABLE)
+    {
+        Ok(()) => Ok(listener),
+        Err(_) => Err(ReactorFault::Listen),
+    }
+}
