@@ -1,0 +1,176 @@
+use crate::fault::DataFault;
+use crate::identity::{Identity, SECRET_BYTES};
+use sqlite_disk::Files;
+use sqlite_std_file::{File, Unknown, open};
+use std::fs::{OpenOptions, TryLockError};
+use std::io::{ErrorKind, Write};
+use std::os::unix::fs::OpenOptionsExt;
+use std::{fs, io};
+use zk_file_store::{FileStore, OpenFault};
+use zk_store::StoreFiles;
+
+/// The directory of an ensemble's data, which no other process uses while this lives.
+///
+/// Server P's transaction log is `P/version-2/log.1`, for the tools of ZooKeeper and of this project.
+/// Beside it are the tags of its entries (`P/version-2/log.1-wal`), the entries of a change of its
+/// history that is not complete (`P/joining`, `P/joining-wal`), and its book (`P/book`).
+#[derive(Drop)]
+pub struct DataDirectory<'a> {
+    rt: &'a HostRuntime,
+    path: String,
+    /// Its lock lasts as long as the file is open.
+    lock: fs::File,
+    identity: Identity,
+}
+
+impl<'a> DataDirectory<'a> {
+    /// Opens the directory of an ensemble of this number of servers, or creates it with a new secret.
+    pub fn open(
+        rt: &'a HostRuntime,
+        path: &str,
+        servers: u8,
+        new_secret: [u8; SECRET_BYTES],
+    ) -> Result<DataDirectory<'a>, DataFault> {
+        create_directory(rt, path)?;
+        let lock = lock_directory(rt, path)?;
+        let identity = match read_identity(rt, path)? {
+            Some(identity) => identity,
+            None => {
+                let identity = Identity {
+                    servers,
+                    secret: new_secret,
+                };
+                write_identity(rt, path, &identity)?;
+                identity
+            }
+        };
+        if identity.servers != servers {
+            return Err(DataFault::Servers(usize::from(identity.servers)));
+        }
+        Ok(DataDirectory {
+            rt,
+            path: String::from_str(rt.alloc(), path)?,
+            lock,
+            identity,
+        })
+    }
+
+    /// The secret of the sessions' passwords.
+    pub fn secret(&self) -> [u8; SECRET_BYTES] {
+        self.identity.secret
+    }
+
+    /// Opens the store of each server.
+    pub fn open_stores(&self) -> Result<Vec<FileStore<File>>, DataFault> {
+        let mut stores = Vec::new(self.rt.alloc());
+        for server in 1..=usize::from(self.identity.servers) {
+            stores.push(self.open_store(server)?)?;
+        }
+        Ok(stores)
+    }
+
+    /// Opens a server's store, which nothing else has open. It is empty if its files are missing.
+    pub fn open_store(&self, server: usize) -> Result<FileStore<File>, DataFault> {
+        let files = self.open_files(server)?;
+        match FileStore::open(self.rt.alloc(), files) {
+            Ok(store) => Ok(store),
+            Err(OpenFault::NoMemory) => Err(DataFault::NoMemory),
+            Err(OpenFault::Disk) => Err(DataFault::Store(server)),
+            Err(OpenFault::NoBook) => Err(DataFault::NoBook(server)),
+        }
+    }
+
+    /// Opens the files of a server's store. Those that are missing are created, and empty.
+    fn open_files(&self, server: usize) -> Result<StoreFiles<File>, DataFault> {
+        let alloc = self.rt.alloc();
+        let path = self.path.as_str();
+        let directory = format!(in alloc; "{path}/{server}")?;
+        let logs = format!(in alloc; "{path}/{server}/version-2")?;
+        create_directory(self.rt, directory.as_str())?;
+        create_directory(self.rt, logs.as_str())?;
+        let log = format!(in alloc; "{path}/{server}/version-2/log.1")?;
+        let joining = format!(in alloc; "{path}/{server}/joining")?;
+        let book = format!(in alloc; "{path}/{server}/book")?;
+        let Files { db: log, log: tags } = open(self.rt, log.as_str(), Unknown)?;
+        let Files {
+            db: joining,
+            log: joining_tags,
+        } = open(self.rt, joining.as_str(), Unknown)?;
+        let Files { db: book, log: _ } = open(self.rt, book.as_str(), Unknown)?;
+        Ok(StoreFiles {
+            log,
+            tags,
+            joining,
+            joining_tags,
+            book,
+        })
+    }
+}
+
+/// Creates a directory, if it is missing, so that a crash does not lose it.
+fn create_directory(rt: &HostRuntime, path: &str) -> Result<(), DataFault> {
+    match fs::create_dir(rt, path) {
+        Ok(()) => {
+            let parent = format!(in rt.alloc(); "{path}/..")?;
+            sync_directory(rt, parent.as_str())
+        }
+        Err(error) if error.kind() == ErrorKind::AlreadyExists => Ok(()),
+        Err(error) => Err(DataFault::System(error)),
+    }
+}
+
+fn sync_directory(rt: &HostRuntime, path: &str) -> Result<(), DataFault> {
+    fs::File::open(rt, path)?.sync_all()?;
+    Ok(())
+}
+
+/// Locks a directory against other processes.
+fn lock_directory(rt: &HostRuntime, path: &str) -> Result<fs::File, DataFault> {
+    let name = format!(in rt.alloc(); "{path}/lock")?;
+    let file = OpenOptions::new()
+        .read(true)
+        .write(true)
+        .create(true)
+        .open(rt, name.as_str())?;
+    match file.try_lock() {
+        Ok(()) => Ok(file),
+        Err(TryLockError::WouldBlock) => Err(DataFault::InUse),
+        Err(TryLockError::Error(error)) => Err(DataFault::System(error)),
+    }
+}
+
+/// The identity in a directory; `None` if it is new.
+fn read_identity(rt: &HostRuntime, path: &str) -> Result<Option<Identity>, DataFault> {
+    let name = format!(in rt.alloc(); "{path}/ensemble")?;
+    match fs::read(rt, name.as_str()) {
+        Ok(bytes) => match Identity::from_bytes(&bytes) {
+            Some(identity) => Ok(Some(identity)),
+            None => Err(DataFault::Damaged),
+        },
+        Err(error) if error.kind() == ErrorKind::NotFound => Ok(None),
+        Err(error) => Err(DataFault::System(error)),
+    }
+}
+
+/// Writes the identity of a new directory, whole or not at all.
+fn write_identity(rt: &HostRuntime, path: &str, identity: &Identity) -> Result<(), DataFault> {
+    let alloc = rt.alloc();
+    let name = format!(in alloc; "{path}/ensemble")?;
+    let draft = format!(in alloc; "{path}/ensemble.new")?;
+    let bytes = identity.to_bytes(alloc)?;
+    write_synced(rt, draft.as_str(), &bytes)?;
+    fs::rename(rt, draft.as_str(), name.as_str())?;
+    sync_directory(rt, path)
+}
+
+/// Writes a file that its owner alone can read.
+fn write_synced(rt: &HostRuntime, path: &str, bytes: &[u8]) -> io::Result<()> {
+    let mut file = OpenOptions::new()
+        .write(true)
+        .create(true)
+        .truncate(true)
+        .mode(0o600)
+        .open(rt, path)?;
+    file.write_all(bytes)?;
+    file.sync_all()
+}

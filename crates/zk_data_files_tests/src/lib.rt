@@ -1,0 +1,5 @@
+//! Tests of `zk_data_files`. No code of its own.
+#![tactic(auto)]
+
+#[cfg(test)]
+mod identity_tests;

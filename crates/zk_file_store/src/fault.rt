@@ -1,0 +1,51 @@
+ghost use Rattle.std.specs.Prelude.{◌≡◌, ◌≢◌};
+ghost use Rattle.zab_host.specs.declared.storage.StoreFault.TheVariants as store_faults;
+ghost use Rattle.zk_file_store.specs.declared.fault.OpenFault.TheVariants as faults;
+
+use std::io;
+use thiserror::Error;
+use zab_host::StoreFault;
+use zk_store::FilesFault;
+
+/// Why a store was not opened.
+#[derive(Clone, Copy, Debug, Error)]
+pub enum OpenFault {
+    /// Out of memory.
+    #[error("out of memory")]
+    NoMemory,
+    /// A call of a file failed, or a sync of one had failed before.
+    #[error("the disk failed")]
+    Disk,
+    /// The files have no book, but the log has entries. They are unchanged.
+    #[error("the book of the store is missing")]
+    NoBook,
+}
+
+impl From<io::Error> for OpenFault {
+    fn from(_error: io::Error) -> OpenFault {
+        OpenFault::Disk
+    }
+}
+
+impl From<FilesFault> for OpenFault {
+    fn from(fault: FilesFault) -> OpenFault {
+        match fault {
+            FilesFault::NoMemory => OpenFault::NoMemory,
+            FilesFault::Disk(_) => OpenFault::Disk,
+            FilesFault::Damaged => OpenFault::Disk,
+            FilesFault::Full => OpenFault::Disk,
+        }
+    }
+}
+
+/// The fault of a store whose files failed.
+pub(crate) fn store_fault(fault: FilesFault) -> StoreFault
+    ensures { result ≢ store_faults.BootsFull }
+{
+    match fault {
+        FilesFault::NoMemory => StoreFault::NoMemory,
+        FilesFault::Disk(_) => StoreFault::Failed,
+        FilesFault::Damaged => StoreFault::Failed,
+        FilesFault::Full => StoreFault::Failed,
+    }
+}
