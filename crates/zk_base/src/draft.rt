@@ -46,7 +46,7 @@ fn acl_of(open_acl: &Acls, accesses: &[Access], number: i64) -> Result<Option<Ac
 }
 
 /// An owner as clients see it: containers and nodes with a time to live have none.
-fn shown_owner(owner: i64) -> i64
+pub fn shown_owner(owner: i64) -> i64
     ensures { result ≡ shown_owner owner }
 {
     if owner == i64::MIN || (owner >= -72_057_594_037_927_936 && owner < 0) {

@@ -9,7 +9,7 @@ mod exact;
 mod fault;
 mod table;
 
-pub use draft::Draft;
+pub use draft::{Draft, shown_owner};
 pub use draft_node::DraftNode;
 pub use draft_nodes::DraftNodes;
 pub use exact::{Exact, exact_from};

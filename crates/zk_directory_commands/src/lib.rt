@@ -15,6 +15,7 @@ mod upto;
 pub use fault::history_fault;
 pub use history::{Broken, Origin, Shown, shown_of};
 pub use list_directory::list;
-pub use logs::{logs_in, read_logs, slices_of};
+pub use listing::first_zxid;
+pub use logs::{logs_in, read_logs, slices_of, snapshots_in};
 pub use show_directory::show;
 pub use upto::Upto;

@@ -14,7 +14,7 @@ use zk_restore::{DirectoryFault, RestoreFault, check_end, take_entry};
 
 /// The zxid of the first entry of these logs.
 #[tactic(auto, using(crate::proofs::Listed::found_first, crate::proofs::Listed::no_first, crate::proofs::Listed::none_first))]
-fn first_zxid(alloc: Global, logs: &[&[u8]]) -> Result<Option<i64>, NoMemory>
+pub fn first_zxid(alloc: Global, logs: &[&[u8]]) -> Result<Option<i64>, NoMemory>
     ensures { IfOk result (λ first. IsFirst first logs.now) }
 {
     for bytes in logs {

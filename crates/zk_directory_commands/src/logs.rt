@@ -26,7 +26,9 @@ fn names_of<F: Folder>(alloc: Global, folder: &F) -> Result<Vec<String>, History
 }
 
 /// The zxids in the names of a folder's snapshots, in order.
-pub(crate) fn snapshots_in<F: Folder>(alloc: Global, folder: &F) -> Result<Vec<i64>, HistoryFault>
+///
+/// Fails with [`HistoryFault::Read`] if the folder cannot be read.
+pub fn snapshots_in<F: Folder>(alloc: Global, folder: &F) -> Result<Vec<i64>, HistoryFault>
     ensures given { IfOk result (λ held. AreIn snapshot_zxid (F.names_in folder.now) held.items) }
     ensures unread { IfErr result (λ fault. IsUnread fault) }
 {

@@ -2,13 +2,14 @@
 ghost use Rattle.std.specs.Prelude.{◌≡◌, ◌++◌, IfOk, OnOk};
 ghost use Rattle.std.specs.List.{flat_map};
 ghost use Rattle.std.specs.String.{string_bytes};
-ghost use Rattle.zk_directory_commands.specs.Reports.{ending_line, origin_line, passed_line, report_of};
+ghost use Rattle.zk_directory_commands.specs.Reports.{digest_lines, ending_line, equal_line, origin_line, other_line, passed_line, report_of};
 ghost use Rattle.zk_folder.specs.Files.{exact_text};
 ghost use Rattle.zk_reports.specs.Reports.{entry_line, tree_report};
 
 use crate::history::{Broken, Origin, Shown};
 use std::alloc::Global;
 use zk_base::Exact;
+use zk_digests::DigestCount;
 use zk_fold::Fold;
 use zk_folder::push_snapshot_name;
 use zk_folder_commands::passed_word;
@@ -91,6 +92,40 @@ fn push_all_passed(text: &mut String, broken: &[Broken]) -> Result<(), NoMemory>
     Ok(())
 }
 
+/// Appends how many digests of records are those of the trees after them, unless none is.
+#[tactic(auto, unfolding(crate::specs::Reports::equal_line))]
+fn push_equal(text: &mut String, equal: u64) -> Result<(), NoMemory>
+    ensures { OnOk result (string_bytes text.new ≡ string_bytes text.old ++ equal_line equal) }
+{
+    if equal == 0 {
+        return Ok(());
+    }
+    write!(text, "digest {equal}\n")?;
+    Ok(())
+}
+
+/// Appends how many are not, and the zxid of the first of these, if there is one.
+#[tactic(auto, unfolding(crate::specs::Reports::other_line))]
+fn push_other(text: &mut String, other: u64, first: Option<i64>) -> Result<(), NoMemory>
+    ensures { OnOk result (string_bytes text.new ≡ string_bytes text.old ++ other_line other first) }
+{
+    let Some(first) = first else {
+        return Ok(());
+    };
+    write!(text, "otherDigest {other} ")?;
+    push_id(text, first)?;
+    text.push_str("\n")?;
+    Ok(())
+}
+
+/// Appends the lines of the digests.
+fn push_digests(text: &mut String, digests: DigestCount) -> Result<(), NoMemory>
+    ensures { OnOk result (string_bytes text.new ≡ string_bytes text.old ++ digest_lines digests) }
+{
+    push_equal(text, digests.equal)?;
+    push_other(text, digests.other, digests.first)
+}
+
 /// Appends the line of the end of the last log.
 #[tactic(auto, unfolding(zk_log_commands::specs::Showing::end_line))]
 fn push_end(text: &mut String, ending: Option<Ending>) -> Result<(), NoMemory>
@@ -114,6 +149,7 @@ pub(crate) fn report_text(alloc: Global, shown: &Shown) -> Result<String, NoMemo
     push_state(&mut text, &shown.restored.table)?;
     push_origin(&mut text, shown.origin)?;
     push_all_passed(&mut text, shown.broken.as_slice())?;
+    push_digests(&mut text, shown.restored.digests)?;
     push_end(&mut text, shown.restored.ending)?;
     Ok(text)
 }

@@ -1,7 +1,8 @@
 ghost use Rattle.std.specs.Prelude.{◌≡◌, false, true, IfOk, OnOk, OnErr, IsTrue, map, pos, codes};
 ghost use Rattle.std.specs.FinMap as finite;
+ghost use Rattle.std.specs.Option.{option_copied};
 ghost use Rattle.zk_table.specs.Multis.{multi};
-ghost use Rattle.zk_table.specs.States.{start_state};
+ghost use Rattle.zk_table.specs.States.{owned_by, start_state};
 ghost use Rattle.zk_table.specs.Steps.{close_session, step};
 ghost use Rattle.zk_tree.specs.Entries.{lent, entries_of};
 ghost use Rattle.zk_fold.specs.NodeIndexes.{CanInsert, can_insert};
@@ -207,6 +208,20 @@ impl Fold {
         ensures { IfOk result (λ sessions. sessions.items ≡ finite.entries self.now.state.sessions) }
     {
         self.sessions.entries()
+    }
+
+    /// The node at a path.
+    pub fn get(&self, path: &str) -> Option<&Node>
+        ensures { option_copied result ≡ finite.get self.now.state.nodes path.now }
+    {
+        self.nodes.get(path)
+    }
+
+    /// The paths of the nodes that a session owns, in order; none for session 0.
+    pub fn owned_by(&self, session: i64) -> Result<Vec<Path>, NoMemory>
+        ensures { IfOk result (λ paths. paths.items ≡ owned_by self.now.state.nodes session) }
+    {
+        self.nodes.owned_by(session)
     }
 
     /// All nodes, each with its path and the number of its children, sorted by path.

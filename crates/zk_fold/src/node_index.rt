@@ -1,6 +1,6 @@
 ghost use Rattle.std.specs.Prelude.{◌≡◌, true, false, IfOk, OnOk, IsSome, IsTrue, Some, length, map, pos, is_none, codes};
 ghost use Rattle.std.specs.FinMap as finite;
-ghost use Rattle.std.specs.Option.{ForSome};
+ghost use Rattle.std.specs.Option.{ForSome, option_copied};
 ghost use Rattle.zk_path.specs.Paths.{parent_of};
 ghost use Rattle.zk_txn.specs.Nodes.{written, guarded};
 ghost use Rattle.zk_table.specs.Operations.{create_fault, delete_fault, without};
@@ -205,6 +205,16 @@ impl NodeIndex {
         ensures { self.new ≡ changed self.old path.now (guarded acl version) }
     {
         self.places.guard(path.text(), acl, version);
+    }
+
+    /// The node at a path.
+    pub(crate) fn get(&self, path: &str) -> Option<&Node>
+        ensures { option_copied result ≡ finite.get self.now path.now }
+    {
+        match self.places.get(path) {
+            Some(place) => Some(&place.node),
+            None => None,
+        }
     }
 
     /// The paths of the nodes that a session owns, in order; none for session 0.

@@ -23,5 +23,6 @@ pub use fault::MendFault;
 pub use laws::{mended_in_one_way, mended_tree_is_the_servers, old_logs_come_back};
 pub use mended::{Mended, mend};
 pub use mending::walk_entries;
+pub use node::node_digest;
 pub use tree::TreeDigest;
 pub use walk::Walk;

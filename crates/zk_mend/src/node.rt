@@ -7,7 +7,7 @@ use zk_table::{Content, Node};
 
 /// The digest of the node at a path with this owner; 0 for the nodes below `/zookeeper`, which
 /// servers store separately.
-pub(crate) fn node_digest(path: &str, node: &Node, owner: i64) -> u32
+pub fn node_digest(path: &str, node: &Node, owner: i64) -> u32
     ensures { result ≡ node_digest path.now node.now owner }
 {
     if is_apart(path) {

@@ -10,6 +10,7 @@ use Rattle.zk_log_files.specs.LogFiles.{IsLogFile}
 use Rattle.zk_log_files.specs.declared.file.FileEntry.{FileEntry}
 use Rattle.zk_log_files.specs.declared.file.LogFile.{LogFile}
 use Rattle.zk_newer_records.specs.declared.newer_record.NewerRecord.{NewerRecord}
+use Rattle.zk_restore.proofs.Tallying.{joined_counted, none_counted}
 use Rattle.zk_restore.proofs.Joined.{none_left, read_step}
 use Rattle.zk_restore.proofs.Leading.{joined, no_records}
 use Rattle.zk_restore.specs.Directories.{AreAllRead, AreBroken, AreLogFiles, AreRead, FailsIn, IsAfterLog, ReadsLog, ending_of, last_ending, read_files, read_next}
@@ -140,6 +141,7 @@ none_read start logs = record {
   of_files = no_files (Ok (reading_of start));
   exact = refl;
   stage = no_records start.stage start.exact;
+  counted = none_counted start;
   last = sym (no_ending None);
 }
 
@@ -153,6 +155,7 @@ one_read start old logs i step ending lt so_far after = record {
   of_files = next_file (Ok (reading_of start)) so_far.files after.file old so_far.records _ so_far.of_files after.after.read;
   exact = after.after.exact ∙ so_far.exact;
   stage = joined start.stage old.stage step.restore.stage start.exact so_far.records after.after.records so_far.stage (subst (λ z. Replays old.stage z after.after.records step.restore.stage) so_far.exact after.after.stage);
+  counted = joined_counted start old step.restore so_far.records after.after.records so_far.counted after.after.counted so_far.exact;
   last = after.ending ∙ sym (ends_with None so_far.files after.file);
 }
 

@@ -1,5 +1,5 @@
 -- The entries of a file, one after another.
-use Rattle.std.proofs.Common.{◌≡◌, ◌≢◌, ℕ, ℤ, ◌+◌, ◌<◌, ◌≤◌, Bool, true, false, cond, List, [], ◌∷◌, ◌++◌, length, drop, get_or, Option, Some, None, Result, Ok, Err, refl, sym, ap, ◌∙◌, subst}
+use Rattle.std.proofs.Common.{◌≡◌, ◌≢◌, ℕ, ℤ, ◌+◌, ◌<◌, ◌≤◌, Bool, true, false, cond, List, [], ◌∷◌, ◌++◌, length, drop, get_or, Some, None, Result, Ok, Err, refl, sym, ap, ◌∙◌, subst}
 use Rattle.std.specs.Prelude.{int_le}
 use Rattle.zk_base.specs.Bases.{IsFault}
 use Rattle.zk_base.specs.declared.draft.Draft.{Draft}
@@ -16,12 +16,13 @@ use Rattle.zk_log.specs.declared.loaded.Ending.{Ending}
 use Rattle.zk_log_files.specs.declared.file.LogFile.{LogFile}
 use Rattle.zk_log_files.specs.declared.file.LogFileFault.{LogFileFault}
 use Rattle.zk_newer_records.specs.declared.newer_record.NewerRecord.{NewerRecord}
-use Rattle.zk_replay.specs.Restoring.{IsTableIn, StaysInWindow, LeavesWindow, Takes, TakesInWindow, take_fault}
+use Rattle.zk_replay.specs.Restoring.{Takes, TakesInWindow, take_fault}
 use Rattle.zk_replay.specs.declared.stage.Stage.{Stage}
 use Rattle.zk_replay.specs.declared.stage.Stage.TheVariants as stages
+use Rattle.zk_restore.proofs.Tallying.{none_counted, one_counted, same_counted}
 use Rattle.zk_restore.proofs.Leading.{draft_is, no_records, one_more}
 use Rattle.zk_restore.specs.Joins.{Reading, TakesEntry, Window, decided, decision, end_of, ended_by, fault_of_base, is_wanted, leaving_fault, read_by, read_end, read_entries, read_entry, read_file, read_next, taken_by, told_of, window_after}
-use Rattle.zk_restore.specs.Restorations.{Goes, GoesThrough, IsAfterEntry, IsAfterFile, IsFaultOf, Replays, reading_of, reading_with, window_of}
+use Rattle.zk_restore.specs.Restorations.{Follows, Goes, GoesThrough, IsAfterEntry, IsAfterFile, IsFaultOf, Replays, reading_of, reading_with, window_of}
 use Rattle.zk_restore.specs.States.{replayed_one}
 use Rattle.zk_restore.specs.declared.fault.RestoreFault.{RestoreFault}
 use Rattle.zk_restore.specs.declared.fault.RestoreFault.TheVariants as faults
@@ -130,9 +131,10 @@ pub record IsWithin (start : Restore) (file : LogFile) (i : ℕ) (restore : Rest
   pub read : read_entries (Ok (reading_of start)) file.entries.items ≡ read_entries (Ok (reading_with restore records false)) (drop i file.entries.items)
   pub exact : restore.exact ≡ start.exact
   pub stage : Replays start.stage start.exact records restore.stage
+  pub counted : Follows start records restore
 
 pub none_taken : (start : Restore) (file : LogFile) → IsWithin start file 0 start
-none_taken start file = record { records = []; read = refl; exact = refl; stage = no_records start.stage start.exact }
+none_taken start file = record { records = []; read = refl; exact = refl; stage = no_records start.stage start.exact; counted = none_counted start }
 
 -- the reading at the place i, with the next entry
 at_next : (start restore : Restore) (file : LogFile) (i : ℕ) (entry : FileEntry) → i < length file.entries.items → entry ≡ get_or file.entries.items i entry → (w : IsWithin start file i restore)
@@ -159,6 +161,7 @@ one_taken start old new file i entry Take lt is w a goes_on =
           ∙ ap (λ v. read_entries (Ok (going (history_of new.chain) records v)) rest) (next_window old new entry.newer a.exact a.stage.0);
       exact = a.exact ∙ w.exact;
       stage = one_more start.stage old.stage new.stage start.exact w.records entry.newer w.stage (subst (λ z. Takes old.stage z entry.newer new.stage) w.exact a.stage.0);
+      counted = one_counted start old new w.records entry.newer w.counted w.exact a.stage.0 a.counted;
     }
 one_taken start old new file i entry Skip lt is w a goes_on =
     let rest = drop (i + 1) file.entries.items in
@@ -170,6 +173,7 @@ one_taken start old new file i entry Skip lt is w a goes_on =
           ∙ ap (λ v. read_entries (Ok (going (history_of new.chain) w.records v)) rest) (same_window old new a.exact a.stage);
       exact = a.exact ∙ w.exact;
       stage = subst (Replays start.stage start.exact w.records) (sym a.stage) w.stage;
+      counted = same_counted start old new w.records w.counted a.stage a.counted;
     }
 one_taken start old new file i entry Stop lt is w a goes_on = absurd (goes_on refl)
 
@@ -184,6 +188,7 @@ over_at start old new file i entry lt is w a = record {
       ∙ ap (λ v. let r : Result Reading RestoreFault = Ok (over (history_of new.chain) w.records v) in r) (same_window old new a.exact a.stage));
   exact = a.exact ∙ w.exact;
   stage = subst (Replays start.stage start.exact w.records) (sym a.stage) w.stage;
+  counted = same_counted start old new w.records w.counted a.stage a.counted;
 }
 
 -- only a broken file ends with a fault
@@ -221,6 +226,7 @@ to_the_end start restore file i none le w end =
       read = ap (read_end file) (all_read start restore file i le w) ∙ ap (ended_by reading) end;
       exact = w.exact;
       stage = w.stage;
+      counted = w.counted;
     }
 
 -- the first fault of a file

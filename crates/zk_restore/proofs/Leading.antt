@@ -43,43 +43,43 @@ leads_table table exact (newer ∷ records) end state r s =
 
 -- ---- the window
 
-in_yes : (exact : ℤ) (newer : NewerRecord) (records : List NewerRecord) → int_le newer.txn.zxid exact ≡ true → in_window exact (newer ∷ records) ≡ newer ∷ in_window exact records
+pub in_yes : (exact : ℤ) (newer : NewerRecord) (records : List NewerRecord) → int_le newer.txn.zxid exact ≡ true → in_window exact (newer ∷ records) ≡ newer ∷ in_window exact records
 unfolding in_window
 in_yes exact newer records e = rw e refl
 
-in_no : (exact : ℤ) (newer : NewerRecord) (records : List NewerRecord) → int_le newer.txn.zxid exact ≡ false → in_window exact (newer ∷ records) ≡ []
+pub in_no : (exact : ℤ) (newer : NewerRecord) (records : List NewerRecord) → int_le newer.txn.zxid exact ≡ false → in_window exact (newer ∷ records) ≡ []
 unfolding in_window
 in_no exact newer records e = rw e refl
 
-after_yes : (exact : ℤ) (newer : NewerRecord) (records : List NewerRecord) → int_le newer.txn.zxid exact ≡ true → after_window exact (newer ∷ records) ≡ after_window exact records
+pub after_yes : (exact : ℤ) (newer : NewerRecord) (records : List NewerRecord) → int_le newer.txn.zxid exact ≡ true → after_window exact (newer ∷ records) ≡ after_window exact records
 unfolding after_window
 after_yes exact newer records e = rw e refl
 
-after_no : (exact : ℤ) (newer : NewerRecord) (records : List NewerRecord) → int_le newer.txn.zxid exact ≡ false → after_window exact (newer ∷ records) ≡ newer ∷ records
+pub after_no : (exact : ℤ) (newer : NewerRecord) (records : List NewerRecord) → int_le newer.txn.zxid exact ≡ false → after_window exact (newer ∷ records) ≡ newer ∷ records
 unfolding after_window
 after_no exact newer records e = rw e refl
 
-nothing_in : (exact : ℤ) → in_window exact [] ≡ []
+pub nothing_in : (exact : ℤ) → in_window exact [] ≡ []
 unfolding in_window
 nothing_in exact = refl
 
-nothing_after : (exact : ℤ) → after_window exact [] ≡ []
+pub nothing_after : (exact : ℤ) → after_window exact [] ≡ []
 unfolding after_window
 nothing_after exact = refl
 
-same_draft : (draft : Draft) → replayed draft [] ≡ draft
+pub same_draft : (draft : Draft) → replayed draft [] ≡ draft
 unfolding replayed
 same_draft draft = refl
 
-replays_on : (draft : Draft) (newer : NewerRecord) (records : List NewerRecord) → replayed draft (newer ∷ records) ≡ replayed (replayed_one draft newer) records
+pub replays_on : (draft : Draft) (newer : NewerRecord) (records : List NewerRecord) → replayed draft (newer ∷ records) ≡ replayed (replayed_one draft newer) records
 unfolding replayed
 replays_on draft newer records = refl
 
-same_last : (last : ℤ) → last_of last [] ≡ last
+pub same_last : (last : ℤ) → last_of last [] ≡ last
 unfolding last_of
 same_last last = refl
 
-last_on : (last : ℤ) (newer : NewerRecord) (records : List NewerRecord) → last_of last (newer ∷ records) ≡ last_of newer.txn.zxid records
+pub last_on : (last : ℤ) (newer : NewerRecord) (records : List NewerRecord) → last_of last (newer ∷ records) ≡ last_of newer.txn.zxid records
 unfolding last_of
 last_on last newer records = refl
 

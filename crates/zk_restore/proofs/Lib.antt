@@ -1,3 +1,4 @@
+pub mod Tallying
 pub mod Files
 pub mod Joined
 pub mod Leading

@@ -1,5 +1,5 @@
 -- From the first file to the state.
-use Rattle.std.proofs.Common.{◌≡◌, ◌⊎◌, ℕ, ℤ, ◌+◌, Bool, true, false, inl, inr, List, [], length, map, take, Option, Some, None, Result, Ok, Err, refl, sym, ap, ◌∙◌, subst}
+use Rattle.std.proofs.Common.{◌≡◌, ◌⊎◌, ℕ, ℤ, ◌+◌, Bool, true, false, inl, inr, List, [], length, map, take, Option, Some, Result, Ok, Err, refl, sym, ap, ◌∙◌, subst}
 use Rattle.std.specs.Borrow.{Bor}
 use Rattle.zk_table.specs.Histories.{state_after}
 use Rattle.zk_table.specs.States.{State}
@@ -8,15 +8,19 @@ use Rattle.zk_base.specs.Bases.{IsDraftOf, IsFault, drafted}
 use Rattle.zk_base.specs.declared.draft.Draft.{Draft}
 use Rattle.zk_base.specs.declared.fault.BaseFault.{BaseFault}
 use Rattle.zk_base.specs.declared.fault.BaseFault.TheVariants as base_faults
-use Rattle.zk_directory.specs.Chains.{History, history_of}
+use Rattle.zk_directory.specs.Chains.{history_of}
 use Rattle.zk_log_files.specs.declared.file.LogFile.{LogFile}
 use Rattle.zk_newer_records.specs.declared.newer_record.NewerRecord.{NewerRecord}
 use Rattle.zk_replay.specs.declared.stage.Stage.{Stage}
 use Rattle.zk_replay.specs.declared.stage.Stage.TheVariants as stages
+use Rattle.zk_digests.specs.Tallies.{all_taken, start_tally, stored_tally}
+use Rattle.zk_digests.specs.declared.count.DigestCount.{DigestCount}
+use Rattle.zk_restore.proofs.Tallying.{IsCountAfter, count_is, counts_after}
 use Rattle.zk_restore.proofs.Leading.{leads}
+use Rattle.zk_restore.specs.Counts.{IsCountFrom, IsCountOf, first_tally}
 use Rattle.zk_replay.specs.Restoring.{finish_fault}
 use Rattle.zk_snapshot.specs.declared.snapshot.Contents.{Contents}
-use Rattle.zk_restore.specs.Directories.{AreAllRead, AreLogFiles, Breaks, EndsBroken, EndsShort, FailsBy, FailsIn, IsNoState, IsStateOf, Reads, Restores, StartsBroken, read_files, reading_by, start_reading}
+use Rattle.zk_restore.specs.Directories.{AreAllRead, AreLogFiles, Breaks, EndsBroken, EndsShort, FailsBy, FailsIn, IsStateOf, Reads, Restores, StartsBroken, read_files, reading_by, start_reading}
 use Rattle.zk_restore.specs.Joins.{Reading, Window, fault_of_base, window_fault}
 use Rattle.zk_restore.specs.Restorations.{Begins, Finishes, IsBegun, IsFinished, IsFirstStage, base_fault, exact_of, first_draft, first_window, is_before, is_early, is_short, reading_of, reading_with, start_of, window_of}
 use Rattle.zk_restore.specs.States.{IsStateAfter, IsStateFrom, txn_of}
@@ -35,6 +39,14 @@ from_base bases.Empty (stages.Table table) records state first after = after ∙
 from_base (bases.Snapshot contents zxid exact) (stages.Window draft last) records state first after =
     (draft, first.0, subst (λ z. IsStateFrom draft z exact records state) first.1 after)
 from_base (bases.Snapshot contents zxid exact) (stages.Table table) records state first after = absurd first
+
+-- the digests after a first stage are those of its base
+count_from_base : (base : Base) (stage : Stage) (records : List NewerRecord) (count : DigestCount) → IsFirstStage base stage → IsCountAfter stage (exact_of base) records (first_tally base) count → IsCountOf base records count
+count_from_base bases.Empty (stages.Window draft last) records count first after = absurd first
+count_from_base bases.Empty (stages.Table table) records count first after = after ∙ ap (λ s. (all_taken start_tally s records).count) first.0
+count_from_base (bases.Snapshot contents zxid exact) (stages.Window draft last) records count first after =
+    (draft, first.0, subst (λ z. IsCountFrom draft z exact records (stored_tally contents.now) count) first.1 after)
+count_from_base (bases.Snapshot contents zxid exact) (stages.Table table) records count first after = absurd first
 
 -- ---- the window
 
@@ -82,9 +94,9 @@ reads base upto logs start progress read begun all same =
     }
 
 pub restores : (base : Base) (upto : Option ℤ) (logs : List (Bor (List ℕ))) (start : Restore) (progress : Progress) (restored : Restored) → IsBegun base upto start → AreAllRead start logs progress → IsFinished progress.restore restored.table
-    → restored.read ≡ progress.read → restored.ending ≡ progress.ending → restored.position ≡ progress.restore.chain.position → Restores base upto logs restored
+    → restored.read ≡ progress.read → restored.ending ≡ progress.ending → restored.position ≡ progress.restore.chain.position → restored.digests ≡ progress.restore.digests.count → Restores base upto logs restored
 unfolding reads
-restores base upto logs start progress restored begun all finished same ending position =
+restores base upto logs start progress restored begun all finished same ending position digests =
     let after = all.after in
     let exact : progress.restore.exact ≡ exact_of base = after.exact ∙ begun.exact in
     record {
@@ -96,6 +108,11 @@ restores base upto logs start progress restored begun all finished same ending p
       state =
           from_base base start.stage after.records restored.table.state begun.stage
           (subst (λ z. IsStateAfter start.stage z after.records restored.table.state) begun.exact (leads start.stage start.exact after.records progress.restore.stage restored.table.state after.stage finished.state));
+      digests =
+          let end = after.counted (first_tally base) begun.tally in
+          subst (IsCountOf base after.records) (sym (digests ∙ count_is progress.restore.stage progress.restore.digests end.0 end.2))
+          (count_from_base base start.stage after.records end.0.count begun.stage
+          (subst (λ z. IsCountAfter start.stage z after.records (first_tally base) end.0.count) begun.exact (counts_after start.stage start.exact after.records (first_tally base) progress.restore.stage end.0 restored.table.state end.1 finished.state)));
       ending = ending ∙ after.last;
     }
 

@@ -12,8 +12,9 @@ use Rattle.zk_log_files.specs.LogFiles.{IsLogFile}
 use Rattle.zk_log_files.specs.declared.file.LogFile.{LogFile}
 use Rattle.zk_log_files.specs.declared.file.LogFileFault.{LogFileFault}
 use Rattle.zk_newer_records.specs.declared.newer_record.NewerRecord.{NewerRecord}
+use Rattle.zk_restore.specs.Counts.{IsCountOf}
 use Rattle.zk_restore.specs.Joins.{Reading, fault_of_base, read_file, window_fault}
-use Rattle.zk_restore.specs.Restorations.{IsAfterFile, IsFaultOf, Replays, base_fault, exact_of, first_window, is_before, is_early, reading_of, reading_with, start_of}
+use Rattle.zk_restore.specs.Restorations.{Follows, IsAfterFile, IsFaultOf, Replays, base_fault, exact_of, first_window, is_before, is_early, reading_of, reading_with, start_of}
 use Rattle.zk_restore.specs.States.{IsStateFrom, txn_of}
 use Rattle.zk_restore.specs.declared.directory.Progress.{Progress}
 use Rattle.zk_restore.specs.declared.directory.Restored.{Restored}
@@ -87,6 +88,7 @@ pub record Restores (base : Base) (upto : Option ℤ) (logs : List (Bor (List �
   pub whole : window_fault reading.window ≡ None
   pub position : restored.position ≡ reading.history.position
   pub state : IsStateOf base reading.records restored.table.state
+  pub digests : IsCountOf base reading.records restored.digests
   pub ending : restored.ending ≡ last_ending None reads.files
 
 -- the logs were read up to the fault
@@ -153,6 +155,7 @@ pub record AreRead (old : Restore) (logs : List (Bor (List ℕ))) (read : ℕ) (
   pub of_files : read_files (Ok (reading_of old)) files ≡ Ok (reading_with new records over)
   pub exact : new.exact ≡ old.exact
   pub stage : Replays old.stage old.exact records new.stage
+  pub counted : Follows old records new
   pub last : ending ≡ last_ending None files
 
 pub record AreAllRead (old : Restore) (logs : List (Bor (List ℕ))) (progress : Progress) : Type 0 where

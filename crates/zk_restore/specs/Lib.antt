@@ -1,4 +1,5 @@
 -- What the contracts of this crate cite.
+pub mod Counts
 pub mod Directories
 pub mod Joins
 pub mod Restorations

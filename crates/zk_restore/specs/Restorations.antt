@@ -17,6 +17,8 @@ use Rattle.zk_replay.specs.Restoring.{IsRestored, IsTableIn, Takes, finish_fault
 use Rattle.zk_replay.specs.declared.stage.Stage.{Stage}
 use Rattle.zk_replay.specs.declared.stage.Stage.TheVariants as stages
 use Rattle.zk_snapshot.specs.declared.snapshot.Contents.{Contents}
+use Rattle.zk_digests.specs.Tallies.{Tally}
+use Rattle.zk_restore.specs.Counts.{Counts, IsTallied, Tallies, first_tally}
 use Rattle.zk_restore.specs.Joins.{Reading, Window, decision, read_file, told_of}
 use Rattle.zk_restore.specs.declared.fault.RestoreFault.{RestoreFault}
 use Rattle.zk_restore.specs.declared.fault.RestoreFault.TheVariants as faults
@@ -73,6 +75,7 @@ pub record IsBegun (base : Base) (upto : Option ℤ) (restore : Restore) : Type 
   pub history : history_of restore.chain ≡ start_of base upto
   pub exact : restore.exact ≡ exact_of base
   pub stage : IsFirstStage base restore.stage
+  pub tally : IsTallied restore.stage restore.digests (first_tally base)
 
 abbrev pub Begins : Base → Option ℤ → Result Restore RestoreFault → Type 0
 Begins base upto (Ok restore) = IsBegun base upto restore
@@ -88,11 +91,17 @@ abbrev pub StageAfter : Turn → Stage → ℤ → NewerRecord → Stage → Typ
 StageAfter Take old exact newer new = Takes old exact newer new × (take_fault old exact newer ≡ None)
 StageAfter turn old exact newer new = new ≡ old
 
+-- the record's digest was compared, if the entry was taken
+abbrev pub CountsEntry : Turn → Restore → NewerRecord → Restore → Type 0
+CountsEntry Take old newer new = Counts old.stage old.digests newer new.stage new.digests
+CountsEntry turn old newer new = new.digests ≡ old.digests
+
 pub record IsAfterEntry (old : Restore) (entry : FileEntry) (new : Restore) (turn : Turn) : Type 0 where
   pub decided : decision (history_of old.chain) entry ≡ Ok turn
   pub history : history_of new.chain ≡ after_turn (history_of old.chain) (told_of entry) turn
   pub exact : new.exact ≡ old.exact
   pub stage : StageAfter turn old.stage old.exact entry.newer new.stage
+  pub counted : CountsEntry turn old entry.newer new
 
 abbrev pub Goes : Restore → FileEntry → Result (Restore × Turn) RestoreFault → Type 0
 Goes old entry (Ok next) = IsAfterEntry old entry next.0 next.1
@@ -111,6 +120,10 @@ abbrev pub Replays : Stage → ℤ → List NewerRecord → Stage → Type 0
 Replays old exact [] new = new ≡ old
 Replays old exact (newer ∷ records) new = (middle : Stage) × Takes old exact newer middle × Replays middle exact records new
 
+-- the digests of records were compared, for any tally before
+abbrev pub Follows : Restore → List NewerRecord → Restore → Type 0
+Follows old records new = (tally : Tally) → IsTallied old.stage old.digests tally → (end : Tally) × Tallies old.stage tally old.exact records new.stage end × IsTallied new.stage new.digests end
+
 abbrev pub window_of : Stage → ℤ → Window
 window_of (stages.Window draft last) exact = Some (draft, exact)
 window_of (stages.Table table) exact = None
@@ -127,6 +140,7 @@ pub record IsAfterFile (old : Restore) (file : LogFile) (new : Restore) (goes_on
   pub read : read_file (reading_of old) file ≡ Ok (reading_with new records (not goes_on))
   pub exact : new.exact ≡ old.exact
   pub stage : Replays old.stage old.exact records new.stage
+  pub counted : Follows old records new
 
 -- the first fault, unless allocation failed
 abbrev pub IsFaultOf : Result Reading RestoreFault → RestoreFault → Type 0

@@ -1,6 +1,6 @@
 -- The end of a snapshot's window, where the file does not state it: the greatest zxid of its nodes,
 -- or of a transaction of the logs that finds its work done.
-use Rattle.std.specs.Prelude.{◌≡◌, ℕ, ℤ, Bool, ◌&&◌, int_lt, List, [], ◌∷◌, Option, Some, None, Result, Ok, Err, if◌then◌else◌}
+use Rattle.std.specs.Prelude.{◌≡◌, ℕ, ℤ, Bool, ◌&&◌, int_lt, List, [], ◌∷◌, Some, None, Result, Ok, Err, if◌then◌else◌}
 use Rattle.std.specs.Borrow.{Bor}
 use Rattle.zk_base.specs.declared.draft.Draft.{Draft}
 use Rattle.zk_directory.specs.Chains.{History, after_turn, history_of, turn_of}

@@ -5,6 +5,7 @@ ghost use Rattle.zk_restore.specs.Directories.{IsRestored, ReadsLog, ReadsLogs, 
 use crate::fault::{DirectoryFault, RestoreFault};
 use crate::restoration::{Base, Restore};
 use std::alloc::Global;
+use zk_digests::DigestCount;
 use zk_fold::Fold;
 use zk_log::Ending;
 use zk_log_files::{LogFile, read_log_file};
@@ -20,6 +21,8 @@ pub struct Restored {
     /// How the last of these ends; `None` if there is none, or if it is broken after all entries
     /// that were asked for.
     pub ending: Option<Ending>,
+    /// The digests of the records after the snapshot's window, compared with those of the trees.
+    pub digests: DigestCount,
 }
 
 /// How far logs were read.
@@ -131,12 +134,14 @@ pub fn restore<'a>(
         ending,
     } = read_logs(alloc, start, logs)?;
     let position = restore.position();
+    let digests = restore.digests();
     match restore.finish(alloc) {
         Ok(table) => Ok(Restored {
             table,
             position,
             read,
             ending,
+            digests,
         }),
         Err(fault) => Err(DirectoryFault { log: read, fault }),
     }

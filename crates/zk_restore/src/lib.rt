@@ -4,6 +4,7 @@
 //! It handles bytes and zxids; callers read files and print names.
 #![tactic(auto)]
 
+mod counting;
 mod directory;
 mod fault;
 mod joining;

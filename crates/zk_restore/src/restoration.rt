@@ -2,14 +2,16 @@
 ghost use Rattle.std.specs.Prelude.{◌≡◌};
 ghost use Rattle.zk_restore.specs.Restorations.{Begins, Finishes, Goes, GoesThrough, is_before};
 
+use crate::counting::take_counting;
 use crate::fault::RestoreFault;
 use crate::joining::{check_end, take_entry};
 use std::alloc::Global;
 use zk_base::Draft;
+use zk_digests::{DigestCount, Digests};
 use zk_directory::{Chain, Turn};
 use zk_fold::Fold;
 use zk_log_files::{FileEntry, LogFile};
-use zk_replay::{Stage, finish, take};
+use zk_replay::{Stage, finish};
 use zk_snapshot::Contents;
 
 /// Where a restoration begins.
@@ -33,6 +35,7 @@ pub struct Restore<'a> {
     /// From this zxid on a replay of the snapshot is exact.
     exact: i64,
     stage: Stage,
+    digests: Digests,
 }
 
 /// Whether a zxid comes before the one from which a snapshot is exact; none is the end of the logs.
@@ -66,6 +69,7 @@ impl<'a> Restore<'a> {
                 stage: Stage::Table {
                     table: Fold::new(alloc)?,
                 },
+                digests: Digests::new(alloc),
             }),
             Base::Snapshot {
                 contents,
@@ -80,6 +84,7 @@ impl<'a> Restore<'a> {
                     chain: Chain::new(alloc, Some(zxid), upto),
                     exact,
                     stage: Stage::Window { draft, last: zxid },
+                    digests: Digests::of_snapshot(alloc, contents)?,
                 })
             }
         }
@@ -104,6 +109,7 @@ impl<'a> Restore<'a> {
             chain,
             exact,
             stage,
+            digests,
         } = self;
         let mut chain = chain;
         let turn = take_entry(&mut chain, entry)?;
@@ -112,14 +118,16 @@ impl<'a> Restore<'a> {
                 chain,
                 exact,
                 stage,
+                digests,
             };
             return Ok((same, turn));
         }
-        let stage = take(alloc, stage, exact, &entry.newer)?;
+        let (stage, digests) = take_counting(alloc, stage, digests, exact, &entry.newer)?;
         let next = Restore {
             chain,
             exact,
             stage,
+            digests,
         };
         Ok((next, turn))
     }
@@ -162,6 +170,7 @@ impl<'a> Restore<'a> {
             chain,
             exact,
             stage,
+            digests: _,
         } = self;
         if is_before(chain.position, exact) {
             return Err(RestoreFault::Short { exact });
@@ -174,6 +183,13 @@ impl<'a> Restore<'a> {
         ensures { result.now ≡ self.now.stage }
     {
         &self.stage
+    }
+
+    /// How many digests of records were those of the table after them, and how many were not.
+    pub fn digests(&self) -> DigestCount
+        ensures { result ≡ self.now.digests.count }
+    {
+        self.digests.count()
     }
 
     /// The zxid of the last entry that was taken, or else of the snapshot.

@@ -1,5 +1,7 @@
 //! The commands on small directories. Expected lines are worked out by hand.
-use crate::files::{LISTLESS_SNAPSHOT, LOG_1, LOG_6, LOG_8, SNAPSHOT};
+use crate::files::{
+    LISTLESS_SNAPSHOT, LOG_1, LOG_6, LOG_8, LOG_WITH_DIGEST, LOG_WITH_OTHER, SNAPSHOT,
+};
 use std::alloc::Global;
 use zk_directory_commands::{
     Upto, history_fault, list, logs_in, read_logs, show, shown_of, slices_of,
@@ -11,8 +13,8 @@ use zk_restore::{DirectoryFault, RestoreFault};
 
 /// A folder in memory: the names and bytes of its files.
 #[derive(Clone, Copy)]
-struct MemoryFolder<'a> {
-    files: &'a [(&'static str, &'static [u8])],
+pub(crate) struct MemoryFolder<'a> {
+    pub(crate) files: &'a [(&'static str, &'static [u8])],
 }
 
 impl Folder for MemoryFolder<'_> {
@@ -58,9 +60,13 @@ type Trial = (
 );
 
 /// A snapshot and the logs.
-const ALL: &[(&str, &[u8])] = &[("snapshot.4", SNAPSHOT), ("log.6", LOG_6), ("log.1", LOG_1)];
+pub(crate) const ALL: &[(&str, &[u8])] = &[
+    ("snapshot.4", SNAPSHOT),
+    ("log.6", LOG_6),
+    ("log.1", LOG_1),
+];
 
-const FROM_6: &[(&str, &[u8])] = &[("log.6", LOG_6), ("snapshot.4", SNAPSHOT)];
+pub(crate) const FROM_6: &[(&str, &[u8])] = &[("log.6", LOG_6), ("snapshot.4", SNAPSHOT)];
 
 /// A snapshot without the list of `/a`, and all logs.
 const LISTLESS: &[(&str, &[u8])] = &[
@@ -111,6 +117,20 @@ const TRIALS: &[Trial] = &[
         "",
         "",
         "zk: D2 0000000000000006\n",
+    ),
+    (
+        &[("log.1", LOG_WITH_DIGEST)],
+        Upto::Last,
+        "zxid 0000000000000001\n",
+        "base none\ndigest 1\nend whole\n",
+        "",
+    ),
+    (
+        &[("log.1", LOG_WITH_OTHER)],
+        Upto::Last,
+        "zxid 0000000000000001\n",
+        "base none\notherDigest 1 0000000000000001\nend whole\n",
+        "",
     ),
     (&[("myid", b"1")], Upto::Last, "", "", "zk: D1\n"),
 ];

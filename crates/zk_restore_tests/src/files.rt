@@ -120,3 +120,15 @@ pub(crate) const DOUBLE_SNAPSHOT: &[u8] =
       \xff\0\0\0\0\0\0\0\x02\0\0\0\0\0\0\0\x07\0\0\0\0\0\0\x03\xea\0\0\0\0\0\0\x03\xef\0\0\0\
       \x01\0\0\0\x01\0\0\0\0\0\0\0\0\0\0\0\0\0\0\0\0\0\0\0\x06\0\0\0\x01/\0\0\0\0\x1e\xd7Bq\0\
       \0\0\x01/\0\0\0\0\0\0\0\x07\0\0\0\x02\0\0\0\0\0\0\0\x05\0\0\0\0\xe1\x9dDW\0\0\0\x01/";
+
+/// The first record of a server of 3.8.0, with the digest of its tree.
+pub(crate) const LOG_WITH_DIGEST: &[u8] =
+    b"ZKLG\0\0\0\x02\0\0\0\0\0\0\0\0\0\0\0\0\xc1\x9b\x0a\x88\0\0\00\x01\0\0M#\xab\0\0\0\0\
+      \0\0\0\0\0\0\0\0\0\x01\0\0\x01\xa2\x08u\xe3\x80\xff\xff\xff\xf6\0\0u0\0\0\0\x02\0\0\
+      \0\0Q\xc6\xd6`B";
+
+/// The same with a mismatched digest.
+pub(crate) const LOG_WITH_OTHER: &[u8] =
+    b"ZKLG\0\0\0\x02\0\0\0\0\0\0\0\0\0\0\0\0\xc1\x9c\x0a\x89\0\0\00\x01\0\0M#\xab\0\0\0\0\
+      \0\0\0\0\0\0\0\0\0\x01\0\0\x01\xa2\x08u\xe3\x80\xff\xff\xff\xf6\0\0u0\0\0\0\x02\0\0\
+      \0\0Q\xc6\xd6aB";

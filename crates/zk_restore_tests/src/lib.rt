@@ -1,8 +1,11 @@
-//! The tests of `zk_restore` and `zk_directory_commands`, and no code of its own.
+//! The tests of `zk_restore`, `zk_directory_commands` and `zk_directory_debugger`, and no code of its
+//! own.
 #![tactic(auto)]
 
 #[cfg(test)]
 mod command_tests;
+#[cfg(test)]
+mod debugger_tests;
 #[cfg(test)]
 mod files;
 #[cfg(test)]

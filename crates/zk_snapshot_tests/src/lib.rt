@@ -7,6 +7,8 @@
 #[cfg(test)]
 mod base_tests;
 #[cfg(test)]
+mod digest_tests;
+#[cfg(test)]
 mod draft_tests;
 #[cfg(test)]
 mod expected;

@@ -1,0 +1,4 @@
+-- What the contracts of this crate cite.
+pub mod Later
+pub mod Outcomes
+pub mod Starts
