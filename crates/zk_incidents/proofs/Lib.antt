@@ -1,0 +1,5 @@
+pub mod Finished
+pub mod Lined
+pub mod Ranked
+pub mod Repeated
+pub mod Texts

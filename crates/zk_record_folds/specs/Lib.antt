@@ -1,0 +1,2 @@
+-- What contracts on folds cite.
+pub mod Folds
