@@ -8,3 +8,4 @@ pub mod TalkLaws
 pub mod ScriptLaws
 pub mod OutputTexts
 pub mod Written
+pub mod LastLines

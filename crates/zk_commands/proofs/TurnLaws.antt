@@ -1,7 +1,7 @@
 -- A turn, by how far it went.
 use Rattle.std.proofs.Common.{◌≡◌, ◌∙◌, ℕ, List, [], ◌∷◌, ◌++◌, Bool, Option, Some, None, Result, Ok, Err, refl, sym, ap, subst, inl, inr, append_assoc, append-nil}
 use Rattle.std.specs.Io.KnownBytes.{Appends, Consumes, IsAtEnd}
-use Rattle.zk_records.specs.Sinks.{writer_of}
+use Rattle.zk_records.specs.Sinks.{writer_of, AppendsSome}
 use Rattle.zk_records.specs.declared.sink.Sink.{Sink}
 use Rattle.zk_log_commands.specs.Writing.{Wrote}
 use Rattle.zk_commands.specs.Prompts.{prompt_text, Puts}
@@ -12,13 +12,19 @@ use Rattle.zk_commands.specs.declared.session.Turn.{Turn}
 use Rattle.zk_commands.specs.declared.session.Turn.TheVariants as turns
 use Rattle.zk_commands.specs.HearingLines.{Hears}
 use Rattle.zk_commands.specs.Lines.{HearsLine}
-use Rattle.zk_commands.specs.Talking.{AnswersHeard, Exchanges, IsFront, PutsAnswer, TakesTurn}
+use Rattle.zk_commands.specs.Talking.{AnswersHeard, AppendsHeard, Exchanges, IsFront, PutsAnswer, TakesTurn}
 use Rattle.zk_commands.specs.declared.hearing_lines.ReadLine.TheVariants as heards
 use Rattle.zk_commands.specs.declared.line.Line.{Line}
 use Rattle.zk_commands.proofs.BytesLaws.{consumed_nothing, appended_kept, appended_more}
 
 pub front_all : (text : List ℕ) → IsFront text text
 front_all text = ([], sym (append-nil text))
+
+-- a part of the output was written
+pub put_broken : (old : Session) (line start end page : List ℕ) (before after : Option (List ℕ)) (turn : Turn) (new : Session) → start ≡ [] → page ≡ end → AppendsHeard old line start end turn new → AppendsSome before after page → PutsAnswer old line before after (Err faults.Write) new
+put_broken old line start end page before after turn new empty same h some =
+    let whole : h.answer ≡ page = sym (same ∙ h.told ∙ ap (λ (l : List ℕ). l ++ h.answer) empty) in
+    (h.answer, turn, h.answers, some.0, (some.1.0, whole ∙ some.1.2), some.1.3)
 
 module _ (prompts : Bool) (old : Session) (left : Option (List ℕ)) where
   abbrev prompt : List ℕ

@@ -7,6 +7,7 @@ use Rattle.std.specs.Str.{bytes_eq}
 use Rattle.zk_reports.specs.Reports.{line, tree_node_line}
 use Rattle.zk_table.specs.States.{NodeMap}
 use Rattle.zk_format.specs.Reports.{node_line}
+use Rattle.zk_session_lines.specs.Shown.{or_none}
 use Rattle.zk_tree.specs.declared.entry.Entry.{Entry}
 use Rattle.zk_txn.specs.Nodes.{stat_with}
 use Rattle.zk_txn.specs.declared.node.Node.{Node}
@@ -34,9 +35,6 @@ came_text old new entry = came_line old entry.0 (tree_node_line new entry) (fini
 -- deleted nodes, and then created or changed ones, each sorted by path
 abbrev pub changes_text : NodeMap → NodeMap → List ℕ
 changes_text old new = flat_map (went_text old new) (finite.entries old) ++ flat_map (came_text old new) (finite.entries new)
-
-abbrev pub or_none : List ℕ → List ℕ
-or_none text = if length text == 0 then codes "none\n" else text
 
 abbrev pub diff_text : NodeMap → NodeMap → List ℕ
 diff_text old new = or_none (changes_text old new)

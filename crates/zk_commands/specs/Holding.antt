@@ -1,6 +1,7 @@
 -- What the command `debug` writes without a script: a session over a log. A definition of this
 -- project.
-use Rattle.std.specs.Prelude.{◌≡◌, ◌⊎◌, ℕ, ℤ, List, Bool, Option, Result, Ok, Err, IsErr, codes}
+use Rattle.std.specs.Prelude.{◌≡◌, ◌⊎◌, ℕ, ℤ, List, [], Bool, Option, Result, Ok, Err, IsErr, codes}
+use Rattle.std.specs.String.{string_bytes}
 use Rattle.zk_debug.specs.Debugging.{Debugging, started}
 use Rattle.zk_records.specs.Sinks.{writer_of}
 use Rattle.zk_log.specs.Devices.{reader_of}
@@ -34,6 +35,7 @@ pub record Sits {L O E : Type 0} (remaining : L → Option (List ℕ)) (written 
   pub start : Session
   pub debugger : start.debugger ≡ first
   pub began : start.began ≡ 0
+  pub last : string_bytes start.last ≡ []
   pub end : Session
   pub ended : Result (Unit {0}) TalkFault
   pub talked : Talked prompts start (remaining (reader_of lines)) (remaining (reader_of lines')) (written (writer_of output)) (written (writer_of output')) ended end

@@ -2,10 +2,9 @@
 ghost use Rattle.std.specs.Prelude.{◌≡◌, ◌++◌, Some, IfOk, OnOk};
 ghost use Rattle.std.specs.String.{string_bytes};
 ghost use Rattle.zk_debug.specs.Debugging.{state_at};
-ghost use Rattle.zk_debug_script.specs.Answers.{seen_by};
-ghost use Rattle.zk_commands.specs.Diffs.{diff_text};
-ghost use Rattle.zk_commands.specs.Answering.{Appends, ObeysInto, other_answer, own_answer, turn_after};
-ghost use Rattle.zk_commands.specs.Texts.{told_line};
+ghost use Rattle.zk_session_lines.specs.Shown.{subtree_text};
+ghost use Rattle.zk_commands.specs.Answering.{Appends, AppendsLong, AppendsOwn, ObeysInto, changes_from, repeated, seen};
+ghost use Rattle.zk_commands.specs.Texts.{failed_line, told_line};
 ghost use Rattle.zk_commands.specs.Words.{own_from};
 
 use crate::diff::spell_diff;
@@ -15,13 +14,15 @@ use crate::repl_command::ReplCommand;
 use crate::session::{Session, Turn};
 use crate::texts::{expected_of, help};
 use zk_debug_script::{Command, CommandFault, read_command, run_command};
-use zk_path::NoMemory;
+use zk_path::{NoMemory, Path};
+use zk_session_lines::{long_form, push_breakpoints, push_in_words, push_subtree};
 
 /// Appends the output for one line, without its newline. Returns whether another line is read.
 ///
-/// A command of a script has the same output as in a script. Any other text has an error message,
-/// and is dropped. After an allocation failure the command may have been executed, and a part of
-/// the output appended.
+/// An empty line repeats the last one, and short forms stand for their long ones. A command of a
+/// script has the same output as in a script, but a fault is in words. Any other text has an error
+/// message, and is dropped. After an allocation failure the command may have been executed, and a
+/// part of the output appended.
 pub fn answer_line(session: &mut Session, line: &[u8], page: &mut String) -> Result<Turn, NoMemory>
     ensures { IfOk result (λ turn. Appends session.old line.now (string_bytes page.old)
         (string_bytes page.new) turn session.new) }
@@ -39,6 +40,30 @@ fn answer_text(session: &mut Session, line: &str, page: &mut String) -> Result<T
     ensures { IfOk result (λ turn. Appends session.old line.now (string_bytes page.old)
         (string_bytes page.new) turn session.new) }
 {
+    let said = repeated(session, line)?;
+    let text = long_form(session.alloc, said.as_str())?;
+    let turn = answer_long(session, text.as_str(), page)?;
+    session.last = said;
+    Ok(turn)
+}
+
+/// The line, or the last one if it is empty.
+fn repeated(session: &Session, line: &str) -> Result<String, NoMemory>
+    ensures { IfOk result (λ said. string_bytes said ≡ repeated (string_bytes session.now.last) line.now) }
+{
+    let said = if line.is_empty() {
+        session.last.as_str()
+    } else {
+        line
+    };
+    Ok(String::from_str(session.alloc, said)?)
+}
+
+/// Appends the output for a line in its long form.
+fn answer_long(session: &mut Session, line: &str, page: &mut String) -> Result<Turn, NoMemory>
+    ensures { IfOk result (λ turn. AppendsLong session.old line.now (string_bytes page.old)
+        (string_bytes page.new) turn session.new) }
+{
     match read_command(session.alloc, line) {
         Ok(command) => {
             obey(session, command, page)?;
@@ -49,26 +74,26 @@ fn answer_text(session: &mut Session, line: &str, page: &mut String) -> Result<T
     }
 }
 
-/// Executes a command of a script and appends its output.
+/// Executes a command of the debugger and appends its output.
 fn obey(session: &mut Session, command: Command, page: &mut String) -> Result<(), NoMemory>
     ensures { OnOk result (ObeysInto session.old command (string_bytes page.old) (string_bytes page.new) session.new) }
 {
     let place = session.debugger.place();
-    run_command(&mut session.debugger, command, page)?;
+    let mut answer = String::new(session.alloc);
+    run_command(&mut session.debugger, command, &mut answer)?;
     if place != session.debugger.place() {
         session.began = place;
     }
-    Ok(())
+    push_in_words(page, answer.as_str())
 }
 
 /// Appends the output for a line that is not a command of a script.
-fn answer_other(session: &Session, line: &str, page: &mut String) -> Result<Turn, NoMemory>
-    ensures told { OnOk result (string_bytes page.new ≡ string_bytes page.old
-        ++ other_answer session.now line.now (own_from line.now)) }
-    ensures goes { IfOk result (λ turn. turn ≡ turn_after (own_from line.now)) }
+fn answer_other(session: &mut Session, line: &str, page: &mut String) -> Result<Turn, NoMemory>
+    ensures { IfOk result (λ turn. AppendsOwn session.old line.now (own_from line.now) (string_bytes page.old)
+        (string_bytes page.new) turn session.new) }
 {
-    match own_of(line) {
-        Ok(own) => answer_own(session, own, page),
+    match own_of(session.alloc, line) {
+        Ok(own) => answer_own(session, line, own, page),
         Err(CommandFault::Malformed) => {
             tell_line(line, page)?;
             Ok(Turn::GoesOn)
@@ -88,43 +113,62 @@ fn tell_line(line: &str, page: &mut String) -> Result<(), NoMemory>
 }
 
 /// Appends the output for a command of the session's own.
-fn answer_own(session: &Session, own: ReplCommand, page: &mut String) -> Result<Turn, NoMemory>
-    ensures told { OnOk result (string_bytes page.new ≡ string_bytes page.old ++ own_answer session.now own) }
-    ensures goes { IfOk result (λ turn. turn ≡ turn_after (Some own)) }
+fn answer_own(
+    session: &mut Session,
+    _line: &str,
+    own: ReplCommand,
+    page: &mut String,
+) -> Result<Turn, NoMemory>
+    ensures { IfOk result (λ turn. AppendsOwn session.old _line.now (Some own) (string_bytes page.old)
+        (string_bytes page.new) turn session.new) }
 {
     match own {
-        ReplCommand::Help => {
-            page.push_str(help())?;
-            Ok(Turn::GoesOn)
-        }
+        ReplCommand::Do(command) => obey(session, command, page)?,
+        ReplCommand::Help => page.push_str(help())?,
         ReplCommand::Around(count) => {
             let debugger = &session.debugger;
             spell_list(page, debugger.txns(), debugger.place(), count as usize)?;
-            Ok(Turn::GoesOn)
         }
-        ReplCommand::Diff => {
-            spell_seen_diff(session, page)?;
-            Ok(Turn::GoesOn)
+        ReplCommand::Diff => spell_changes_from(session, session.began, page)?,
+        ReplCommand::DiffLast => {
+            let before = session.debugger.place().saturating_sub(1);
+            spell_changes_from(session, before, page)?;
         }
-        ReplCommand::Quit => Ok(Turn::Ends),
+        ReplCommand::Subtree(path) => spell_subtree(session, &path, page)?,
+        ReplCommand::Breakpoints => push_breakpoints(page, &session.debugger)?,
+        ReplCommand::Quit => return Ok(Turn::Ends),
     }
+    Ok(Turn::GoesOn)
 }
 
-/// Appends what the last move changed in the tree.
-fn spell_seen_diff(session: &Session, page: &mut String) -> Result<(), NoMemory>
-    ensures { OnOk result (string_bytes page.new ≡ string_bytes page.old
-        ++ seen_by session.now.debugger (diff_text (state_at session.now.debugger.base session.now.debugger.txns session.now.began).nodes
-        (state_at session.now.debugger.base session.now.debugger.txns session.now.debugger.place).nodes)) }
+/// Appends what changed in the tree since an earlier place.
+fn spell_changes_from(session: &Session, began: usize, page: &mut String) -> Result<(), NoMemory>
+    ensures { OnOk result (string_bytes page.new ≡ string_bytes page.old ++ changes_from session.now began) }
 {
     let txns = session.debugger.txns();
     match session.debugger.tree() {
         Ok(machine) => {
-            let before = &txns[..session.began.min(txns.len())];
+            let before = &txns[..began.min(txns.len())];
             spell_diff(page, session.debugger.base(), before, machine)
         }
-        Err(_) => {
-            page.push_str("B5\n")?;
-            Ok(())
-        }
+        Err(_) => tell_failed(page),
     }
+}
+
+/// Appends the nodes at and below a path.
+fn spell_subtree(session: &Session, path: &Path, page: &mut String) -> Result<(), NoMemory>
+    ensures { OnOk result (string_bytes page.new ≡ string_bytes page.old ++ seen session.now (subtree_text path.now (state_at session.now.debugger.base session.now.debugger.txns session.now.debugger.place).nodes)) }
+{
+    match session.debugger.tree() {
+        Ok(machine) => push_subtree(page, machine, path.text()),
+        Err(_) => tell_failed(page),
+    }
+}
+
+/// Appends that the debugger has failed.
+fn tell_failed(page: &mut String) -> Result<(), NoMemory>
+    ensures { OnOk result (string_bytes page.new ≡ string_bytes page.old ++ failed_line) }
+{
+    page.push_str("an earlier command ran out of memory: reset (B5)\n")?;
+    Ok(())
 }

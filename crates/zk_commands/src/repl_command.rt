@@ -1,5 +1,8 @@
+use zk_debug_script::Command;
+use zk_path::Path;
+
 /// A command of a session besides those of a script.
-#[derive(Clone, Copy, Debug, PartialEq, Eq)]
+#[derive(Debug, Drop)]
 pub enum ReplCommand {
     /// `help`: prints the lines of a session.
     Help,
@@ -7,6 +10,14 @@ pub enum ReplCommand {
     Around(u32),
     /// `diff`: prints what the last move changed in the tree.
     Diff,
+    /// `diff last`: prints what the transaction just before the place changed in the tree.
+    DiffLast,
+    /// `tree PATH`: prints the nodes at and below a path.
+    Subtree(Path),
+    /// `info breaks`: prints the breakpoints that are set.
+    Breakpoints,
+    /// `step N` or `break prefix PATH`: a command of the debugger that scripts do not have.
+    Do(Command),
     /// `quit`: ends the session.
     Quit,
 }

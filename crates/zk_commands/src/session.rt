@@ -1,4 +1,5 @@
-ghost use Rattle.std.specs.Prelude.{◌≡◌};
+ghost use Rattle.std.specs.Prelude.{◌≡◌, []};
+ghost use Rattle.std.specs.String.{string_bytes};
 ghost use Rattle.zk_commands.specs.declared.session.TalkFault.TheVariants as faults;
 
 use std::alloc::{AllocError, Global};
@@ -6,11 +7,12 @@ use zk_debug::Debugger;
 use zk_log::WriteFault;
 use zk_path::NoMemory;
 
-/// A debugger in a session, and the place before its last move.
+/// A debugger in a session, the place before its last move, and the last line that was not empty.
 pub struct Session {
     pub(crate) alloc: Global,
     pub(crate) debugger: Debugger,
     pub(crate) began: usize,
+    pub(crate) last: String,
 }
 
 impl Drop for Session {
@@ -19,6 +21,7 @@ impl Drop for Session {
             alloc: _,
             debugger: _,
             began: _,
+            last: _,
         } = self;
     }
 }
@@ -28,11 +31,13 @@ impl Session {
     pub fn new(alloc: Global, debugger: Debugger) -> Session
         ensures debugger { result.debugger ≡ debugger }
         ensures began { result.began ≡ 0 }
+        ensures last { string_bytes result.last ≡ [] }
     {
         Session {
             alloc,
             debugger,
             began: 0,
+            last: String::new(alloc),
         }
     }
 }

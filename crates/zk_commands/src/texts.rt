@@ -18,12 +18,13 @@ fn expected_for(word: &str) -> &'static str
     ensures { result.now ≡ expected_for word.now }
 {
     match word {
-        "goto" => "goto ZXID, of sixteen lower-case hexadecimal digits",
-        "node" => "node PATH, in double quotes",
-        "break" =>
-            "break at ZXID, break path PATH, break session ID, break kind WORD or break error",
+        "goto" => "goto ZXID, of sixteen lower-case hexadecimal digits, or 0x and fewer",
+        "node" => "node PATH, in double quotes if it has a space",
+        "break" => "break at ZXID, path PATH, prefix PATH, session ID, kind WORD or error",
         "clear" => "clear N, the number of a breakpoint",
         "list" => "list or list N, a number of lines",
+        "step" => "step or step N, a number of places",
+        "tree" => "tree or tree PATH",
         _ => "a command; help lists them",
     }
 }
@@ -32,22 +33,25 @@ fn expected_for(word: &str) -> &'static str
 pub(crate) fn help() -> &'static str
     ensures { result.now ≡ help_text }
 {
-    "Lines of a session, one command each:
-  step                one place up
-  back                one place down
-  run                 up to the first place that matches a breakpoint, or to the end
-  runback             down to the last one that does, or to the start
-  goto ZXID           to the place after all transactions up to this zxid
-  tree                prints the tree at the place
+    "Lines of a session, one command each; an empty line repeats the last one:
+  s, step [N]         one place up, or N
+  b, back             one place down
+  r, run              up to the first place that matches a breakpoint, or to the end
+  rb, runback         down to the last one that does, or to the start
+  g, goto ZXID        to the place after all transactions up to this zxid
+  tree [PATH]         prints the tree at the place, or the nodes at and below PATH
   node PATH           prints one node of it
   last                prints the result of the transaction just applied
   list [N]            prints the log around the place, marked >: N lines on each side, or 5
   diff                prints what the last move changed: - removed, + added, < before, > after
+  diff last           prints what the transaction just applied changed
   break at ZXID       sets a breakpoint on a zxid
   break path PATH     on a path that a transaction or a part names, or a closed session deletes
+  break prefix PATH   on such a path and all below it
   break session ID    on a session
   break kind WORD     on a kind of transaction
   break error         on a result whose code is not 0
+  info breaks         prints the breakpoints
   clear N             removes breakpoint N
   reset               back to the start; breakpoints stay
   help                these lines
@@ -56,6 +60,7 @@ pub(crate) fn help() -> &'static str
 Words of a kind:
   create0 create delete setData setACL createSession closeSession error multi
 
-A ZXID and an ID are sixteen lower-case hexadecimal digits, and a PATH stands in double quotes.
+A ZXID and an ID are sixteen lower-case hexadecimal digits, or 0x and fewer. A PATH with a space, a
+quote or a backslash stands in double quotes.
 "
 }

@@ -156,7 +156,7 @@ fn talks(alloc: Global, debugger: Debugger) -> bool {
         &mut output,
         &mut faults,
     );
-    let expected = b"zk 0 0000000000000002> B2\nzk 0 0000000000000002> ";
+    let expected = b"zk 0 0000000000000002> no earlier place (B2)\nzk 0 0000000000000002> ";
     status == Ok(0) && output.into_inner().bytes() == expected.as_slice()
 }
 

@@ -51,7 +51,9 @@ const SCRIPT: &[u8] = b"servers 3\nlead 1\nfollow 2 1\nlead 4\n\
 
 const ANSWERS: &[u8] = b"ok\nok\nok 1\nE2\nerr -112\nlines 0\n";
 
-const STOPPED: &[u8] = b"? a command; help lists them\nB2\n";
+const STOPPED: &[u8] = b"? a command; help lists them\nno earlier place (B2)\n";
+
+const BACK: &[u8] = b"no earlier place (B2)\n";
 
 const CLEARS: &[u8] = b"clear 1\nstop\nback\n";
 
@@ -102,7 +104,7 @@ static TRIALS: [Trial; 21] = [
     (Debug, HEAD, b"back\nback\n", Script(2), b"", b"", READ),
     (Debug, HEAD, b"tree\n", Output(4, 1), b"zxid", b"", WRITE),
     // the first line has its answer before the eighth read
-    (TALK, HEAD, b"back\nback\n", Script(7), b"B2\n", b"", READ),
+    (TALK, HEAD, b"back\nback\n", Script(7), BACK, b"", READ),
     (Run, SCRIPT, b"", Input(1), b"", b"", READ),
     (Run, SCRIPT, b"", Output(4, 2), b"ok\nok\nok", b"", WRITE),
 ];

@@ -1,6 +1,6 @@
 -- A debugger: a base, a list of transactions, a place in it, and numbered breakpoints. A definition
 -- of this project.
-use Rattle.std.specs.Prelude.{◌≡◌, ◌<◌, ◌≤◌, ◌-◌, ℕ, zero, suc, ℤ, pos, List, Bool, true, false, Option, Some, None, option_map, length, take, filter, slice_get, int_le, refl}
+use Rattle.std.specs.Prelude.{◌≡◌, ◌<◌, ◌≤◌, ◌+◌, ◌-◌, nat_lt, if◌then◌else◌, ℕ, zero, suc, ℤ, pos, List, Bool, true, false, Option, Some, None, option_map, length, take, filter, slice_get, int_le, refl}
 use Rattle.std.specs.Coded.{Coded, code_by, coded×, coded_list, coded_ℕ, coded_bool}
 use Rattle.std.specs.FinMap as finite
 use Rattle.std.specs.FinMap.{FinMap, entries}
@@ -122,6 +122,10 @@ pub record IsRunBackTo (d : Debugging) (to : ℕ) : Type 0 where
   pub below : to < d.place
   pub skips : (place : ℕ) → to < place → place < d.place → hit_at d place ≡ None
   pub stops : hit_at d to ≡ None → to ≡ 0
+
+-- `count` places on, or the end
+abbrev pub steps_to : Debugging → ℕ → ℕ
+steps_to d count = if nat_lt count (length d.txns - d.place) then d.place + count else length d.txns
 
 -- the transactions of at most this zxid
 abbrev pub up_to : ℤ → List Txn → List Txn

@@ -1,6 +1,6 @@
-ghost use Rattle.std.specs.Prelude.{◌≡◌};
-ghost use Rattle.std.specs.List.{list_any};
-ghost use Rattle.zk_debug.specs.Breakpoints.{kind_of, names, is_removal, concerns, is_met};
+ghost use Rattle.std.specs.Prelude.{◌≡◌, nat_eq};
+ghost use Rattle.std.specs.List.{list_any, starts_with};
+ghost use Rattle.zk_debug.specs.Breakpoints.{kind_of, is_below, is_in, names, is_removal, concerns, is_met};
 
 use zk_machine::{Applied, Change, ChangeKind};
 use zk_path::Path;
@@ -14,6 +14,8 @@ pub enum Breakpoint {
     /// A transaction or a part that names this path, applied or rejected, or a closed session whose
     /// node there is deleted.
     Path(Path),
+    /// The same for this path and all below it.
+    Prefix(Path),
     /// A transaction of this session.
     Session(i64),
     /// A transaction of this kind.
@@ -70,7 +72,8 @@ impl Breakpoint {
     {
         match self {
             Breakpoint::At(zxid) => txn.zxid == *zxid,
-            Breakpoint::Path(path) => concerns(path, &txn.op, applied.changes.as_slice()),
+            Breakpoint::Path(path) => concerns(path, false, &txn.op, applied.changes.as_slice()),
+            Breakpoint::Prefix(path) => concerns(path, true, &txn.op, applied.changes.as_slice()),
             Breakpoint::Session(session) => txn.session == *session,
             Breakpoint::Kind(kind) => Kind::of(&txn.op) == *kind,
             Breakpoint::Error => applied.result.err != 0,
@@ -78,56 +81,76 @@ impl Breakpoint {
     }
 }
 
-/// Whether an operation with these changes names a path, also in a part, or closed a session whose
-/// node there was deleted.
-fn concerns(path: &Path, op: &Op, changes: &[Change]) -> bool
-    ensures { result ≡ concerns path.now op.now changes.now }
+/// Whether a path is another, or with `below` one below it.
+pub fn is_in(path: &str, below: bool, named: &str) -> bool
+    ensures { result ≡ is_in path.now below named.now }
+{
+    named == path || (below && is_below(path, named))
+}
+
+/// Whether a path is below another.
+fn is_below(path: &str, named: &str) -> bool
+    ensures { result ≡ is_below path.now named.now }
+{
+    starts(named, path) && (path == "/" || named.as_bytes().get(path.len()) == Some(&b'/'))
+}
+
+fn starts(text: &str, prefix: &str) -> bool
+    ensures { result ≡ starts_with nat_eq text.now prefix.now }
+{
+    text.as_bytes().starts_with(prefix.as_bytes())
+}
+
+/// Whether an operation with these changes names a path, or with `below` one below it, also in a
+/// part, or closed a session whose node there was deleted.
+fn concerns(path: &Path, below: bool, op: &Op, changes: &[Change]) -> bool
+    ensures { result ≡ concerns path.now below op.now changes.now }
 {
     match op {
         Op::Create { path: named, .. }
         | Op::CreateOld { path: named, .. }
         | Op::Delete { path: named }
         | Op::SetData { path: named, .. }
-        | Op::SetAcl { path: named, .. } => named.text() == path.text(),
-        Op::Multi { parts } => any_names(path, parts.as_slice()),
-        Op::CloseSession => any_removes(path, changes),
+        | Op::SetAcl { path: named, .. } => is_in(path.text(), below, named.text()),
+        Op::Multi { parts } => any_names(path, below, parts.as_slice()),
+        Op::CloseSession => any_removes(path, below, changes),
         Op::OpenSession { .. } | Op::Error { .. } => false,
     }
 }
 
 /// Whether one of a multi's parts names a path.
-fn any_names(path: &Path, parts: &[Sub]) -> bool
-    ensures { result ≡ list_any (names path.now) parts.now }
+fn any_names(path: &Path, below: bool, parts: &[Sub]) -> bool
+    ensures { result ≡ list_any (names path.now below) parts.now }
 {
-    parts.iter().any(|part| names(path, part))
+    parts.iter().any(|part| names(path, below, part))
 }
 
 /// Whether one of the changes is that the node of a path was deleted.
-fn any_removes(path: &Path, changes: &[Change]) -> bool
-    ensures { result ≡ list_any (is_removal path.now) changes.now }
+fn any_removes(path: &Path, below: bool, changes: &[Change]) -> bool
+    ensures { result ≡ list_any (is_removal path.now below) changes.now }
 {
-    changes.iter().any(|change| is_removal(path, change))
+    changes.iter().any(|change| is_removal(path, below, change))
 }
 
 /// Whether a part of a multi names a path.
-fn names(path: &Path, part: &Sub) -> bool
-    ensures { result ≡ names path.now part.now }
+fn names(path: &Path, below: bool, part: &Sub) -> bool
+    ensures { result ≡ names path.now below part.now }
 {
     match part {
         Sub::Create { path: named, .. }
         | Sub::Delete { path: named }
         | Sub::SetData { path: named, .. }
-        | Sub::Check { path: named, .. } => named.text() == path.text(),
+        | Sub::Check { path: named, .. } => is_in(path.text(), below, named.text()),
         Sub::Error { .. } => false,
     }
 }
 
 /// Whether a change is that the node of a path was deleted.
-fn is_removal(path: &Path, change: &Change) -> bool
-    ensures { result ≡ is_removal path.now change.now }
+fn is_removal(path: &Path, below: bool, change: &Change) -> bool
+    ensures { result ≡ is_removal path.now below change.now }
 {
     match change.kind {
-        ChangeKind::Deleted => change.path.text() == path.text(),
+        ChangeKind::Deleted => is_in(path.text(), below, change.path.text()),
         _ => false,
     }
 }

@@ -74,6 +74,13 @@ impl Breakpoints {
         self.standing.shift_remove(&number).is_some()
     }
 
+    /// Those that are set, in the order of their numbers.
+    pub(crate) fn standing(&self) -> &IndexMap<u32, Breakpoint>
+        ensures { result.now.entries ≡ finite.entries self.now.standing }
+    {
+        &self.standing
+    }
+
     /// The lowest number of a breakpoint that a transaction matches, given its result and changes.
     pub(crate) fn lowest_met(&self, txn: &Txn, applied: &Applied) -> Option<u32>
         ensures { result ≡ lowest_by (is_met txn.now applied.now.result.err applied.now.changes.items) self.now.standing }

@@ -4,13 +4,14 @@ ghost use Rattle.std.specs.Option.{option_copied};
 ghost use Rattle.zk_records.specs.Written.{Rises};
 ghost use Rattle.zk_debug.specs.declared.fault.DebugFault.TheVariants as faults;
 ghost use Rattle.zk_table.specs.States.{start_state};
-ghost use Rattle.zk_debug.specs.Debugging.{started, state_at, machine_at, result_at, zxid_at, hit_at, moved, broken, up_to, Moves, IsRunTo, IsRunBackTo, RefusesOn, RefusesBack, RefusesAny, RefusesSet};
+ghost use Rattle.zk_debug.specs.Debugging.{started, state_at, machine_at, result_at, zxid_at, hit_at, moved, broken, steps_to, up_to, Moves, IsRunTo, IsRunBackTo, RefusesOn, RefusesBack, RefusesAny, RefusesSet};
 
 use crate::breakpoint::Breakpoint;
 use crate::breakpoints::Breakpoints;
 use crate::fault::DebugFault;
 use crate::stop::Stop;
 use crate::walk::Walk;
+use indexmap::IndexMap;
 use std::alloc::Global;
 use std::marker::Model;
 use zk_log::{Loaded, Txns};
@@ -152,6 +153,26 @@ impl Debugger {
         self.go_on(place)
     }
 
+    /// Moves this many places on, or to the end.
+    pub fn step_by(&mut self, count: usize) -> Result<Stop, DebugFault>
+        ensures moves { IfOk result (λ stop. Moves self.old stop self.new) }
+        ensures place { IfOk result (λ stop. stop.place ≡ steps_to self.old count) }
+        ensures refused { IfErr result (λ fault. RefusesOn self.old fault self.new) }
+    {
+        self.running()?;
+        let (began, end) = (self.walk.place(), self.walk.end());
+        if began == end {
+            return Err(DebugFault::AtEnd);
+        }
+        let place = if count < end - began {
+            began + count
+        } else {
+            end
+        };
+        self.walk.go_to(place)?;
+        Ok(self.stop())
+    }
+
     /// Moves to the previous place.
     pub fn back(&mut self) -> Result<Stop, DebugFault>
         ensures moves { IfOk result (λ stop. Moves self.old stop self.new) }
@@ -238,6 +259,13 @@ impl Debugger {
         }
         let number = self.breakpoints.set(breakpoint)?;
         Ok(number)
+    }
+
+    /// The breakpoints that are set, in the order of their numbers.
+    pub fn breakpoints(&self) -> &IndexMap<u32, Breakpoint>
+        ensures { result.now.entries ≡ finite.entries self.now.breakpoints.standing }
+    {
+        self.breakpoints.standing()
     }
 
     /// Removes the breakpoint with a number.

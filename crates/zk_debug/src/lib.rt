@@ -9,7 +9,7 @@ mod fault;
 mod stop;
 mod walk;
 
-pub use breakpoint::{Breakpoint, Kind};
+pub use breakpoint::{Breakpoint, Kind, is_in};
 pub use debugger::Debugger;
 pub use fault::DebugFault;
 pub use stop::Stop;

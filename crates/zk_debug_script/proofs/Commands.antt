@@ -144,6 +144,7 @@ breakpoint_again : (b : Breakpoint) → IsBreakpoint b → breakpoint_from (brea
 unfolding breakpoint_from breakpoint_with word_in field_in
 breakpoint_again (breakpoints.At zxid) fits = ap (made breakpoints.At) (id_again zxid fits)
 breakpoint_again (breakpoints.Path path) fits = ap (made breakpoints.Path) (path_again path fits)
+breakpoint_again (breakpoints.Prefix path) fits = absurd fits
 breakpoint_again (breakpoints.Session session) fits = ap (made breakpoints.Session) (id_again session fits)
 breakpoint_again (breakpoints.Kind kind) fits = ap (made breakpoints.Kind) (kind_again kind)
 breakpoint_again breakpoints.Error fits = refl
@@ -151,6 +152,7 @@ breakpoint_again breakpoints.Error fits = refl
 command_again : (c : Command) → IsCommand c → command_from (command_text c) ≡ Some c
 unfolding command_from alone_from with_from word_in field_in
 command_again commands.Step fits = refl
+command_again (commands.StepBy count) fits = absurd fits
 command_again commands.Back fits = refl
 command_again commands.Run fits = refl
 command_again commands.RunBack fits = refl

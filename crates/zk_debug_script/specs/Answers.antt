@@ -2,7 +2,7 @@
 use Rattle.std.specs.Prelude.{◌≡◌, ◌≤◌, ◌<◌, ◌+◌, ◌⊎◌, ℕ, ℤ, List, [], ◌∷◌, ◌++◌, Bool, true, false, if◌then◌else◌, length, Option, Some, None, Result, Ok, Err, OnOk, OnErr, codes}
 use Rattle.std.specs.FinMap as finite
 use Rattle.std.specs.Fmt.{decimal}
-use Rattle.zk_debug.specs.Debugging.{Debugging, Breakpoints, state_at, result_at, zxid_at, hit_at, moved, broken, up_to, IsRunTo, IsRunBackTo, RefusesOn, RefusesBack, RefusesAny, RefusesSet}
+use Rattle.zk_debug.specs.Debugging.{Debugging, Breakpoints, state_at, result_at, zxid_at, hit_at, moved, broken, steps_to, up_to, IsRunTo, IsRunBackTo, RefusesOn, RefusesBack, RefusesAny, RefusesSet}
 use Rattle.zk_debug.specs.declared.breakpoint.Breakpoint.{Breakpoint}
 use Rattle.zk_debug.specs.declared.fault.DebugFault.{DebugFault}
 use Rattle.zk_debug.specs.declared.fault.DebugFault.TheVariants as faults
@@ -112,6 +112,7 @@ RefusesReset old fault new = (fault ≡ faults.NoMemory) × (new ≡ broken old)
 -- the output for a command, and the debugger after it
 abbrev pub Answers : Debugging → Command → List ℕ → Debugging → Type 0
 Answers old commands.Step answer new = Goes (λ to. to ≡ old.place + 1) old answer new ⊎ IsRefused (RefusesOn old) answer new
+Answers old (commands.StepBy count) answer new = Goes (λ to. to ≡ steps_to old count) old answer new ⊎ IsRefused (RefusesOn old) answer new
 Answers old commands.Back answer new = Goes (λ to. to + 1 ≡ old.place) old answer new ⊎ IsRefused (RefusesBack old) answer new
 Answers old commands.Run answer new = Goes (IsRunTo old) old answer new ⊎ IsRefused (RefusesOn old) answer new
 Answers old commands.RunBack answer new = Goes (IsRunBackTo old) old answer new ⊎ IsRefused (RefusesBack old) answer new

@@ -28,6 +28,7 @@ kind_text kinds.Multi = codes "multi"
 abbrev pub breakpoint_text : Breakpoint → List ℕ
 breakpoint_text (breakpoints.At zxid) = codes "at " ++ id_digits zxid
 breakpoint_text (breakpoints.Path path) = codes "path " ++ quoted path
+breakpoint_text (breakpoints.Prefix path) = codes "prefix " ++ quoted path
 breakpoint_text (breakpoints.Session session) = codes "session " ++ id_digits session
 breakpoint_text (breakpoints.Kind kind) = codes "kind " ++ kind_text kind
 breakpoint_text breakpoints.Error = codes "error"
@@ -35,6 +36,7 @@ breakpoint_text breakpoints.Error = codes "error"
 -- a command's line, without a newline
 abbrev pub command_text : Command → List ℕ
 command_text commands.Step = codes "step"
+command_text (commands.StepBy count) = codes "step " ++ decimal count
 command_text commands.Back = codes "back"
 command_text commands.Run = codes "run"
 command_text commands.RunBack = codes "runback"
@@ -46,15 +48,18 @@ command_text (commands.Break breakpoint) = codes "break " ++ breakpoint_text bre
 command_text (commands.Clear number) = codes "clear " ++ decimal number
 command_text commands.Reset = codes "reset"
 
--- the numbers are in the ranges of their fields, and the paths are paths
+-- the numbers are in the ranges of their fields, and the paths are paths; a breakpoint on all below a
+-- path, and a number of steps, have lines in a session alone
 abbrev pub IsBreakpoint : Breakpoint → Type 0
 IsBreakpoint (breakpoints.At zxid) = FitsSigned w64 zxid
 IsBreakpoint (breakpoints.Path path) = IsListedPath path
+IsBreakpoint (breakpoints.Prefix path) = ⊥
 IsBreakpoint (breakpoints.Session session) = FitsSigned w64 session
 IsBreakpoint (breakpoints.Kind kind) = Unit {0}
 IsBreakpoint breakpoints.Error = Unit {0}
 
 abbrev pub IsCommand : Command → Type 0
+IsCommand (commands.StepBy count) = ⊥
 IsCommand (commands.Goto zxid) = FitsSigned w64 zxid
 IsCommand (commands.Node path) = IsListedPath path
 IsCommand (commands.Break breakpoint) = IsBreakpoint breakpoint

@@ -38,6 +38,10 @@ fn obey(debugger: &mut Debugger, command: Command, answer: &mut String) -> Resul
             let moved = debugger.step();
             push_move(answer, debugger.zxid(), moved)
         }
+        Command::StepBy(count) => {
+            let moved = debugger.step_by(count as usize);
+            push_move(answer, debugger.zxid(), moved)
+        }
         Command::Back => {
             let moved = debugger.back();
             push_move(answer, debugger.zxid(), moved)

@@ -6,6 +6,8 @@ use zk_path::Path;
 pub enum Command {
     /// `step`: moves to the next place.
     Step,
+    /// Moves this many places on, or to the end. A script has no line for it: a session has `step N`.
+    StepBy(u32),
     /// `back`: moves to the previous place.
     Back,
     /// `run`: moves to the first later place that matches a breakpoint, or to the end.

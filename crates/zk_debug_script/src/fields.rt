@@ -6,7 +6,7 @@ ghost use Rattle.zk_debug_script.specs.Reading.{Makes, whole, number_of, number_
 
 use crate::fault::CommandFault;
 use std::alloc::Global;
-use zk_listing::{read_id, read_long, read_path};
+use zk_listing::{read_id, read_long};
 use zk_path::Path;
 
 /// Sixteen lower-case hexadecimal digits.
@@ -43,11 +43,11 @@ pub fn read_number(field: &str) -> Result<u32, CommandFault>
 }
 
 /// A path between quotes.
-pub(crate) fn path(alloc: Global, field: &str) -> Result<Path, CommandFault>
+pub fn read_path(alloc: Global, field: &str) -> Result<Path, CommandFault>
     ensures { Makes result (whole (path_at field.now)) }
 {
     let mut rest = field;
-    let path = read_path(alloc, &mut rest)?;
+    let path = zk_listing::read_path(alloc, &mut rest)?;
     if !rest.is_empty() {
         return Err(CommandFault::Malformed);
     }

@@ -12,7 +12,7 @@ mod script;
 pub use answers::run_command;
 pub use command::Command;
 pub use fault::CommandFault;
-pub use fields::read_number;
+pub use fields::{read_number, read_path};
 pub use reading::read_command;
 pub use script::run_script;
 pub use zk_reports::ScriptFault;

@@ -5,7 +5,7 @@ ghost use Rattle.zk_debug_script.specs.Reading.{Makes, command_from, alone_from,
 
 use crate::command::Command;
 use crate::fault::CommandFault;
-use crate::fields::{id, path, read_number};
+use crate::fields::{id, read_number, read_path};
 use std::alloc::Global;
 use zk_debug::{Breakpoint, Kind};
 
@@ -51,7 +51,7 @@ fn command_with(alloc: Global, word: &str, field: &str) -> Result<Command, Comma
 {
     match word {
         "goto" => Ok(Command::Goto(id(field)?)),
-        "node" => Ok(Command::Node(path(alloc, field)?)),
+        "node" => Ok(Command::Node(read_path(alloc, field)?)),
         "break" => Ok(Command::Break(breakpoint(alloc, field)?)),
         "clear" => Ok(Command::Clear(read_number(field)?)),
         _ => Err(CommandFault::Malformed),
@@ -77,7 +77,7 @@ fn breakpoint_with(alloc: Global, word: &str, field: &str) -> Result<Breakpoint,
 {
     match word {
         "at" => Ok(Breakpoint::At(id(field)?)),
-        "path" => Ok(Breakpoint::Path(path(alloc, field)?)),
+        "path" => Ok(Breakpoint::Path(read_path(alloc, field)?)),
         "session" => Ok(Breakpoint::Session(id(field)?)),
         "kind" => Ok(Breakpoint::Kind(kind(field).ok_or(CommandFault::Malformed)?)),
         _ => Err(CommandFault::Malformed),

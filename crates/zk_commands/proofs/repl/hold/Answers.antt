@@ -5,6 +5,7 @@ returns g c = record {
   start = c.new-session.result;
   debugger = c.new-session.ensures.debugger;
   began = c.new-session.ensures.began;
+  last = c.new-session.ensures.last;
   end = c.talk-ended.new.session;
   ended = c.talk-ended.result;
   talked = c.talk-ended.ensures.talked;

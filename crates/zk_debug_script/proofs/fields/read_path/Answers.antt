@@ -6,7 +6,7 @@ use Rattle.zk_format.specs.Spelling.{quoted}
 use Rattle.zk_listing.proofs.QuotedLaws.{path_exact}
 use Rattle.zk_reports.proofs.LineLaws.{is_filled, is_ended}
 use Rattle.zk_debug_script.proofs.Words.{reads_whole, leaves_a_rest, refuses_field}
-use Rattle.zk_debug_script.proofs.fields.path.Goals as goal
+use Rattle.zk_debug_script.proofs.fields.read_path.Goals as goal
 
 pub returns-in_err-path : goal.returns-in_err-path
 returns-in_err-path c =

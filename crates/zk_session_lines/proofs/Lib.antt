@@ -1,0 +1,3 @@
+pub mod Parts
+pub mod Pasts
+pub mod Kept

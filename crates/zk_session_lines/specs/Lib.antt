@@ -1,0 +1,2 @@
+pub mod Shorthand
+pub mod Shown
