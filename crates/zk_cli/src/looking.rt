@@ -28,7 +28,7 @@ pub(crate) fn look(rt: &HostRuntime, job: &FolderJob) -> Result<u8, NoMemory> {
     }
 }
 
-fn upto_of(until: Until) -> Upto {
+pub(crate) fn upto_of(until: Until) -> Upto {
     match until {
         Until::Last => Upto::Last,
         Until::Zxid(zxid) => Upto::Zxid { zxid },

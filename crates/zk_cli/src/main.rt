@@ -1,13 +1,16 @@
 //! The program `zk`: reads data directories and transaction logs of ZooKeeper, and runs its
 //! servers. This crate reads the command line and opens files, directories and ports. The commands
-//! are those of `zk_commands` and `zk_folder_commands`, except `serve`, which is here because it
-//! alone needs threads and sockets.
+//! are those of `zk_commands` and `zk_folder_commands`, except `serve` and `ensemble`, which are here
+//! because they alone need threads or sockets.
 #![tactic(auto)]
 
 mod accepting;
 mod clock;
+mod debugging;
 mod disk_folder;
+mod ensemble;
 mod fault_lines;
+mod incidents;
 mod listening;
 mod looking;
 mod port;
@@ -15,7 +18,10 @@ mod servers;
 mod serving;
 mod start_barrier;
 
+use debugging::{debug_directory, debugs_directory};
 use disk_folder::is_directory;
+use ensemble::run_ensemble;
+use incidents::run_named;
 use listening::listen;
 use looking::look;
 use std::io::{IsTerminal, Read, Write};
@@ -25,8 +31,8 @@ use std::sync::Wait;
 use std::thread::Threads;
 use std::{env, fs, io, time};
 use zk_cli_args::{
-    Command, CommandFault, Job, Order, Refusal, folder_job_from, read_command_line,
-    refusal_of_bytes,
+    Command, CommandFault, Job, Order, Refusal, ensemble_of, folder_debug_of, folder_job_from,
+    read_command_line, refusal_of_bytes,
 };
 use zk_commands::act;
 use zk_log::{Sink, Source};
@@ -57,6 +63,17 @@ fn run<R: Threads + Wait + Net<Listener = TcpListener, Stream = TcpStream> + tim
         .iter()
         .map(|word| word.as_str())
         .collect::<Vec<_>>(rt.alloc())?;
+    if let Some(job) = folder_debug_of(rt.alloc(), texts.as_slice())? {
+        if debugs_directory(rt, &job) {
+            return debug_directory(rt, &job);
+        }
+    }
+    if let Some(ensemble) = ensemble_of(rt.alloc(), texts.as_slice())? {
+        return run_ensemble(rt, threads, &ensemble);
+    }
+    if let Some(status) = run_named(rt, texts.as_slice())? {
+        return Ok(status);
+    }
     match read_command_line(rt.alloc(), texts.as_slice()) {
         Ok(Command::Act(job)) => act_or_look(rt, &job),
         Ok(Command::Look(job)) => look(rt, &job),
@@ -161,7 +178,7 @@ fn act_on<F: Read + Drop, S: Read + Drop, O: Write + Drop, R: Write + Drop>(
 }
 
 /// Prints why the program stops. Returns the exit status.
-fn refuse(rt: &HostRuntime, reason: &str) -> u8 {
+pub(crate) fn refuse(rt: &HostRuntime, reason: &str) -> u8 {
     // If that fails too, the error cannot be reported.
     let _ = eprintln!(rt; "zk: {reason}");
     1

@@ -3,7 +3,8 @@ use Rattle.std.proofs.Common.{◌≡◌, Bool, true, false, ℕ, ℤ, List, [], 
 use Rattle.std.proofs.lemmas.Slice.Eq.{bytes_eq-Decides}
 use Rattle.std.specs.Str.{bytes_eq}
 use Rattle.zk_times.specs.Times.{time_of}
-use Rattle.zk_cli_args.specs.Commands.{Names, NamesBy, given_by, given_with, is_option, prompts_of, upto_text, values_of, with_value, without_prompt}
+use Rattle.zk_cli_args.specs.Zxids.{padded}
+use Rattle.zk_cli_args.specs.Commands.{Names, NamesBy, ShowsUpto, given_by, given_with, is_option, prompts_of, upto_text, values_of, with_value, without_prompt}
 use Rattle.zk_cli_args.specs.Folders.{NamesFolder, NamesFolderBy, NeedsDirectory, SpellsUntil, looked_by}
 use Rattle.zk_cli_args.specs.Options.{ValueBeside, behind, found_or, given_beside, option_in, value_behind, value_in}
 use Rattle.zk_cli_args.specs.Serving.{NamesServing}
@@ -93,19 +94,20 @@ same_values x y e = cc
 
 -- ---- a job is none on a directory
 
-no_directory : (upto : Option ℤ) (word : List ℕ) (until : Until) → upto_text upto ≡ word → SpellsUntil word until → NeedsDirectory until None → ⊥
+no_directory : (upto : Option ℤ) (word : List ℕ) (until : Until) → upto_text upto ≡ padded word → SpellsUntil word until → NeedsDirectory until None → ⊥
 no_directory upto word untils.Last e spelled needs = let never : false ≡ true = needs in cc
 no_directory upto word (untils.Zxid z) e spelled needs = let never : false ≡ true = needs in cc
 no_directory None word (untils.Time t) e spelled needs = last_is_no_time t (ap time_of e ∙ spelled)
 no_directory (Some z) word (untils.Time t) e spelled needs = no_time z t (ap time_of e ∙ spelled)
 
-not_shown : (words values others : List (List ℕ)) (upto : Option ℤ) (input word folder : List ℕ) (until : Until) (logs : Option (List ℕ)) → given_by words ≡ Some (false, values) → looked_by words ≡ Some (logs, others) → values ≡ input ∷ upto_text upto ∷ []
+not_shown : (words values others : List (List ℕ)) (upto : Option ℤ) (input word folder : List ℕ) (until : Until) (logs : Option (List ℕ)) → given_by words ≡ Some (false, values) → looked_by words ≡ Some (logs, others) → ShowsUpto values input upto
     → others ≡ folder ∷ word ∷ [] → SpellsUntil word until → NeedsDirectory until logs → ⊥
 not_shown words values others upto input word folder until (Some logs) p q e f spelled needs = not_both_given words values others (Some logs) p q refl
 not_shown words values others upto input word folder until None p q e f spelled needs =
     let same : values ≡ others = same_values values others (sym (by_prompt (without_prompt words) words values p) ∙ by_none (found_in words) words others q) in
-    let both : input ∷ upto_text upto ∷ [] ≡ folder ∷ word ∷ [] = sym e ∙ same ∙ f in
-    let text : upto_text upto ≡ word = cc both in
+    let both : input ∷ e.0 ∷ [] ≡ folder ∷ word ∷ [] = sym e.1 ∙ same ∙ f in
+    let one : e.0 ≡ word = cc both in
+    let text : upto_text upto ≡ padded word = sym e.2 ∙ ap padded one in
     no_directory upto word until text spelled needs
 
 no_files : (values : List (List ℕ)) (o : Order) (i : List ℕ) (s : Option (List ℕ)) (t : List ℕ) → NamesBy (codes "files") values o i s t → ⊥

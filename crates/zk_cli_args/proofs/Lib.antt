@@ -1,11 +1,16 @@
 pub mod BehindLaws
+pub mod DebugLaws
 pub mod DigitsLaws
 pub mod DirectoryLaws
+pub mod EnsembleLaws
 pub mod FolderLaws
 pub mod GivenLaws
 pub mod LinesLaws
 pub mod NamesLaws
 pub mod OptionLaws
 pub mod ServingLaws
+pub mod ShowLaws
+pub mod TopLaws
 pub mod UntilLaws
 pub mod WordsLaws
+pub mod ZxidLaws

@@ -6,6 +6,7 @@ use Rattle.hex.proofs.HexLemmas.{length-encode_with}
 use Rattle.hex.specs.Hex.{encode_lower, lower_digits, decode_sized}
 use Rattle.zk_format.specs.Spelling.{sixteen_digits, id_digits}
 use Rattle.zk_cli_args.specs.Commands.{IsUpto, Names, NamesBy, given_by, prompts_of, upto_text}
+use Rattle.zk_cli_args.specs.Zxids.{padded}
 use Rattle.zk_cli_args.specs.declared.command.Order.{Order}
 use Rattle.zk_cli_args.specs.declared.command.Order.TheVariants as orders
 use Rattle.zk_cli_args.proofs.DigitsLaws.{digits_read, same_bits}
@@ -56,9 +57,10 @@ apart a b m n p q below e = let h : first_letter a ≡ first_letter b = ap first
 
 same_by : (name : List ℕ) (values : List (List ℕ)) (o o' : Order) (i i' : List ℕ) (s s' : Option (List ℕ)) (t t' : List ℕ) → prompts_of o ≡ prompts_of o' → NamesBy name values o i s t → NamesBy name values o' i' s' t' → IsSame o i s t o' i' s' t'
 same_by name values (orders.Show u) (orders.Show v) i i' s s' t t' f p q =
-    let both : i ∷ upto_text u ∷ [] ≡ i' ∷ upto_text v ∷ [] = sym p.1 ∙ q.1 in
+    let both : i ∷ p.1.0 ∷ [] ≡ i' ∷ q.1.0 ∷ [] = sym p.1.1 ∙ q.1.1 in
     let input : i ≡ i' = cc both in
-    let text : upto_text u ≡ upto_text v = cc both in
+    let word : p.1.0 ≡ q.1.0 = cc both in
+    let text : upto_text u ≡ upto_text v = sym p.1.2 ∙ ap padded word ∙ q.1.2 in
     (ap orders.Show (one_upto u v p.2 q.2 text), input, p.3 ∙ sym q.3, p.4 ∙ sym q.4)
 same_by name values orders.List orders.List i i' s s' t t' f p q =
     let both : i ∷ [] ≡ i' ∷ [] = sym p.1 ∙ q.1 in

@@ -3,7 +3,7 @@ use Rattle.std.proofs.Common.{◌≡◌, ◌≢◌, Bool, true, false, ℕ, ◌�
 use Rattle.std.proofs.lemmas.List.{take_all, take-append-drop, take-append-le}
 use Rattle.std.proofs.lemmas.Slice.Eq.{bytes_eq-Decides}
 use Rattle.std.specs.Str.{bytes_eq}
-use Rattle.zk_cli_args.specs.Options.{ValueBeside, behind, option_in, value_behind, value_in}
+use Rattle.zk_cli_args.specs.Options.{ValueBeside, after, behind, flag_in, option_in, value_behind, value_in}
 use Rattle.zk_cli_args.proofs.WordsLaws.{no_word, one_more, texts}
 
 further : (front : List (List ℕ)) (word : List ℕ) (found : Option ValueBeside) → behind (front ++ word ∷ []) found ≡ behind front (behind (word ∷ []) found)
@@ -42,6 +42,41 @@ one_on name prefix front front' (word ∷ words) all some items e f g so_far =
     let rest : take (length (word ∷ words) - 1) words ≡ words = take_all (length (word ∷ words) - 1) words (omega arith) in
     let texts_in_front : texts front' ≡ texts front ++ word.now ∷ [] = ap texts items ∙ one_more front word in
     rw (texts_in_front, rest) (goes_on name prefix (texts front) word.now (texts words) all so_far e f g)
+
+-- ---- a flag
+
+further_after : (front : List (List ℕ)) (word : List ℕ) (found : Option (List (List ℕ))) → after (front ++ word ∷ []) found ≡ after front (after (word ∷ []) found)
+further_after front word None = refl
+further_after front word (Some others) = ap Some (append_assoc front (word ∷ []) others)
+
+pub after_none : (found : Option (List (List ℕ))) → after [] found ≡ found
+after_none None = refl
+after_none (Some others) = refl
+
+module _ (flag : List ℕ) (front : List (List ℕ)) (word : List ℕ) (back : List (List ℕ)) (all : Option (List (List ℕ))) (so_far : after front (flag_in flag (word ∷ back)) ≡ all) where
+  -- the "--"
+  pub flag_ends : true ≡ bytes_eq word (codes "--") → None ≡ all
+  flag_ends e = rw (← e) at so_far
+
+  -- the flag
+  pub takes_flag : false ≡ bytes_eq word (codes "--") → true ≡ bytes_eq word flag → Some (front ++ back) ≡ all
+  takes_flag e f = rw (← e, ← f) at so_far
+
+  -- any other word
+  pub passes : false ≡ bytes_eq word (codes "--") → false ≡ bytes_eq word flag → after (front ++ word ∷ []) (flag_in flag back) ≡ all
+  passes e f =
+      let before : after front (after (word ∷ []) (flag_in flag back)) ≡ all = rw (← e, ← f) at so_far in
+      further_after front word (flag_in flag back) ∙ before
+
+-- a word is prepended
+pub one_passed : (flag : List ℕ) (front front' words : List (Bor (List ℕ))) (all : Option (List (List ℕ))) → 1 ≤ length words → front' ≡ front ++ get_or words 0 no_word ∷ []
+    → false ≡ bytes_eq (get_or words 0 no_word).now (codes "--") → false ≡ bytes_eq (get_or words 0 no_word).now flag
+    → after (texts front) (flag_in flag (texts words)) ≡ all → after (texts front') (flag_in flag (texts (take (length words - 1) (drop 1 words)))) ≡ all
+one_passed flag front front' [] all some items e f so_far = absurd (omega (arith, some))
+one_passed flag front front' (word ∷ words) all some items e f so_far =
+    let rest : take (length (word ∷ words) - 1) words ≡ words = take_all (length (word ∷ words) - 1) words (omega arith) in
+    let texts_in_front : texts front' ≡ texts front ++ word.now ∷ [] = ap texts items ∙ one_more front word in
+    rw (texts_in_front, rest) (passes flag (texts front) word.now (texts words) all so_far e f)
 
 -- ---- the value in one word
 

@@ -8,7 +8,8 @@ use Rattle.hex.specs.Hex.{encode_lower, encode_with, hex_digit_value, lower_digi
 use Rattle.zk_format.specs.Spelling.{sixteen_digits, id_digits}
 use Rattle.zk_times.specs.Times.{fits, has_form, time_of}
 use Rattle.zk_cli_args.specs.Commands.{AreOnly, IsOnly, IsUpto, ReadsUpto}
-use Rattle.zk_cli_args.specs.Folders.{IsShownIn, NamesFolderBy, NeedsDirectory, ReadsFolderBy, ReadsUntil, SpellsUntil, until_of}
+use Rattle.zk_cli_args.specs.Folders.{IsShownIn, NamesFolderBy, NeedsDirectory, ReadsFolderBy, ReadsPlain, ReadsUntil, SpellsPlain, SpellsUntil, until_of}
+use Rattle.zk_cli_args.specs.Zxids.{padded}
 use Rattle.zk_cli_args.specs.declared.folders.FolderJob.{FolderJob}
 use Rattle.zk_cli_args.specs.declared.folders.FolderOrder.{FolderOrder}
 use Rattle.zk_cli_args.specs.declared.folders.FolderOrder.TheVariants as orders
@@ -90,20 +91,27 @@ one_until word (untils.Time t) (untils.Time s) p q = ap untils.Time (same_some t
 
 -- ---- reading it
 
-spelled_upto : (word : List ℕ) (upto : Option ℤ) → ReadsUpto word (Some upto) → IsUpto upto → SpellsUntil word (until_of upto)
+spelled_upto : (word : List ℕ) (upto : Option ℤ) → ReadsUpto word (Some upto) → IsUpto upto → SpellsPlain word (until_of upto)
 spelled_upto word None e fits = e
 spelled_upto word (Some z) e fits = (fits, e)
 
-pub reads_upto : (word : List ℕ) (upto : Option ℤ) (until : Until) → ReadsUpto word (Some upto) → IsUpto upto → until ≡ until_of upto → ReadsUntil word (Some until)
-reads_upto word upto until e fits same = subst (λ (u : Until). SpellsUntil word u) (sym same) (spelled_upto word upto e fits)
+pub reads_upto : (word : List ℕ) (upto : Option ℤ) (until : Until) → ReadsUpto word (Some upto) → IsUpto upto → until ≡ until_of upto → ReadsPlain word (Some until)
+reads_upto word upto until e fits same = subst (λ (u : Until). SpellsPlain word u) (sym same) (spelled_upto word upto e fits)
 
-pub reads_time : (word : List ℕ) (time : ℤ) → Some time ≡ time_of word → ReadsUntil word (Some (untils.Time time))
+pub reads_time : (word : List ℕ) (time : ℤ) → Some time ≡ time_of word → ReadsPlain word (Some (untils.Time time))
 reads_time word time e = sym e
 
-pub reads_none : (word : List ℕ) → ReadsUpto word None → None ≡ time_of word → ReadsUntil word None
+pub reads_none : (word : List ℕ) → ReadsUpto word None → None ≡ time_of word → ReadsPlain word None
 reads_none word unread none untils.Last p = unread None tt p
 reads_none word unread none (untils.Zxid z) p = unread (Some z) p.0 p.1
 reads_none word unread none (untils.Time t) p = let never : None ≡ Some t = none ∙ p in cc
+
+as_until : (word : List ℕ) (read : Option Until) → ReadsPlain (padded word) read → ReadsUntil word read
+as_until word (Some until) r = r
+as_until word None r = r
+
+pub reads_padded : (word plain : List ℕ) (read : Option Until) → plain ≡ padded word → ReadsPlain plain read → ReadsUntil word read
+reads_padded word plain read e r = as_until word read (subst (λ (w : List ℕ). ReadsPlain w read) e r)
 
 -- ---- what values name
 

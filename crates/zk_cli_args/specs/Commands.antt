@@ -3,6 +3,7 @@ use Rattle.std.specs.Prelude.{◌≡◌, ◌≢◌, ℕ, ℤ, ◌<◌, ◌^◌, 
 use Rattle.std.specs.Int.{w64}
 use Rattle.std.specs.Str.{bytes_eq}
 use Rattle.zk_format.specs.Spelling.{sixteen_digits, id_digits}
+use Rattle.zk_cli_args.specs.Zxids.{padded}
 use Rattle.zk_cli_args.specs.declared.command.Order.{Order}
 use Rattle.zk_cli_args.specs.declared.command.Order.TheVariants as orders
 use Rattle.zk_cli_args.specs.declared.command.Job.{Job}
@@ -82,10 +83,14 @@ both_standard input script = bytes_eq input (codes "@") && bytes_eq script (code
 abbrev pub writes_over : List ℕ → List ℕ → Bool
 writes_over input output = bytes_eq output (codes "@") || bytes_eq input output
 
+-- the log, and a word for the last transaction
+abbrev pub ShowsUpto : List (List ℕ) → List ℕ → Option ℤ → Type 0
+ShowsUpto values input upto = (word : List ℕ) × (values ≡ input ∷ word ∷ []) × (padded word ≡ upto_text upto)
+
 -- A command's name and its values determine a command, its input, the script of a debugger, and its
 -- output; "@" is a standard stream.
 abbrev pub NamesBy : List ℕ → List (List ℕ) → Order → List ℕ → Option (List ℕ) → List ℕ → Type 0
-NamesBy name values (orders.Show upto) input script output = (name ≡ codes "show") × (values ≡ input ∷ upto_text upto ∷ []) × IsUpto upto × (script ≡ None) × (output ≡ codes "@")
+NamesBy name values (orders.Show upto) input script output = (name ≡ codes "show") × ShowsUpto values input upto × IsUpto upto × (script ≡ None) × (output ≡ codes "@")
 NamesBy name values orders.List input script output = (name ≡ codes "list") × (values ≡ input ∷ []) × (script ≡ None) × (output ≡ codes "@")
 NamesBy name values orders.Asm input script output = (name ≡ codes "asm") × (values ≡ input ∷ output ∷ []) × (script ≡ None)
 NamesBy name values orders.Run input script output = (name ≡ codes "run") × (values ≡ input ∷ []) × (script ≡ None) × (output ≡ codes "@")

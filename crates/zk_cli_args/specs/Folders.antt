@@ -4,6 +4,7 @@ use Rattle.std.specs.Int.{w64}
 use Rattle.zk_format.specs.Spelling.{id_digits}
 use Rattle.zk_times.specs.Times.{time_of}
 use Rattle.zk_cli_args.specs.Options.{given_with_option}
+use Rattle.zk_cli_args.specs.Zxids.{padded}
 use Rattle.zk_cli_args.specs.declared.command.Order.{Order}
 use Rattle.zk_cli_args.specs.declared.command.Order.TheVariants as job_orders
 use Rattle.zk_cli_args.specs.declared.folders.FolderJob.{FolderJob}
@@ -17,10 +18,13 @@ abbrev pub looked_by : List (List ℕ) → Option (Option (List ℕ) × List (Li
 looked_by words = given_with_option (codes "--logs") (codes "--logs=") words
 
 -- up to which transaction a directory is shown: the last one, one of a zxid, or one of a time
+abbrev pub SpellsPlain : List ℕ → Until → Type 0
+SpellsPlain word untils.Last = word ≡ codes "last"
+SpellsPlain word (untils.Zxid zxid) = FitsSigned w64 zxid × (word ≡ id_digits zxid)
+SpellsPlain word (untils.Time time) = time_of word ≡ Some time
+
 abbrev pub SpellsUntil : List ℕ → Until → Type 0
-SpellsUntil word untils.Last = word ≡ codes "last"
-SpellsUntil word (untils.Zxid zxid) = FitsSigned w64 zxid × (word ≡ id_digits zxid)
-SpellsUntil word (untils.Time time) = time_of word ≡ Some time
+SpellsUntil word until = SpellsPlain (padded word) until
 
 -- without "--logs", only a time says that `show` reads a directory
 abbrev pub NeedsDirectory : Until → Option (List ℕ) → Type 0
@@ -65,6 +69,10 @@ ReadsFolder words (Some job) = NamesFolder words job.order job.folder.now (logs_
 ReadsFolder words None = NamesNoFolder words
 
 -- ---- its parts
+
+abbrev pub ReadsPlain : List ℕ → Option Until → Type 0
+ReadsPlain word (Some until) = SpellsPlain word until
+ReadsPlain word None = (until : Until) → ¬ SpellsPlain word until
 
 abbrev pub ReadsUntil : List ℕ → Option Until → Type 0
 ReadsUntil word (Some until) = SpellsUntil word until

@@ -1,5 +1,12 @@
 pub mod Commands
+pub mod Comparing
+pub mod Debugs
+pub mod Ensembles
 pub mod Folders
+pub mod Incidents
 pub mod Lines
 pub mod Options
+pub mod Parting
 pub mod Serving
+pub mod Tops
+pub mod Zxids

@@ -1,4 +1,4 @@
--- An option that takes a value, among the words after a command's name.
+-- An option that takes a value, and a flag, among the words after a command's name.
 use Rattle.std.specs.Prelude.{ℕ, List, [], ◌∷◌, ◌++◌, length, map, Option, Some, None, if◌then◌else◌, codes, option_map, take, drop}
 use Rattle.std.specs.Str.{bytes_eq}
 use Rattle.zk_cli_args.specs.Commands.{values_of}
@@ -38,6 +38,18 @@ given_beside (Some found) words = option_map (λ values. (Some found.0, values))
 -- the option's value, if it is there, and the other values; a second one is an unknown option
 abbrev pub given_with_option : List ℕ → List ℕ → List (List ℕ) → Option (Option (List ℕ) × List (List ℕ))
 given_with_option name prefix words = given_beside (option_in name prefix words) words
+
+-- ---- a flag
+
+-- prepends words
+abbrev pub after : List (List ℕ) → Option (List (List ℕ)) → Option (List (List ℕ))
+after front None = None
+after front (Some others) = Some (front ++ others)
+
+-- All words but the flag; None without a flag before a "--".
+abbrev pub flag_in : List ℕ → List (List ℕ) → Option (List (List ℕ))
+flag_in flag [] = None
+flag_in flag (word ∷ rest) = if bytes_eq word (codes "--") then None else (if bytes_eq word flag then Some rest else after (word ∷ []) (flag_in flag rest))
 
 -- ---- its parts
 

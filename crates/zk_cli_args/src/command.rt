@@ -1,6 +1,7 @@
-ghost use Rattle.std.specs.Prelude.{◌≡◌, true, false, IfOk, map, option_map, codes};
+ghost use Rattle.std.specs.Prelude.{◌≡◌, ◌∷◌, [], true, false, IfOk, map, option_map, codes};
 ghost use Rattle.zk_cli_args.specs.Commands.{AreOnly, IsOnly, ReadsBehind, ReadsDebug, ReadsDigits, ReadsGiven, ReadsJob, ReadsJobBy, ReadsMend, ReadsSession, ReadsUpto, is_option, values_of, without_prompt};
 
+use crate::zxids::padded;
 use hex::FromHex;
 use std::alloc::Global;
 use zk_listing::push_digits;
@@ -129,10 +130,19 @@ fn job_by<'a>(alloc: Global, name: &str, values: &[&'a str]) -> Result<Option<Jo
     if name != "show" {
         return Ok(None);
     }
-    match read_upto(alloc, second)? {
+    show_job(alloc, first, second)
+}
+
+/// The job of showing a log up to the transaction of a word.
+#[tactic(auto, using(crate::proofs::ShowLaws::named_show, crate::proofs::ShowLaws::not_shown))]
+fn show_job<'a>(alloc: Global, input: &'a str, word: &str) -> Result<Option<Job<'a>>, NoMemory>
+    ensures { IfOk result (λ read. ReadsJobBy (codes "show") (input.now ∷ word.now ∷ []) read) }
+{
+    let plain = padded(alloc, word)?;
+    match read_upto(alloc, plain.as_str())? {
         Some(upto) => Ok(Some(Job {
             order: Order::Show { upto },
-            input: first,
+            input,
             script: None,
             output: "@",
         })),

@@ -1,9 +1,10 @@
 ghost use Rattle.std.specs.Prelude.{◌≡◌, ◌↔◌, None, IfOk, IfSome, IsTrue, codes, map, option_map};
 ghost use Rattle.zk_cli_args.specs.Commands.{values_of};
-ghost use Rattle.zk_cli_args.specs.Folders.{IsShownIn, NeedsDirectory, ReadsFolder, ReadsFolderBehind, ReadsFolderBy, ReadsFolderGiven, ReadsUntil, folder_order_of, until_of};
+ghost use Rattle.zk_cli_args.specs.Folders.{IsShownIn, NeedsDirectory, ReadsFolder, ReadsFolderBehind, ReadsFolderBy, ReadsFolderGiven, ReadsPlain, ReadsUntil, folder_order_of, until_of};
 
 use crate::command::{Job, Order, only, only_two, read_upto, values_of};
 use crate::options::option_in;
+use crate::zxids::padded;
 use std::alloc::Global;
 use zk_path::NoMemory;
 use zk_times::read_time;
@@ -177,9 +178,17 @@ fn needs_directory(until: Until, logs: Option<&str>) -> bool
 }
 
 /// The last transaction of a tree, by a word; `None` for a word that names none.
-#[tactic(auto, using(crate::proofs::UntilLaws::reads_upto, crate::proofs::UntilLaws::reads_time, crate::proofs::UntilLaws::reads_none))]
-fn read_until(alloc: Global, word: &str) -> Result<Option<Until>, NoMemory>
+#[tactic(auto, using(crate::proofs::UntilLaws::reads_padded))]
+pub(crate) fn read_until(alloc: Global, word: &str) -> Result<Option<Until>, NoMemory>
     ensures { IfOk result (λ read. ReadsUntil word.now read) }
+{
+    let plain = padded(alloc, word)?;
+    read_plain(alloc, plain.as_str())
+}
+
+#[tactic(auto, using(crate::proofs::UntilLaws::reads_upto, crate::proofs::UntilLaws::reads_time, crate::proofs::UntilLaws::reads_none))]
+fn read_plain(alloc: Global, word: &str) -> Result<Option<Until>, NoMemory>
+    ensures { IfOk result (λ read. ReadsPlain word.now read) }
 {
     if let Some(upto) = read_upto(alloc, word)? {
         return Ok(Some(until_of(upto)));

@@ -1,21 +1,29 @@
 //! Part of `zk_cli`, split off for the prover's time alone.
 //!
 //! The command line of `zk`: the words that name a command, its inputs and its output, a data
-//! directory, or servers for connections; and the messages of `clap` for any other words.
+//! directory or a question about one, servers for connections, or an ensemble for clients.
 #![tactic(auto)]
 
 mod command;
+mod comparison;
+mod debugging;
+mod ensemble;
 mod folders;
-mod grammar;
-mod helps;
+mod history;
 mod line;
 mod options;
+mod parting;
 mod serving;
-mod usage;
+mod top;
+mod zxids;
 
-pub use clap::error::ErrorKind;
 pub use command::{Job, Order};
+pub use comparison::{CompareJob, compare_of};
+pub use debugging::{FolderDebug, folder_debug_of};
+pub use ensemble::{Ensemble, ensemble_of};
 pub use folders::{FolderJob, FolderOrder, Until, folder_job_from};
+pub use history::{HistoryJob, history_of};
 pub use line::{Command, CommandFault, read_command_line};
 pub use serving::Serving;
-pub use usage::{Refusal, refusal_of, refusal_of_bytes};
+pub use top::{By, TopJob, top_of};
+pub use zk_helps::{ErrorKind, Refusal, refusal_of, refusal_of_bytes};

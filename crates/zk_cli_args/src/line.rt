@@ -4,9 +4,9 @@ ghost use Rattle.zk_cli_args.specs.Lines.{ReadsCommand, ReadsCommandLine};
 use crate::command::{Job, job_of};
 use crate::folders::{FolderJob, folder_job_of};
 use crate::serving::{Serving, serving_of};
-use crate::usage::{Refusal, refusal_of};
 use std::alloc::Global;
 use thiserror::Error;
+use zk_helps::{Refusal, refusal_of};
 use zk_path::NoMemory;
 
 /// What a command line asks for.

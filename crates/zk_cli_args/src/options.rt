@@ -1,6 +1,6 @@
-//! An option that takes a value, among the words after a command's name.
+//! An option that takes a value, and a flag, among the words after a command's name.
 ghost use Rattle.std.specs.Prelude.{◌≡◌, ◌++◌, Some, IfOk, map, option_map};
-ghost use Rattle.zk_cli_args.specs.Options.{behind, option_in, shown, value_behind, value_in};
+ghost use Rattle.zk_cli_args.specs.Options.{behind, flag_in, option_in, shown, value_behind, value_in};
 
 use std::alloc::Global;
 use zk_path::NoMemory;
@@ -75,4 +75,39 @@ fn value_in<'a>(prefix: &str, word: &'a str) -> Option<&'a str>
     ensures { option_map (λ value. value.now) result ≡ value_in prefix.now word.now }
 {
     word.strip_prefix(prefix)
+}
+
+/// The other words, if a flag is one of the words before a `--`.
+pub(crate) fn flag_in<'a>(
+    alloc: Global,
+    flag: &str,
+    words: &[&'a str],
+) -> Result<Option<Vec<&'a str>>, NoMemory>
+    ensures { IfOk result (λ found. option_map (λ others. map (λ word. word.now) others.items) found ≡ flag_in flag.now (map (λ word. word.now) words.now)) }
+{
+    let mut front = Vec::new(alloc);
+    let mut rest = words;
+    while let [word, back @ ..] = rest {
+        if *word == "--" {
+            return Ok(None);
+        }
+        if *word == flag {
+            return others_with(front, back);
+        }
+        front.push(*word)?;
+        rest = back;
+    }
+    Ok(None)
+}
+
+/// The words before and after a flag.
+fn others_with<'a>(
+    mut front: Vec<&'a str>,
+    back: &[&'a str],
+) -> Result<Option<Vec<&'a str>>, NoMemory>
+    ensures { IfOk result (λ found. option_map (λ others. map (λ word. word.now) others.items) found
+        ≡ Some (map (λ word. word.now) front.entry.items ++ map (λ word. word.now) back.now)) }
+{
+    front.extend_from_slice(back)?;
+    Ok(Some(front))
 }

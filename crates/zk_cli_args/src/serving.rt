@@ -55,7 +55,11 @@ fn serving_behind(alloc: Global, words: &[&str]) -> Result<Option<Serving>, NoMe
 
 /// The servers that words without a count name, and this number of connections.
 #[tactic(auto, using(crate::proofs::ServingLaws::of_values))]
-fn serving_by(alloc: Global, words: &[&str], connections: u32) -> Result<Option<Serving>, NoMemory>
+pub(crate) fn serving_by(
+    alloc: Global,
+    words: &[&str],
+    connections: u32,
+) -> Result<Option<Serving>, NoMemory>
     ensures { IfOk result (λ read. ReadsServersOf (values_of (map (λ word. word.now) words.now)) connections read) }
 {
     match values_of(alloc, words)? {
@@ -79,7 +83,7 @@ fn servers_in(values: &[&str], connections: u32) -> Option<Serving>
 }
 
 /// A decimal in a range.
-fn number_within(word: &str, least: u32, most: u32) -> Option<u32>
+pub(crate) fn number_within(word: &str, least: u32, most: u32) -> Option<u32>
     ensures { ReadsWithin least most word.now result }
 {
     let number = whole_decimal(word)?;

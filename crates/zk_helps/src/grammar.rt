@@ -1,12 +1,22 @@
 //! The command line as `clap` reads it.
 
-use crate::helps::{FAULTS, FlagHelp, ORDERS, OptionHelp, OrderHelp, ValueHelp};
+use crate::helps::{ASKING, FAULTS, FlagHelp, OptionHelp, OrderHelp, READING, RUNNING, ValueHelp};
 use clap::{Arg, ArgAction, Command};
 use std::alloc::{AllocError, Global};
 
 pub(crate) fn command<'a>(alloc: Global) -> Result<Command<'a>, AllocError> {
-    let mut command = program(alloc)?;
-    for order in &ORDERS {
+    let reading = with_orders(alloc, program(alloc)?, &READING)?;
+    let asking = with_orders(alloc, reading, &ASKING)?;
+    with_orders(alloc, asking, &RUNNING)
+}
+
+/// Adds commands.
+fn with_orders<'a>(
+    alloc: Global,
+    mut command: Command<'a>,
+    orders: &[OrderHelp],
+) -> Result<Command<'a>, AllocError> {
+    for order in orders {
         command = with_order(command, order_command(alloc, order))?;
     }
     Ok(command)
@@ -77,13 +87,28 @@ fn with_flags<'a>(
 }
 
 fn flag_arg<'a>(alloc: Global, flag: &FlagHelp) -> Result<Arg<'a>, AllocError> {
-    option_arg(alloc, flag.name, flag.help)
-        .action(ArgAction::SetTrue)
-        .conflicts_with(flag.without)
+    let arg = option_arg(alloc, flag.name, flag.help).action(ArgAction::SetTrue);
+    if flag.without.is_empty() {
+        return Ok(arg);
+    }
+    arg.conflicts_with(flag.without)
 }
 
+/// An option of a name, or of one letter.
 fn option_arg<'a>(alloc: Global, name: &'static str, help: &'static str) -> Arg<'a> {
-    Arg::new(alloc, name).long(name).help(help)
+    let arg = Arg::new(alloc, name).help(help);
+    match letter_of(name) {
+        Some(letter) => arg.short(letter),
+        None => arg.long(name),
+    }
+}
+
+/// The only letter of a name.
+fn letter_of(name: &str) -> Option<char> {
+    match name.as_bytes() {
+        [letter] => Some(char::from(*letter)),
+        _ => None,
+    }
 }
 
 /// Adds options that take a value.

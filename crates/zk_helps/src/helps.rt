@@ -27,7 +27,7 @@ pub(crate) struct ValueHelp {
 pub(crate) struct FlagHelp {
     pub(crate) name: &'static str,
     pub(crate) help: &'static str,
-    /// The value that excludes it.
+    /// The value that excludes it; empty if none does.
     pub(crate) without: &'static str,
 }
 
@@ -39,8 +39,16 @@ pub(crate) struct OptionHelp {
     pub(crate) help: &'static str,
 }
 
-/// The commands, in the order of the program's help.
-pub(crate) const ORDERS: [OrderHelp; 8] = [SHOW, LIST, FILES, ASM, MEND, DEBUG, RUN, SERVE];
+/// The commands that read data directories and logs, in the order of the program's help.
+///
+/// One list with those of servers would have more text than the prover takes at once.
+pub(crate) const READING: [OrderHelp; 6] = [SHOW, LIST, FILES, ASM, MEND, DEBUG];
+
+/// The commands that say what happened in a data directory.
+pub(crate) const ASKING: [OrderHelp; 3] = [HISTORY, TOP, COMPARE];
+
+/// The commands that run servers.
+pub(crate) const RUNNING: [OrderHelp; 3] = [RUN, SERVE, ENSEMBLE];
 
 pub(crate) const SHOW: OrderHelp = OrderHelp {
     name: "show",
@@ -74,13 +82,79 @@ const FILES: OrderHelp = OrderHelp {
     title: "zk files",
     about: "Prints a line for each snapshot and each log of a data directory",
     notes: FILES_NOTES,
-    values: &[ValueHelp {
-        name: "DIR",
-        help: "The data directory, or its version-2",
-        required: true,
-    }],
+    values: &[DIR],
     flags: &[],
     options: &[LOGS],
+};
+
+const HISTORY: OrderHelp = OrderHelp {
+    name: "history",
+    title: "zk history",
+    about: "Prints each transaction of a data directory that created, changed or deleted a node",
+    notes: HISTORY_NOTES,
+    values: &[
+        DIR,
+        ValueHelp {
+            name: "PATH",
+            help: "The path of the node",
+            required: true,
+        },
+    ],
+    flags: &[FlagHelp {
+        name: "r",
+        help: "Also those of all nodes below it, with the paths of the nodes",
+        without: "",
+    }],
+    options: &[LOGS],
+};
+
+pub(crate) const TOP: OrderHelp = OrderHelp {
+    name: "top",
+    title: "zk top",
+    about: "Prints the paths or the sessions of a data directory with the most writes",
+    notes: TOP_NOTES,
+    values: &[DIR],
+    flags: &[],
+    options: &[
+        OptionHelp {
+            name: "by",
+            value: "KEY",
+            help: "What the writes are counted by: path or session",
+        },
+        OptionHelp {
+            name: "from",
+            value: "T",
+            help: "The first transaction that counts: a zxid or a time, as for show; the first of all if left out",
+        },
+        OptionHelp {
+            name: "to",
+            value: "T",
+            help: "The last one, likewise",
+        },
+        OptionHelp {
+            name: "n",
+            value: "N",
+            help: "The most lines, 0 to 4294967295; all if left out",
+        },
+        LOGS,
+    ],
+};
+
+const COMPARE: OrderHelp = OrderHelp {
+    name: "compare",
+    title: "zk compare",
+    about: "Prints up to which transaction the data directories of two servers agree",
+    notes: COMPARE_NOTES,
+    values: &[
+        DIR,
+        ValueHelp {
+            name: "DIR2",
+            help: "Another server's",
+            required: true,
+        },
+    ],
+    flags: &[],
+    options: &[],
 };
 
 const ASM: OrderHelp = OrderHelp {
@@ -124,10 +198,10 @@ pub(crate) const MEND: OrderHelp = OrderHelp {
 pub(crate) const DEBUG: OrderHelp = OrderHelp {
     name: "debug",
     title: "zk debug",
-    about: "Runs a debug script over a log, or an interactive session",
+    about: "Runs a debug script over a data directory or a log, or an interactive session",
     notes: DEBUG_LINES,
     values: &[
-        LOG,
+        LOGS_OR_LOG,
         ValueHelp {
             name: "SCRIPT",
             help: "The script: a path, or @ for standard input. Without one, zk runs each line of standard input before it reads the next",
@@ -139,7 +213,7 @@ pub(crate) const DEBUG: OrderHelp = OrderHelp {
         help: "Prints a prompt before each line of a session even if standard input is no terminal",
         without: "SCRIPT",
     }],
-    options: &[],
+    options: &[FROM, LOGS],
 };
 
 const RUN: OrderHelp = OrderHelp {
@@ -181,10 +255,58 @@ pub(crate) const SERVE: OrderHelp = OrderHelp {
     }],
 };
 
+pub(crate) const ENSEMBLE: OrderHelp = OrderHelp {
+    name: "ensemble",
+    title: "zk ensemble",
+    about: "Runs an ensemble for ZooKeeper's clients: zkCli, kazoo, Curator",
+    notes: ENSEMBLE_LINES,
+    values: &[
+        ValueHelp {
+            name: "PORT",
+            help: "The port of server 1, 1 to 65535; those of the others follow",
+            required: true,
+        },
+        ValueHelp {
+            name: "N",
+            help: "The number of servers, 2 to 15",
+            required: true,
+        },
+    ],
+    flags: &[FlagHelp {
+        name: "until-eof",
+        help: "Ends at the end of standard input",
+        without: "",
+    }],
+    options: &[
+        OptionHelp {
+            name: "bind",
+            value: "ADDR",
+            help: "The IPv4 address to listen on; 127.0.0.1 if left out",
+        },
+        OptionHelp {
+            name: "data",
+            value: "DIR",
+            help: "The directory of the servers' data, created if it is missing; in memory if left out",
+        },
+        OptionHelp {
+            name: "max-connections",
+            value: "C",
+            help: "The most connections at once, 1 to 4294967295; 1000 if left out",
+        },
+    ],
+};
+
 /// The value that names a data directory or a log to read.
 const LOGS_OR_LOG: ValueHelp = ValueHelp {
     name: "DIR|FILE",
     help: "The data directory, or its version-2; or one log: a path, or @ for standard input",
+    required: true,
+};
+
+/// The value that names a data directory.
+const DIR: ValueHelp = ValueHelp {
+    name: "DIR",
+    help: "The data directory, or its version-2",
     required: true,
 };
 
@@ -195,7 +317,14 @@ const LOG: ValueHelp = ValueHelp {
     required: true,
 };
 
-/// The option that names a directory of logs.
+/// The option that names where the debugger of a directory starts.
+const FROM: OptionHelp = OptionHelp {
+    name: "from",
+    value: "ZXID",
+    help: "Place 0 of a directory: a ZXID, a time, or last, as for show. If left out, it is where the latest snapshot is exact that has transactions after it",
+};
+
+/// The option that names the directory of logs.
 const LOGS: OptionHelp = OptionHelp {
     name: "logs",
     value: "DIR2",
@@ -231,6 +360,37 @@ Of a directory these have the file's NAME before AT, and there are more:
 and `read` and `write` if a file or directory cannot be opened or written, and `memory`.
 
 In the source repository, docs/ERRORS.md has what helps."#;
+
+/// The lines of `zk history`, and its errors.
+const HISTORY_NOTES: &str =
+    r#"A line has the time in UTC, the zxid, the operation as in a listing, and the session. `expired` follows
+the end of a session that the leader closed. With -r the paths of the nodes follow.
+
+The end of a session deletes the nodes that its record lists, as those of 3.6 and later do, or else the
+ephemeral nodes that the session created in these logs.
+
+Errors, on standard error after `zk: `, are those of `zk list` of a directory."#;
+
+/// The line of `zk compare`, and its errors.
+const COMPARE_NOTES: &str =
+    r#"The transactions are compared from the first zxid on that neither directory begins above. The line is
+one of these, and the status is 1 for the last:
+  agree to ZXID       up to this zxid all are the same; `; the second is N ahead` or `; the first is N
+                      ahead` follows if one of them has more
+  nothing in common   no transaction is in both
+  differ at ZXID ZXID the first transactions of the two that are not the same, byte for byte
+
+A failed multi may keep the bodies of its requests in the log of one server alone: then look at both
+with `zk list`.
+
+Errors, on standard error after `zk: `, are those of `zk list` of a directory."#;
+
+/// The lines of `zk top`, and its errors.
+const TOP_NOTES: &str =
+    r#"A line has the number of writes, and the path or the session. A write creates, changes or deletes a
+node, alone or as a part of a multi. Nodes that end with a session are no writes.
+
+Errors, on standard error after `zk: `, are those of `zk list` of a directory."#;
 
 /// The lines of `zk files`, and its errors.
 const FILES_NOTES: &str = r#"A line has the file's name, and then:
@@ -317,9 +477,14 @@ const DEBUG_LINES: &str = r#"Lines of a debug script, one command each:
   reset               back to the start; breakpoints stay
 
 Lines of a session, which has no SCRIPT, besides these:
-  help                prints the lines of a session
+  help                prints the lines of a session, and their short forms
+  step N              N places up, or to the end
+  tree PATH           prints the nodes at and below a path
   list [N]            prints the log around the place, marked >: N lines on each side, or 5
   diff                prints what the last move changed: - removed, + added, < before, > after
+  diff last           prints what the transaction just applied changed
+  break prefix PATH   sets a breakpoint on a path and all below it
+  info breaks         prints the breakpoints
   quit                ends the session, as the end of input does
 
 Words of a kind:
@@ -448,3 +613,25 @@ Errors, on standard error after `zk: `: `listen` if the port cannot be opened or
   C2 INDEX    a receipt does not match its event
 
 In the source repository, docs/ERRORS.md has the codes, and docs/FORMATS.md the fields and replies."#;
+
+/// What an ensemble prints, and the commands of its operator.
+const ENSEMBLE_LINES: &str =
+    r#"Standard output has `serving PORT ..`, the port of each server, once a client can connect. The
+ensemble runs in one process until that is ended. Without `--data` its data ends with it.
+
+With it, the data of server P is in DIR/P, whose log `zk show DIR/P` reads. Acknowledged writes are
+stored there, even if the process is killed. The next run on DIR has the same number of servers.
+
+Lines of standard input, one command each; each prints what every server then does:
+  crash P             server P stops; its clients go to others
+  restart P           server P starts again, with what it had stored
+  lead P              makes server P lead
+  cut P Q             cuts the link between servers P and Q
+  heal                makes all links healthy
+  status
+
+A client is closed at 4 MB of unsent bytes. A server that runs out of memory starts again within two
+seconds; one whose store fails stays down until the next run. Standard error has a line for each.
+
+Errors, on standard error after `zk: `: `listen` if a port cannot be opened or ADDR is no IPv4 address,
+`data` and the reason if DIR cannot be used, `read`, `write` and `memory`."#;

@@ -4,7 +4,7 @@ ghost use Rattle.std.specs.Prelude.{◌≢◌, ◌↔◌, IsTrue};
 ghost use Rattle.clap.specs.declared.error.kind.ErrorKind.TheVariants as kinds;
 
 use crate::grammar::{command, order_command};
-use crate::helps::{DEBUG, MEND, OrderHelp, SERVE, SHOW};
+use crate::helps::{DEBUG, ENSEMBLE, MEND, OrderHelp, SERVE, SHOW, TOP};
 use clap::Error;
 use clap::error::ErrorKind;
 use std::alloc::{AllocError, Global};
@@ -46,8 +46,11 @@ pub fn refusal_of<'a>(alloc: Global, words: &'a [&'a str]) -> Result<Refusal, Al
         Some(error) => error,
         None if words.get(1) == Some(&"mend") => mend_fault(alloc)?,
         None if words.get(1) == Some(&"serve") => serve_fault(alloc)?,
-        // Of the other words that clap accepts, only a ZXID and a second @ are errors.
-        None => value_fault(alloc, words.get(1) == Some(&"debug"))?,
+        None if words.get(1) == Some(&"ensemble") => ensemble_fault(alloc)?,
+        None if words.get(1) == Some(&"top") => top_fault(alloc)?,
+        None if words.get(1) == Some(&"debug") => debug_fault(alloc, words)?,
+        // Of the other words that clap accepts, only a ZXID is an error.
+        None => zxid_fault(alloc, &SHOW)?,
     };
     refusal_by(alloc, &error)
 }
@@ -57,21 +60,47 @@ fn refused_by_clap<'a>(alloc: Global, words: &'a [&'a str]) -> Result<Option<Err
     Ok(command(alloc)?.try_get_matches_from(words).err())
 }
 
-/// A usage error of `show` or `debug` that `clap` accepts.
-fn value_fault(alloc: Global, is_debug: bool) -> Result<Error, AllocError> {
-    if is_debug {
-        return fault_of(
-            alloc,
-            &DEBUG,
-            ErrorKind::ArgumentConflict,
-            "FILE cannot be standard input where SCRIPT is, or where there is none",
-        );
+/// A usage error of `debug` that `clap` accepts.
+fn debug_fault(alloc: Global, words: &[&str]) -> Result<Error, AllocError> {
+    if names_start(words) {
+        return zxid_fault(alloc, &DEBUG);
     }
     fault_of(
         alloc,
-        &SHOW,
+        &DEBUG,
+        ErrorKind::ArgumentConflict,
+        "FILE cannot be standard input where SCRIPT is, or where there is none",
+    )
+}
+
+/// Whether a word is the option `--from`.
+fn names_start(words: &[&str]) -> bool {
+    let mut is_there = false;
+    for word in words {
+        if *word == "--from" || word.starts_with("--from=") {
+            is_there = true;
+        }
+    }
+    is_there
+}
+
+/// A usage error of a command with a ZXID that `clap` accepts.
+fn zxid_fault(alloc: Global, order: &OrderHelp) -> Result<Error, AllocError> {
+    fault_of(
+        alloc,
+        order,
         ErrorKind::ValueValidation,
         "ZXID is neither sixteen lower-case hexadecimal digits, `last`, nor a time such as 2026-11-27T14:03",
+    )
+}
+
+/// A usage error of `top` that `clap` accepts.
+fn top_fault(alloc: Global) -> Result<Error, AllocError> {
+    fault_of(
+        alloc,
+        &TOP,
+        ErrorKind::ValueValidation,
+        "KEY is neither path nor session, T neither a zxid nor a time, or N no decimal from 0 to 4294967295",
     )
 }
 
@@ -92,6 +121,16 @@ fn serve_fault(alloc: Global) -> Result<Error, AllocError> {
         &SERVE,
         ErrorKind::ValueValidation,
         "PORT is no decimal from 1 to 65535, N none from 2 to 15, or C none from 0 to 4294967295",
+    )
+}
+
+/// A usage error of `ensemble` that `clap` accepts.
+fn ensemble_fault(alloc: Global) -> Result<Error, AllocError> {
+    fault_of(
+        alloc,
+        &ENSEMBLE,
+        ErrorKind::ValueValidation,
+        "PORT is no decimal from 1 to 65535, N none from 2 to 15, or C none from 1 to 4294967295",
     )
 }
 

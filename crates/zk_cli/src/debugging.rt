@@ -1,0 +1,84 @@
+//! The debugger over a data directory.
+
+use crate::disk_folder::{DiskFolder, is_directory};
+use crate::looking::upto_of;
+use crate::refuse;
+use std::io::{IsTerminal, Read};
+use std::{fs, io};
+use zk_cli_args::FolderDebug;
+use zk_directory_commands::Upto;
+use zk_directory_debugger::{debug, run_repl};
+use zk_log::{Sink, Source};
+use zk_path::NoMemory;
+
+/// The directory of a debugger, the logs' directory, and the transaction that it starts after.
+#[derive(Clone, Copy)]
+struct Place<'a> {
+    snapshots: &'a DiskFolder<'a>,
+    logs: &'a DiskFolder<'a>,
+    from: Option<Upto>,
+}
+
+/// Whether a debugger is one of a directory: its first value names one, or an option says so.
+pub(crate) fn debugs_directory(rt: &HostRuntime, job: &FolderDebug) -> bool {
+    job.logs.is_some() || job.from.is_some() || (job.folder != "@" && is_directory(rt, job.folder))
+}
+
+/// Opens the script, if there is one, and runs the debugger over a data directory. Returns the exit
+/// status.
+///
+/// The lines of a session are those of standard input.
+pub(crate) fn debug_directory(rt: &HostRuntime, job: &FolderDebug) -> Result<u8, NoMemory> {
+    let snapshots = DiskFolder::at(rt, job.folder)?;
+    let logs = DiskFolder::at(rt, job.logs.unwrap_or(job.folder))?;
+    let place = Place {
+        snapshots: &snapshots,
+        logs: &logs,
+        from: job.from.map(upto_of),
+    };
+    match job.script {
+        None => hold_session(rt, place, job.prompts),
+        Some("@") => run_script(rt, place, rt.reader()),
+        Some(script) => match fs::open(rt, script) {
+            Ok(script) => run_script(rt, place, script),
+            Err(_) => Ok(refuse(rt, "read")),
+        },
+    }
+}
+
+/// Runs a script over a directory. Returns the exit status.
+fn run_script<S: Read + Drop>(
+    rt: &HostRuntime,
+    place: Place<'_>,
+    script: S,
+) -> Result<u8, NoMemory> {
+    let mut script = Source::new(script);
+    let mut output = Sink::new(io::writer(rt));
+    let mut faults = Sink::new(rt.stderr());
+    debug(
+        rt.alloc(),
+        place.snapshots,
+        place.logs,
+        place.from,
+        &mut script,
+        &mut output,
+        &mut faults,
+    )
+}
+
+/// Holds a session over a directory. Returns the exit status.
+fn hold_session(rt: &HostRuntime, place: Place<'_>, prompts: bool) -> Result<u8, NoMemory> {
+    let mut lines = Source::new(rt.reader());
+    let mut output = Sink::new(io::writer(rt));
+    let mut faults = Sink::new(rt.stderr());
+    run_repl(
+        rt.alloc(),
+        prompts || rt.stdin().is_terminal(),
+        place.snapshots,
+        place.logs,
+        place.from,
+        &mut lines,
+        &mut output,
+        &mut faults,
+    )
+}
