@@ -36,9 +36,9 @@ refuses "zk show [OPTIONS] <DIR|FILE> <ZXID>" show examples/first_log.log 000000
 refuses "zk show [OPTIONS] <DIR|FILE> <ZXID>" show examples/first_log.log last last
 refuses "zk list [OPTIONS] <DIR|FILE>" list -x
 refuses "zk files <DIR>" files
-refuses "zk debug <FILE> [SCRIPT]" debug
-refuses "zk debug [OPTIONS] <FILE> [SCRIPT]" debug @
-refuses "zk debug [OPTIONS] <FILE> [SCRIPT]" debug @ @
+refuses "zk debug <DIR|FILE> [SCRIPT]" debug
+refuses "zk debug [OPTIONS] <DIR|FILE> [SCRIPT]" debug @
+refuses "zk debug [OPTIONS] <DIR|FILE> [SCRIPT]" debug @ @
 refuses "zk asm <TEXT> <FILE>" asm "$listing"
 refuses "zk asm <TEXT> <FILE>" asm --force "$listing" "$work/kept"
 refuses "zk asm <TEXT> <FILE>" asm "$listing" "$work/kept" more

@@ -130,9 +130,11 @@ shows() {
 }
 early=00000002000000b6
 late=000000020000013d
-of_early=$'base snapshot.20000004e 000000020000004e\nend padding'
-of_late=$'base snapshot.2000000d6 00000002000000d6\nend padding'
-passed_late=$'base snapshot.20000004e 000000020000004e\npassed snapshot.2000000d6 S4\nend padding'
+# each record after the base has the digest of the server's tree
+of_early=$'base snapshot.20000004e 000000020000004e\ndigest 104\nend padding'
+of_late=$'base snapshot.2000000d6 00000002000000d6\ndigest 103\nend padding'
+of_last=$'base snapshot.2000000d6 00000002000000d6\ndigest 105\nend padding'
+passed_late=$'base snapshot.20000004e 000000020000004e\npassed snapshot.2000000d6 S4\ndigest 239\nend padding'
 
 shows $early "$of_early" "$real" $early
 shows $late "$of_late" "$work/data" $late
@@ -152,7 +154,7 @@ shows $late "$of_late" "$work/snapshots" 2026-11-27T14:58:02.500 --logs "$work/l
 for upto in last 0000000f00000000 2026-11-28T00:00:00; do
     [ "$(ends "$zk" show "$real" $upto)" = "0 " ]
     [ "$(head -n 1 "$work/out")" = "zxid 000000020000013f" ]
-    [ "$(tail -n 2 "$work/out")" = "$of_late" ]
+    [ "$(tail -n 3 "$work/out")" = "$of_last" ]
 done
 
 # a broken snapshot is passed over; its log must reach back to an earlier one
@@ -174,7 +176,7 @@ fails "S4 $snapshot" show "$broken" last
 # a log that is broken: all before the entry that is corrupt is shown
 corrupt=$(copied corrupt)
 printf '\377' | dd of="$corrupt/$log" bs=1 seek=8700 conv=notrunc status=none
-shows $late $'base snapshot.2000000d6 00000002000000d6\nend none' "$corrupt" $late
+shows $late "${of_late/padding/none}" "$corrupt" $late
 fails "G2 $log 8657" show "$corrupt" last
 
 # a record that stands twice is taken once, unless the two differ

@@ -3,14 +3,17 @@
 
 A block is one shell, in a folder of its own with a link to `examples`. A line `$ COMMAND` is a command, which lines `> ..` continue;
 the lines below are what it prints, on standard output and standard error. A command that ends with `&` goes on in the background:
-the next one waits until the lines below it are there. In a block with `zk serve`, the port is replaced by a free one, and a time,
-which has thirteen digits, stands for any.
+the next one waits until the lines below it are there. In a block with `zk serve` or `zk ensemble`, ports are replaced by free ones;
+in one with `zk serve` a time, which has thirteen digits, stands for any. What a block leaves in the background ends with it.
 
 usage: shown.py [PAGE..]
 """
+import contextlib
 import os
+import random
 import re
 import select
+import signal
 import socket
 import subprocess
 import sys
@@ -21,7 +24,9 @@ from pathlib import Path
 ROOT = Path(__file__).resolve().parent.parent
 PROGRAM = Path(os.environ.get("ZK", ROOT / "crates" / "zk_cli" / "out" / "zk_cli"))
 PAGES = ["README.md", "docs/CLI.md"]
-PORT = "21810"
+# The first port of a block, and those after it.
+PORT = r"\b218[12](\d)\b"
+PORTS = 10
 SECONDS = 60
 
 
@@ -49,10 +54,21 @@ def blocks(text: str):
         yield start, steps
 
 
-def free_port() -> str:
-    with socket.socket() as it:
-        it.bind(("127.0.0.1", 0))
-        return str(it.getsockname()[1])
+def free_ports() -> int:
+    """The first of consecutive free ports."""
+    while True:
+        first = random.randrange(20_000, 60_000)
+        sockets = []
+        try:
+            for port in range(first, first + PORTS):
+                sockets.append(socket.socket())
+                sockets[-1].bind(("127.0.0.1", port))
+            return first
+        except OSError:
+            continue
+        finally:
+            for it in sockets:
+                it.close()
 
 
 class Shell:
@@ -67,6 +83,7 @@ class Shell:
             stdin=subprocess.PIPE,
             stdout=subprocess.PIPE,
             stderr=subprocess.STDOUT,
+            start_new_session=True,
         )
         self.buffer = b""
 
@@ -99,6 +116,8 @@ class Shell:
             self.process.wait(10)
         except subprocess.TimeoutExpired:
             self.process.kill()
+        with contextlib.suppress(ProcessLookupError):
+            os.killpg(self.process.pid, signal.SIGTERM)
         self.process.stdout.close()
 
 
@@ -111,7 +130,11 @@ def same(shown: list[str], printed: list[str], any_time: bool) -> bool:
 def played(page: str, start: int, steps) -> list[str]:
     """The differences of one block."""
     serves = any("zk serve" in line for _, command, _ in steps for line in command)
-    port = free_port() if serves else PORT
+    first = free_ports() if serves or any("zk ensemble" in line for _, command, _ in steps for line in command) else None
+
+    def ported(text: str) -> str:
+        return text if first is None else re.sub(PORT, lambda it: str(first + int(it[1])), text)
+
     faults = []
     with tempfile.TemporaryDirectory() as folder:
         os.makedirs(f"{folder}/bin")
@@ -122,8 +145,8 @@ def played(page: str, start: int, steps) -> list[str]:
         os.chmod(f"{folder}/bin/zk", 0o755)
         shell = Shell(folder)
         for number, command, shown in steps:
-            shown = [line.replace(PORT, port) for line in shown]
-            printed = shell.run(number, "\n".join(command).replace(PORT, port), len(shown))
+            shown = [ported(line) for line in shown]
+            printed = shell.run(number, ported("\n".join(command)), len(shown))
             if not same(shown, printed, serves):
                 faults.append(f"{page}:{number}: $ {' '.join(command)}")
                 faults += [f"  shown:   {line}" for line in shown] + [f"  printed: {line}" for line in printed]

@@ -76,7 +76,7 @@ LAGS = re.compile(
 )
 
 SKIPPED = {"out", ".git", "target", "__pycache__", "node_modules"}
-HELPS = ("crates/zk_cli_args/src/",)
+HELPS = ("crates/zk_helps/src/",)
 IN_RUST = re.compile(
     r"""(?P<comment>//[^\n]*|/\*.*?\*/)|(?P<raw>\bb?r(?P<hash>\#*)".*?"(?P=hash))|(?P<text>b?"(?:\\.|[^"\\])*")|'(?:\\[^']+|[^'\\\n])'""",
     re.DOTALL,
