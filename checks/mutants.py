@@ -3,6 +3,7 @@
 
 usage: checks/mutants.py [CRATE..]             in a checkout where `rt ci` has left the libraries
        checks/mutants.py --right [CRATE..]     tries the unchanged text in the same way: the prover must accept all of it
+       checks/mutants.py --texts [CRATE..]     tries none, and says whether each old text is there: that takes a second, in any checkout
 
 A mutant is a file `checks/mutants/CRATE/NAME.edit`. Its first line names the function that it changes, as a check prints it without
 the crate. A line `file: src/..` and pairs of lines `old: TEXT`, `new: TEXT` follow, each old text being once in that file. Lines
@@ -54,14 +55,22 @@ class Edit:
         if not self.function or not self.pairs:
             sys.exit("%s/%s: an edit names its function, its file, and what is old and new there" % (crate, name))
 
-    def apply(self, room):
+    def edited(self, room):
+        """The files that it changes, and their new texts."""
+        texts = {}
         for file, old, new in self.pairs:
-            with open(os.path.join(room, file), encoding="utf-8") as it:
-                text = it.read()
-            if text.count(old) != 1:
-                sys.exit("%s/%s: its old text stands %d times in %s" % (self.crate, self.name, text.count(old), file))
+            if file not in texts:
+                with open(os.path.join(room, file), encoding="utf-8") as it:
+                    texts[file] = it.read()
+            if texts[file].count(old) != 1:
+                sys.exit("%s/%s: its old text stands %d times in %s" % (self.crate, self.name, texts[file].count(old), file))
+            texts[file] = texts[file].replace(old, new)
+        return texts
+
+    def apply(self, room):
+        for file, text in self.edited(room).items():
             with open(os.path.join(room, file), "w", encoding="utf-8") as it:
-                it.write(text.replace(old, new))
+                it.write(text)
 
     def ask(self, room):
         """Writes answers for the goals that it names, each of them a search."""
@@ -280,12 +289,17 @@ def lanes():
 
 
 def main(words):
-    is_right, crates = "--right" in words, [it for it in words if it != "--right"]
+    is_right, crates = "--right" in words, [it for it in words if not it.startswith("--")]
     every = sorted(os.listdir(os.path.join(HERE, "mutants")))
     work = []
     for crate in crates or every:
         edits = [Edit(crate, it) for it in sorted(os.listdir(os.path.join(HERE, "mutants", crate)))]
         work.append((crate, edits))
+    # (first, as a text that is gone would be told only after the trials of other crates)
+    texts = [it.edited(os.path.join(ROOT, "crates", crate)) for crate, edits in work for it in edits]
+    if "--texts" in words:
+        print("%d edits can be applied" % len(texts))
+        return 0
     # (so that no slow one is left alone at the end)
     work.sort(key=lambda it: DEAREST.index(it[0]) if it[0] in DEAREST else len(DEAREST))
     missed = 0
