@@ -4,7 +4,6 @@ ghost use Rattle.std.specs.Prelude.{◌≤◌};
 
 use crate::clock::SystemClock;
 use crate::refuse;
-use crate::serving::serve;
 use std::net::{Ipv4Addr, Net, SocketAddr, TcpListener, TcpStream};
 use std::sync::Wait;
 use std::thread::Threads;
@@ -12,6 +11,7 @@ use std::{io, time};
 use zk_cli_args::Serving;
 use zk_log::Sink;
 use zk_path::NoMemory;
+use zk_serve::serve;
 
 /// Listens on a port of 127.0.0.1, and serves the connections. Returns the exit status.
 pub(crate) fn listen<

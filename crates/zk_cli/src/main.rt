@@ -1,22 +1,14 @@
 //! The program `zk`: reads data directories and transaction logs of ZooKeeper, and runs its
-//! servers. This crate reads the command line and opens files, directories and ports. The commands
-//! are those of `zk_commands` and `zk_folder_commands`, except `serve` and `ensemble`, which are here
-//! because they alone need threads or sockets.
+//! servers. This crate reads the command line and opens files, directories and ports.
 #![tactic(auto)]
 
-mod accepting;
 mod clock;
 mod debugging;
 mod disk_folder;
 mod ensemble;
-mod fault_lines;
 mod incidents;
 mod listening;
 mod looking;
-mod port;
-mod servers;
-mod serving;
-mod start_barrier;
 
 use debugging::{debug_directory, debugs_directory};
 use disk_folder::is_directory;

@@ -1,7 +1,7 @@
 -- A rejected chronicle, by the seats and receipts that were closed.
 use Rattle.std.proofs.Common.{rules}
-use Rattle.zk_cli.proofs.ClosesLaws.{miscounts, mismatches}
-use Rattle.zk_cli.proofs.servers.close.Goals as goal
+use Rattle.zk_serve.proofs.ClosesLaws.{miscounts, mismatches}
+use Rattle.zk_serve.proofs.servers.close.Goals as goal
 
 pub returns-in-Count : goal.returns-in-Count
 returns-in-Count g c =

@@ -1,6 +1,6 @@
 ghost use Rattle.std.specs.Prelude.{◌-◌, ◌<◌, ◌≤◌, ◌^◌};
 ghost use Rattle.zk_records.specs.Sinks.{write_failures_of};
-ghost use Rattle.zk_cli.specs.Serving.{Serves};
+ghost use Rattle.zk_serve.specs.Serving.{Serves};
 
 use crate::accepting::Served;
 use crate::fault_lines::tell_mismatch;
@@ -29,7 +29,7 @@ use zk_path::NoMemory;
 /// [`NoMemory`] also if a thread cannot be created, or if a connection runs out of memory, which
 /// ends all.
 #[tactic(auto, using(crate::proofs::ServesLaws::all_served, crate::proofs::ServesLaws::mismatched, crate::proofs::ServesLaws::refused_before, crate::proofs::ServesLaws::refused_behind))]
-pub(crate) fn serve<R: Threads + Wait + time::Clock + Sync, C: Clock, O: Write, E: Write>(
+pub fn serve<R: Threads + Wait + time::Clock + Sync, C: Clock, O: Write, E: Write>(
     rt: &R,
     alloc: Global,
     listener: &TcpListener,

@@ -1,7 +1,7 @@
 //! The port that clients connect to.
 ghost use Rattle.std.specs.Prelude.{◌≡◌, ◌<◌, ◌^◌, IfOk};
 ghost use Rattle.std.specs.String.{string_bytes};
-ghost use Rattle.zk_cli.specs.Serving.{listening_line};
+ghost use Rattle.zk_serve.specs.Serving.{listening_line};
 
 use std::alloc::Global;
 use std::net::TcpListener;

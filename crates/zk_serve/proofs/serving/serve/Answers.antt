@@ -2,8 +2,8 @@
 use Rattle.std.proofs.Common.{rules, refl}
 use Rattle.std.proofs.KnownBytes.{Keeps-refl}
 use Rattle.zk_records.specs.Sinks.{writer_of}
-use Rattle.zk_cli.proofs.ServesLaws.{no_port, not_written, unheard, miscounted}
-use Rattle.zk_cli.proofs.serving.serve.Goals as goal
+use Rattle.zk_serve.proofs.ServesLaws.{no_port, not_written, unheard, miscounted}
+use Rattle.zk_serve.proofs.serving.serve.Goals as goal
 
 pub returns-then-not-has_port : goal.returns-then-not-has_port
 returns-then-not-has_port g c =

@@ -4,7 +4,7 @@ use Rattle.zk_records.specs.declared.sink.Sink.{Sink}
 use Rattle.zk_path.specs.declared.memory.NoMemory.{NoMemory}
 use Rattle.zk_log_commands.specs.Telling.{Told}
 use Rattle.zk_log_commands.specs.Writing.{LeavesSink, Wrote, BrokeOff}
-use Rattle.zk_cli.specs.Serving.{Serves, listening_line, mismatch_line}
+use Rattle.zk_serve.specs.Serving.{Serves, listening_line, mismatch_line}
 
 module _ {O E : Type 0} (written : O → Option (List ℕ)) (told : E → Option (List ℕ)) (port : ℕ) (output output' : Sink O) (faults faults' : Sink E) where
   pub no_port : LeavesSink written output output' → Told told faults faults' (codes "zk: listen\n") → Serves written told port output output' faults faults' (Ok 1)

@@ -6,9 +6,9 @@ use Rattle.zk_chronicle.specs.declared.fault.CloseFault.{CloseFault}
 use Rattle.zk_chronicle.specs.declared.fault.CloseFault.TheVariants as faults
 use Rattle.zk_chronicle.specs.declared.record.Receipt.{Receipt}
 use Rattle.zk_chronicle.specs.declared.record.Record.{Record}
-use Rattle.zk_cli.specs.Closing.{Closes}
-use Rattle.zk_cli.specs.declared.accepting.Served.{Served}
-use Rattle.zk_cli.specs.declared.accepting.Served.TheVariants as served
+use Rattle.zk_serve.specs.Closing.{Closes}
+use Rattle.zk_serve.specs.declared.accepting.Served.{Served}
+use Rattle.zk_serve.specs.declared.accepting.Served.TheVariants as served
 
 module _ (records : List Record) (seats seats' : List (List Made)) (receipts receipts' : List Receipt) (before : Served) (fault : CloseFault) where
   refused_as : (found : CloseFault) → seats' ≡ seats → receipts' ≡ receipts → fault ≡ found → IsRefusal records seats' receipts' fault → IsRefusal records seats receipts found

@@ -5,8 +5,8 @@ use Rattle.zk_chronicle.specs.declared.calls.Made.{Made}
 use Rattle.zk_chronicle.specs.declared.fault.CloseFault.TheVariants as faults
 use Rattle.zk_chronicle.specs.declared.record.Receipt.{Receipt}
 use Rattle.zk_chronicle.specs.declared.record.Record.{Record}
-use Rattle.zk_cli.specs.declared.accepting.Served.{Served}
-use Rattle.zk_cli.specs.declared.accepting.Served.TheVariants as served
+use Rattle.zk_serve.specs.declared.accepting.Served.{Served}
+use Rattle.zk_serve.specs.declared.accepting.Served.TheVariants as served
 
 -- A chronicle that calls and receipts match leaves what the connections ended with. A rejected one
 -- is reported in its place. `records` are those under the lock.

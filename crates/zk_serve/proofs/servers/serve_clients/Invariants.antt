@@ -1,5 +1,5 @@
 -- The ledger is the blank's.
-use Rattle.zk_cli.proofs.servers.serve_clients.Given as goal
+use Rattle.zk_serve.proofs.servers.serve_clients.Given as goal
 
 abbrev pub ghosts-serve_over-L-CallLedger : goal.ghosts-serve_over-L-CallLedger
 ghosts-serve_over-L-CallLedger g a = record { servers = a.servers }

@@ -4,7 +4,7 @@ ghost use Rattle.std.specs.String.{string_bytes};
 ghost use Rattle.zk_log_commands.specs.Telling.{Told};
 ghost use Rattle.zk_log_commands.specs.Writing.{LeavesSink};
 ghost use Rattle.zk_records.specs.Sinks.{write_failures_of};
-ghost use Rattle.zk_cli.specs.Serving.{mismatch_line};
+ghost use Rattle.zk_serve.specs.Serving.{mismatch_line};
 
 use std::alloc::Global;
 use std::io::Write;

@@ -1,6 +1,6 @@
 //! Servers as threads, and connections that server 1 serves.
 ghost use Rattle.std.specs.Prelude.{◌≡◌, ◌+◌, ◌≤◌, ◌++◌, ◌∷◌, [], IfOk, length};
-ghost use Rattle.zk_cli.specs.Closing.{Closes};
+ghost use Rattle.zk_serve.specs.Closing.{Closes};
 
 use crate::accepting::{Served, serve_connections};
 use crate::start_barrier::StartBarrier;
