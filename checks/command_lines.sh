@@ -63,8 +63,9 @@ cp "$listing" "$work/-x"
 )
 cmp "$work/-y" examples/first_log.log
 
+zeros=0000000000000000000000000000000000000000
 ends 0 --version
-[ "$(cat "$work/out")" = "zk 0.1.0" ]
+[ "$(cat "$work/out")" = "zk 0.1.0, commit $zeros" ]
 ends 0 --help
 grep -qF "Usage: zk <COMMAND>" "$work/out"
 ends 0 show --help
@@ -80,5 +81,5 @@ zk=$work/other
 refuses "zk <COMMAND>"
 refuses "zk show [OPTIONS] <DIR|FILE> <ZXID>" show examples/first_log.log 1
 ends 0 --version
-[ "$(cat "$work/out")" = "zk 0.1.0" ]
+[ "$(cat "$work/out")" = "zk 0.1.0, commit $zeros" ]
 echo "command_lines: refused and told"

@@ -22,12 +22,16 @@ fn with_orders<'a>(
     Ok(command)
 }
 
+/// The version, and the commit: 40 zeros, which a release replaces (`release/build.py`), as a text
+/// cannot name its own commit.
+const VERSION: &str = "0.1.0, commit 0000000000000000000000000000000000000000";
+
 /// The program without its commands.
 fn program<'a>(alloc: Global) -> Result<Command<'a>, AllocError> {
     Ok(
         Command::new(alloc, "zk")
             .bin_name("zk")?
-            .version("0.1.0")
+            .version(VERSION)
             .about(
                 "Reads data directories and logs of ZooKeeper, and runs ensembles of its servers",
             )
