@@ -1,8 +1,8 @@
 //! The debugger over a data directory.
 
 use crate::disk_folder::{DiskFolder, is_directory};
+use crate::faults::{faults, refuse};
 use crate::looking::upto_of;
-use crate::refuse;
 use std::io::{IsTerminal, Read};
 use std::{fs, io};
 use zk_cli_args::FolderDebug;
@@ -54,7 +54,7 @@ fn run_script<S: Read + Drop>(
 ) -> Result<u8, NoMemory> {
     let mut script = Source::new(script);
     let mut output = Sink::new(io::writer(rt));
-    let mut faults = Sink::new(rt.stderr());
+    let mut faults = faults(rt);
     debug(
         rt.alloc(),
         place.snapshots,
@@ -70,7 +70,7 @@ fn run_script<S: Read + Drop>(
 fn hold_session(rt: &HostRuntime, place: Place<'_>, prompts: bool) -> Result<u8, NoMemory> {
     let mut lines = Source::new(rt.reader());
     let mut output = Sink::new(io::writer(rt));
-    let mut faults = Sink::new(rt.stderr());
+    let mut faults = faults(rt);
     run_repl(
         rt.alloc(),
         prompts || rt.stdin().is_terminal(),

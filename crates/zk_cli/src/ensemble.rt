@@ -1,6 +1,6 @@
 //! The command `ensemble`.
 
-use crate::refuse;
+use crate::faults::refuse;
 use sqlite_std_file::File;
 use std::net::{Ipv4Addr, Net};
 use zab_host::MemoryStorage;

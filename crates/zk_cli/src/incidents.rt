@@ -1,6 +1,7 @@
 //! The commands that say what happened in data directories.
 
 use crate::disk_folder::DiskFolder;
+use crate::faults::faults;
 use std::io;
 use zk_cli_args::{By, CompareJob, HistoryJob, TopJob, Until, compare_of, history_of, top_of};
 use zk_incident_commands::{history, top};
@@ -31,7 +32,7 @@ fn tell_history(rt: &HostRuntime, job: &HistoryJob) -> Result<u8, NoMemory> {
     let snapshots = DiskFolder::at(rt, job.folder)?;
     let logs = DiskFolder::at(rt, job.logs.unwrap_or(job.folder))?;
     let mut output = Sink::new(io::writer(rt));
-    let mut faults = Sink::new(rt.stderr());
+    let mut faults = faults(rt);
     history(
         rt.alloc(),
         &snapshots,
@@ -52,7 +53,7 @@ fn tell_top(rt: &HostRuntime, job: &TopJob) -> Result<u8, NoMemory> {
         to: bound_of(job.to),
     };
     let mut output = Sink::new(io::writer(rt));
-    let mut faults = Sink::new(rt.stderr());
+    let mut faults = faults(rt);
     top(
         rt.alloc(),
         &snapshots,
@@ -70,7 +71,7 @@ fn tell_comparison(rt: &HostRuntime, job: &CompareJob) -> Result<u8, NoMemory> {
     let first = DiskFolder::at(rt, job.first)?;
     let second = DiskFolder::at(rt, job.second)?;
     let mut output = Sink::new(io::writer(rt));
-    let mut faults = Sink::new(rt.stderr());
+    let mut faults = faults(rt);
     compare(rt.alloc(), &first, &second, &mut output, &mut faults)
 }
 

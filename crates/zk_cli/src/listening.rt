@@ -3,7 +3,7 @@
 ghost use Rattle.std.specs.Prelude.{◌≤◌};
 
 use crate::clock::SystemClock;
-use crate::refuse;
+use crate::faults::{faults, refuse};
 use std::net::{Ipv4Addr, Net, SocketAddr, TcpListener, TcpStream};
 use std::sync::Wait;
 use std::thread::Threads;
@@ -24,7 +24,7 @@ pub(crate) fn listen<
         return Ok(refuse(rt, "listen"));
     };
     let mut output = Sink::new(io::writer(rt));
-    let mut faults = Sink::new(rt.stderr());
+    let mut faults = faults(rt);
     serve(
         threads,
         rt.alloc(),

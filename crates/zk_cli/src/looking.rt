@@ -1,6 +1,7 @@
 //! The commands that read data directories.
 
 use crate::disk_folder::DiskFolder;
+use crate::faults::faults;
 use std::io;
 use zk_cli_args::{FolderJob, FolderOrder, Until};
 use zk_directory_commands::{Upto, list, show};
@@ -13,7 +14,7 @@ pub(crate) fn look(rt: &HostRuntime, job: &FolderJob) -> Result<u8, NoMemory> {
     let snapshots = DiskFolder::at(rt, job.folder)?;
     let logs = DiskFolder::at(rt, job.logs.unwrap_or(job.folder))?;
     let mut output = Sink::new(io::writer(rt));
-    let mut faults = Sink::new(rt.stderr());
+    let mut faults = faults(rt);
     match job.order {
         FolderOrder::Files => files(rt.alloc(), &snapshots, &logs, &mut output, &mut faults),
         FolderOrder::List => list(rt.alloc(), &snapshots, &logs, &mut output, &mut faults),

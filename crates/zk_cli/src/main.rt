@@ -6,6 +6,7 @@ mod clock;
 mod debugging;
 mod disk_folder;
 mod ensemble;
+mod faults;
 mod incidents;
 mod listening;
 mod looking;
@@ -13,6 +14,7 @@ mod looking;
 use debugging::{debug_directory, debugs_directory};
 use disk_folder::is_directory;
 use ensemble::run_ensemble;
+use faults::{faults, refuse};
 use incidents::run_named;
 use listening::listen;
 use looking::look;
@@ -27,6 +29,7 @@ use zk_cli_args::{
     read_command_line, refusal_of_bytes,
 };
 use zk_commands::act;
+use zk_explanations::explain_at;
 use zk_log::{Sink, Source};
 use zk_path::NoMemory;
 
@@ -51,10 +54,13 @@ fn run<R: Threads + Wait + Net<Listener = TcpListener, Stream = TcpStream> + tim
         }
         Err(_) => return Err(NoMemory),
     };
-    let texts = words
+    let mut texts = words
         .iter()
         .map(|word| word.as_str())
         .collect::<Vec<_>>(rt.alloc())?;
+    if let Some(place) = explain_at(texts.as_slice()) {
+        texts.remove(place);
+    }
     if let Some(job) = folder_debug_of(rt.alloc(), texts.as_slice())? {
         if debugs_directory(rt, &job) {
             return debug_directory(rt, &job);
@@ -157,7 +163,7 @@ fn act_on<F: Read + Drop, S: Read + Drop, O: Write + Drop, R: Write + Drop>(
     let mut script = Source::new(script);
     let mut output = Sink::new(output);
     let mut report = Sink::new(report);
-    let mut faults = Sink::new(rt.stderr());
+    let mut faults = faults(rt);
     act(
         rt.alloc(),
         &prompted(rt, order),
@@ -167,13 +173,6 @@ fn act_on<F: Read + Drop, S: Read + Drop, O: Write + Drop, R: Write + Drop>(
         &mut report,
         &mut faults,
     )
-}
-
-/// Prints why the program stops. Returns the exit status.
-pub(crate) fn refuse(rt: &HostRuntime, reason: &str) -> u8 {
-    // If that fails too, the error cannot be reported.
-    let _ = eprintln!(rt; "zk: {reason}");
-    1
 }
 
 /// The command, with prompts if a session's lines come from a terminal.

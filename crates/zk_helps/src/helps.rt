@@ -334,7 +334,8 @@ const LOGS: OptionHelp = OptionHelp {
 /// Where the errors of all commands are explained.
 pub(crate) const FAULTS: &str =
     "The status is 0, 2 for a rejected command line, and else 1 with one line on standard error. The help
-of each command lists these lines. In the source repository, docs/ERRORS.md explains them.";
+of each command lists these lines; with --explain, or on a terminal, a second one says what it means
+and what helps. In the source repository, docs/ERRORS.md explains them.";
 
 /// The errors of `zk show` and `zk list`.
 const LOG_NOTES: &str =
