@@ -7,8 +7,8 @@ ghost use Rattle.std.specs.List.{list_any, position, position_or_len};
 ghost use Rattle.std.specs.Char.{is_ascii_uppercase};
 
 use crate::fault::ListCause;
-use hex::FromHexError;
 use std::alloc::Global;
+use zk_digits::decode_lower;
 use zk_txn::Content;
 
 /// The field at the start, up to the next space, the end of the line or the end of the input;
@@ -158,12 +158,8 @@ fn content_of(alloc: Global, field: &str) -> Result<Option<Content>, ListCause>
 fn content_of_digits(alloc: Global, digits: &str) -> Result<Option<Content>, ListCause>
     ensures { Makes result (content_of_digits digits.now) }
 {
-    if has_upper_case(digits) {
-        return Err(ListCause::Hex);
-    }
-    match hex::decode(alloc, digits) {
-        Ok(bytes) => Ok(Some(Content::new(alloc, bytes)?)),
-        Err(FromHexError::OutOfMemory) => Err(ListCause::NoMemory),
-        Err(_) => Err(ListCause::Hex),
+    match decode_lower(alloc, digits.as_bytes())? {
+        Some(bytes) => Ok(Some(Content::new(alloc, bytes)?)),
+        None => Err(ListCause::Hex),
     }
 }
