@@ -19,7 +19,7 @@ is_beside count asked (Some found) values e =
     (ap Some (ap (λ (x : Option (List ℕ) × List (List ℕ)). x.1) same), sym (ap (λ (x : Option (List ℕ) × List (List ℕ)). x.0) same))
 
 taken : (count : Option (List ℕ)) (connections : ℕ) (given : Option (List (List ℕ))) (words : List (List ℕ)) (read : Option Serving) → given_beside (option_in (codes "--conns") (codes "--conns=") words) words ≡ beside count given → SpellsConnections count connections
-    → ReadsServersOf given connections read → ReadsServingBehind words read
+    → ReadsServersOf given 2 connections read → ReadsServingBehind words read
 taken count connections given words (Some serving) e spelled r = record {
   count = count;
   values = r.0;
@@ -30,11 +30,11 @@ taken count connections given words (Some serving) e spelled r = record {
 taken count connections given words None e spelled r = λ serving named.
     r named.values serving (is_beside count named.count given named.values (sym e ∙ named.given)).0 named.named
 
-pub plain_serving : (words : List (List ℕ)) (read : Option Serving) → option_in (codes "--conns") (codes "--conns=") words ≡ None → ReadsServersOf (values_of words) 1 read → ReadsServingBehind words read
+pub plain_serving : (words : List (List ℕ)) (read : Option Serving) → option_in (codes "--conns") (codes "--conns=") words ≡ None → ReadsServersOf (values_of words) 2 1 read → ReadsServingBehind words read
 plain_serving words read e r = taken None 1 (values_of words) words read (ap (λ (told : Option ValueBeside). given_beside told words) e) refl r
 
 pub counted_serving : (words : List (List ℕ)) (count : List ℕ) (others : List (List ℕ)) (connections : ℕ) (read : Option Serving) → option_in (codes "--conns") (codes "--conns=") words ≡ Some (count, others) → SpellsWithin 0 4294967295 count connections
-    → ReadsServersOf (values_of others) connections read → ReadsServingBehind words read
+    → ReadsServersOf (values_of others) 2 connections read → ReadsServingBehind words read
 counted_serving words count others connections read e spelled r = taken (Some count) connections (values_of others) words read (ap (λ (told : Option ValueBeside). given_beside told words) e) spelled r
 
 pub uncounted : (words : List (List ℕ)) (count : List ℕ) (others : List (List ℕ)) → option_in (codes "--conns") (codes "--conns=") words ≡ Some (count, others) → ((n : ℕ) → SpellsWithin 0 4294967295 count n → ⊥) → ReadsServingBehind words None

@@ -132,8 +132,8 @@ is_flagged bind most words others read e r = flags bind most true words others r
 
 -- ---- the values
 
-pub is_plain : (bind : Option (List ℕ)) (most : ℕ) (words : List (List ℕ)) (it : Ensemble) → directory_of it ≡ None → bind_of it ≡ bind → ReadsServersOf (values_of words) most (Some it.serving) → ReadsPlain bind most it.until_eof words (Some it)
+pub is_plain : (bind : Option (List ℕ)) (most : ℕ) (words : List (List ℕ)) (it : Ensemble) → directory_of it ≡ None → bind_of it ≡ bind → ReadsServersOf (values_of words) 1 most (Some it.serving) → ReadsPlain bind most it.until_eof words (Some it)
 is_plain bind most words it none e r = (none, e, r.3, refl, record { values = r.0; given = r.1; named = r.2 })
 
-pub has_no_servers : (bind : Option (List ℕ)) (most : ℕ) (until_eof : Bool) (words : List (List ℕ)) → ReadsServersOf (values_of words) most None → ReadsPlain bind most until_eof words None
+pub has_no_servers : (bind : Option (List ℕ)) (most : ℕ) (until_eof : Bool) (words : List (List ℕ)) → ReadsServersOf (values_of words) 1 most None → ReadsPlain bind most until_eof words None
 has_no_servers bind most until_eof words r = λ it names. r names.values it.serving names.given names.named

@@ -52,7 +52,7 @@ one_serving a b p q r =
     ∙ ap (λ (n : ℕ). record a { port = b.port; servers = n }) q
     ∙ ap (λ (n : ℕ). record a { port = b.port; servers = b.servers; connections = n }) r
 
-same_servers : (values : List (List ℕ)) (a b : Serving) → NamesServers values a → NamesServers values b → (a.port ≡ b.port) × (a.servers ≡ b.servers)
+same_servers : (values : List (List ℕ)) (a b : Serving) → NamesServers 2 values a → NamesServers 2 values b → (a.port ≡ b.port) × (a.servers ≡ b.servers)
 same_servers values a b p q =
     let both : p.port ∷ p.servers ∷ [] ≡ q.port ∷ q.servers ∷ [] = sym p.two ∙ q.two in
     let port : q.port ≡ p.port = cc both in
@@ -66,7 +66,7 @@ same_behind words a b p q =
     let given = same_given (q.count, q.values) (p.count, p.values) (sym q.given ∙ p.given) in
     let count : q.count ≡ p.count = ap (λ (x : Option (List ℕ) × List (List ℕ)). x.0) given in
     let values : q.values ≡ p.values = ap (λ (x : Option (List ℕ) × List (List ℕ)). x.1) given in
-    let servers = same_servers p.values a b p.named (subst (λ (v : List (List ℕ)). NamesServers v b) values q.named) in
+    let servers = same_servers p.values a b p.named (subst (λ (v : List (List ℕ)). NamesServers 2 v b) values q.named) in
     let connections = one_count p.count a.connections b.connections p.connections (subst (λ (w : Option (List ℕ)). SpellsConnections w b.connections) count q.connections) in
     one_serving a b servers.0 servers.1 connections
 

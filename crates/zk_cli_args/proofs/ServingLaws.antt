@@ -71,11 +71,11 @@ out_of_range made least most m word z small read p e out n within =
 same_values : (x y : List (List ℕ)) → Some x ≡ Some y → x ≡ y
 same_values x y e = cc
 
-pub of_values : (given : Option (List (List ℕ))) (values : List (List ℕ)) (connections : ℕ) (read : Option Serving) → given ≡ Some values → ReadsServers values connections read → ReadsServersOf given connections read
-of_values given values connections (Some serving) e r = (values, e, r.0, r.1)
-of_values given values connections None e r = λ others serving f named.
+pub of_values : (given : Option (List (List ℕ))) (values : List (List ℕ)) (least connections : ℕ) (read : Option Serving) → given ≡ Some values → ReadsServers values least connections read → ReadsServersOf given least connections read
+of_values given values least connections (Some serving) e r = (values, e, r.0, r.1)
+of_values given values least connections None e r = λ others serving f named.
     let same : others ≡ values = same_values others values (sym f ∙ e) in
-    r serving (subst (λ (v : List (List ℕ)). NamesServers v serving) same named)
+    r serving (subst (λ (v : List (List ℕ)). NamesServers least v serving) same named)
 
 pub named_behind : (words : List (List ℕ)) (program name : List ℕ) (rest : List (List ℕ)) (read : Option Serving) → words ≡ program ∷ name ∷ rest → ReadsServingNamed name rest read → ReadsServing words read
 named_behind words program name rest (Some serving) e r =

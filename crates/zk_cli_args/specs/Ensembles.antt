@@ -45,11 +45,11 @@ directory_of it = option_map (λ word. word.now) it.directory
 
 -- ---- a command line
 
--- the words' values are a port and a number of servers
+-- the words' values are a port and a number of servers, which may be one
 pub record NamesPlain (words : List (List ℕ)) (it : Ensemble) : Type 0 where
   pub values : List (List ℕ)
   pub given : values_of words ≡ Some values
-  pub named : NamesServers values it.serving
+  pub named : NamesServers 1 values it.serving
 
 -- the same, among the words without the flag
 pub record NamesEnding (words : List (List ℕ)) (it : Ensemble) : Type 0 where

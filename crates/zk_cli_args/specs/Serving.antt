@@ -28,20 +28,21 @@ abbrev pub SpellsConnections : Option (List ℕ) → ℕ → Type 0
 SpellsConnections None connections = connections ≡ 1
 SpellsConnections (Some count) connections = SpellsWithin 0 4294967295 count connections
 
--- the values are a port and a number of servers
-pub record NamesServers (values : List (List ℕ)) (serving : Serving) : Type 0 where
+-- the values are a port and a number of servers, at least this one
+pub record NamesServers (least : ℕ) (values : List (List ℕ)) (serving : Serving) : Type 0 where
   pub port : List ℕ
   pub servers : List ℕ
   pub two : values ≡ port ∷ servers ∷ []
   pub is_port : SpellsWithin 1 65535 port serving.port
-  pub are_servers : SpellsWithin 2 15 servers serving.servers
+  pub are_servers : SpellsWithin least 15 servers serving.servers
 
--- the words after the command's name are these values, and may contain the number of connections
+-- the words after the command's name are these values, with two servers at least, and may contain
+-- the number of connections
 pub record NamesBehind (words : List (List ℕ)) (serving : Serving) : Type 0 where
   pub count : Option (List ℕ)
   pub values : List (List ℕ)
   pub given : served_by words ≡ Some (count, values)
-  pub named : NamesServers values serving
+  pub named : NamesServers 2 values serving
   pub connections : SpellsConnections count serving.connections
 
 -- the words are the program's name, the command's, and those after it
@@ -73,11 +74,13 @@ abbrev pub ReadsServingNamed : List ℕ → List (List ℕ) → Option Serving �
 ReadsServingNamed name words (Some serving) = (name ≡ codes "serve") × NamesBehind words serving
 ReadsServingNamed name words None = (serving : Serving) → name ≡ codes "serve" → ¬ NamesBehind words serving
 
--- by the values of some words, and a number of connections
-abbrev pub ReadsServersOf : Option (List (List ℕ)) → ℕ → Option Serving → Type 0
-ReadsServersOf given connections (Some serving) = (values : List (List ℕ)) × (given ≡ Some values) × NamesServers values serving × (serving.connections ≡ connections)
-ReadsServersOf given connections None = (values : List (List ℕ)) (serving : Serving) → given ≡ Some values → ¬ NamesServers values serving
+-- by the values of some words, the least number of servers, and a number of connections
+abbrev pub ReadsServersOf : Option (List (List ℕ)) → ℕ → ℕ → Option Serving → Type 0
+ReadsServersOf given least connections (Some serving) =
+    (values : List (List ℕ)) × (given ≡ Some values) × NamesServers least values serving × (serving.connections ≡ connections)
+ReadsServersOf given least connections None =
+    (values : List (List ℕ)) (serving : Serving) → given ≡ Some values → ¬ NamesServers least values serving
 
-abbrev pub ReadsServers : List (List ℕ) → ℕ → Option Serving → Type 0
-ReadsServers values connections (Some serving) = NamesServers values serving × (serving.connections ≡ connections)
-ReadsServers values connections None = (serving : Serving) → ¬ NamesServers values serving
+abbrev pub ReadsServers : List (List ℕ) → ℕ → ℕ → Option Serving → Type 0
+ReadsServers values least connections (Some serving) = NamesServers least values serving × (serving.connections ≡ connections)
+ReadsServers values least connections None = (serving : Serving) → ¬ NamesServers least values serving

@@ -136,7 +136,7 @@ fn plain_ensemble<'a>(
 ) -> Result<Option<Ensemble<'a>>, NoMemory>
     ensures { IfOk result (λ read. ReadsPlain (option_map (λ word. word.now) bind.entry) most until_eof (map (λ word. word.now) words.now) read) }
 {
-    match serving_by(alloc, words, most)? {
+    match serving_by(alloc, words, 1, most)? {
         Some(serving) => Ok(Some(Ensemble {
             serving,
             bind,

@@ -13,7 +13,7 @@ use zk_path::NoMemory;
 pub struct Serving {
     /// The port on 127.0.0.1, 1 to 65535.
     pub port: u16,
-    /// The number of servers, 2 to 15.
+    /// The number of servers, at most 15.
     pub servers: usize,
     /// The number of connections that are served, one after another.
     pub connections: u32,
@@ -45,36 +45,38 @@ fn serving_behind(alloc: Global, words: &[&str]) -> Result<Option<Serving>, NoMe
     ensures { IfOk result (λ read. ReadsServingBehind (map (λ word. word.now) words.now) read) }
 {
     let Some(found) = option_in(alloc, "--conns", "--conns=", words)? else {
-        return serving_by(alloc, words, 1);
+        return serving_by(alloc, words, 2, 1);
     };
     match number_within(found.value, 0, u32::MAX) {
-        Some(connections) => serving_by(alloc, found.others.as_slice(), connections),
+        Some(connections) => serving_by(alloc, found.others.as_slice(), 2, connections),
         None => Ok(None),
     }
 }
 
-/// The servers that words without a count name, and this number of connections.
+/// The servers that words without a count name, at least this number of them, and this number of
+/// connections.
 #[tactic(auto, using(crate::proofs::ServingLaws::of_values))]
 pub(crate) fn serving_by(
     alloc: Global,
     words: &[&str],
+    least: u32,
     connections: u32,
 ) -> Result<Option<Serving>, NoMemory>
-    ensures { IfOk result (λ read. ReadsServersOf (values_of (map (λ word. word.now) words.now)) connections read) }
+    ensures { IfOk result (λ read. ReadsServersOf (values_of (map (λ word. word.now) words.now)) least connections read) }
 {
     match values_of(alloc, words)? {
-        Some(values) => Ok(servers_in(values.as_slice(), connections)),
+        Some(values) => Ok(servers_in(values.as_slice(), least, connections)),
         None => Ok(None),
     }
 }
 
-/// The servers by a port and their number, and this number of connections.
-fn servers_in(values: &[&str], connections: u32) -> Option<Serving>
-    ensures { ReadsServers (map (λ value. value.now) values.now) connections result }
+/// The servers by a port and their number, at least this one, and this number of connections.
+fn servers_in(values: &[&str], least: u32, connections: u32) -> Option<Serving>
+    ensures { ReadsServers (map (λ value. value.now) values.now) least connections result }
 {
     let (port, servers) = only_two(values)?;
     let port = number_within(port, 1, 65_535)?;
-    let servers = number_within(servers, 2, 15)?;
+    let servers = number_within(servers, least, 15)?;
     Some(Serving {
         port: port as u16,
         servers: servers as usize,

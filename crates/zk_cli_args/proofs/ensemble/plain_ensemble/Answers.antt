@@ -7,4 +7,4 @@ use Rattle.zk_cli_args.specs.declared.serving.Serving.{Serving}
 use Rattle.zk_cli_args.proofs.ensemble.plain_ensemble.Goals as goal
 
 pub returns-in-None : goal.returns-in-None
-returns-in-None c = has_no_servers None c.args.most c.args.until_eof (texts c.args.words.now) (subst (λ (read : Option Serving). ReadsServersOf (values_of (texts c.args.words.now)) c.args.most read) c.in-None.is c.in_ok-serving.ensures)
+returns-in-None c = has_no_servers None c.args.most c.args.until_eof (texts c.args.words.now) (subst (λ (read : Option Serving). ReadsServersOf (values_of (texts c.args.words.now)) 1 c.args.most read) c.in-None.is c.in_ok-serving.ensures)
