@@ -1,5 +1,6 @@
 pub mod BehindLaws
 pub mod DebugLaws
+pub mod DiffLaws
 pub mod DigitsLaws
 pub mod DirectoryLaws
 pub mod EnsembleLaws

@@ -1,6 +1,7 @@
 pub mod Commands
 pub mod Comparing
 pub mod Debugs
+pub mod Differing
 pub mod Ensembles
 pub mod Folders
 pub mod Incidents
@@ -9,4 +10,5 @@ pub mod Options
 pub mod Parting
 pub mod Serving
 pub mod Tops
+pub mod Verifying
 pub mod Zxids

@@ -7,6 +7,7 @@
 mod command;
 mod comparison;
 mod debugging;
+mod difference;
 mod ensemble;
 mod folders;
 mod history;
@@ -15,15 +16,18 @@ mod options;
 mod parting;
 mod serving;
 mod top;
+mod verification;
 mod zxids;
 
 pub use command::{Job, Order};
 pub use comparison::{CompareJob, compare_of};
 pub use debugging::{FolderDebug, folder_debug_of};
+pub use difference::{DiffJob, diff_of};
 pub use ensemble::{Ensemble, ensemble_of};
 pub use folders::{FolderJob, FolderOrder, Until, folder_job_from};
 pub use history::{HistoryJob, history_of};
 pub use line::{Command, CommandFault, read_command_line};
 pub use serving::Serving;
 pub use top::{By, TopJob, top_of};
+pub use verification::{VerifyJob, verify_of};
 pub use zk_helps::{ErrorKind, Refusal, refusal_of, refusal_of_bytes};

@@ -45,7 +45,7 @@ pub(crate) struct OptionHelp {
 pub(crate) const READING: [OrderHelp; 6] = [SHOW, LIST, FILES, ASM, MEND, DEBUG];
 
 /// The commands that say what happened in a data directory.
-pub(crate) const ASKING: [OrderHelp; 3] = [HISTORY, TOP, COMPARE];
+pub(crate) const ASKING: [OrderHelp; 5] = [VERIFY, HISTORY, DIFF, TOP, COMPARE];
 
 /// The commands that run servers.
 pub(crate) const RUNNING: [OrderHelp; 3] = [RUN, SERVE, ENSEMBLE];
@@ -87,6 +87,16 @@ const FILES: OrderHelp = OrderHelp {
     options: &[LOGS],
 };
 
+const VERIFY: OrderHelp = OrderHelp {
+    name: "verify",
+    title: "zk verify",
+    about: "Prints what is wrong with a data directory, and what helps",
+    notes: VERIFY_NOTES,
+    values: &[DIR],
+    flags: &[],
+    options: &[LOGS],
+};
+
 const HISTORY: OrderHelp = OrderHelp {
     name: "history",
     title: "zk history",
@@ -105,6 +115,33 @@ const HISTORY: OrderHelp = OrderHelp {
         help: "Also those of all nodes below it, with the paths of the nodes",
         without: "",
     }],
+    options: &[LOGS],
+};
+
+pub(crate) const DIFF: OrderHelp = OrderHelp {
+    name: "diff",
+    title: "zk diff",
+    about: "Prints what differs between the trees of a data directory as of two transactions",
+    notes: DIFF_NOTES,
+    values: &[
+        DIR,
+        ValueHelp {
+            name: "FROM",
+            help: "The last transaction of the first tree: a zxid, `last` or a time, as for show",
+            required: true,
+        },
+        ValueHelp {
+            name: "TO",
+            help: "That of the second one, likewise",
+            required: true,
+        },
+        ValueHelp {
+            name: "PATH",
+            help: "The path of a node, to compare only it and the nodes below it",
+            required: false,
+        },
+    ],
+    flags: &[],
     options: &[LOGS],
 };
 
@@ -361,6 +398,36 @@ Of a directory these have the file's NAME before AT, and there are more:
 and `read` and `write` if a file or directory cannot be opened or written, and `memory`.
 
 In the source repository, docs/ERRORS.md has what helps."#;
+
+/// The lines of `zk verify`, and its errors.
+const VERIFY_NOTES: &str =
+    r#"Each log is read as far as it can be; then each snapshot, the latest first, is followed in the logs
+to the zxid from which the next one is exact. The lines are:
+  NAME records N FIRST LAST end ..
+                      a log, as `zk files` prints it
+  NAME to LAST digest N exact ZXID
+                      a snapshot: it leads to the states from ZXID to LAST, and N records state the
+                      digest of the tree after them; `empty` is the empty tree, if no snapshot serves
+  otherDigest NAME N FIRST
+                      N records after this snapshot state other digests, and FIRST is the first of them
+  zk: ..              a fault, as other commands print it on standard error
+  help ..             what helps against each kind of fault
+  well, or wrong N    nothing is wrong, or N things are; then the status is 1
+
+Errors, on standard error after `zk: `:
+  D1          no snapshot and no log
+and `read` if a directory cannot be read, `write` and `memory`."#;
+
+/// The lines of `zk diff`, and its errors.
+const DIFF_NOTES: &str =
+    r#"The trees are those that `zk show` prints. The lines are, in order of path:
+  + NODE      the second tree alone has this node, in the form of `zk show`
+  - NODE      the first tree alone has it
+  < NODE      a node that differs, in the first tree
+  > NODE      the same node in the second tree
+`zk history DIR PATH` has the transactions that changed a node.
+
+Errors, on standard error after `zk: `, are those of `zk show` of a directory."#;
 
 /// The lines of `zk history`, and its errors.
 const HISTORY_NOTES: &str =
