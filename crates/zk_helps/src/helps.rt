@@ -397,6 +397,8 @@ Of a directory these have the file's NAME before AT, and there are more:
               this snapshot is unusable, and no log has a record
 and `read` and `write` if a file or directory cannot be opened or written, and `memory`.
 
+Of a directory, --json prints an object of JSON for each line.
+
 In the source repository, docs/ERRORS.md has what helps."#;
 
 /// The lines of `zk verify`, and its errors.
@@ -432,7 +434,8 @@ Errors, on standard error after `zk: `, are those of `zk show` of a directory."#
 /// The lines of `zk history`, and its errors.
 const HISTORY_NOTES: &str =
     r#"A line has the time in UTC, the zxid, the operation as in a listing, and the session. `expired` follows
-the end of a session that the leader closed. With -r the paths of the nodes follow.
+the end of a session that the leader closed. With -r the paths of the nodes follow. With --json a line is
+an object of JSON.
 
 The end of a session deletes the nodes that its record lists, as those of 3.6 and later do, or else the
 ephemeral nodes that the session created in these logs.
@@ -456,7 +459,8 @@ Errors, on standard error after `zk: `, are those of `zk list` of a directory."#
 /// The lines of `zk top`, and its errors.
 const TOP_NOTES: &str =
     r#"A line has the number of writes, and the path or the session. A write creates, changes or deletes a
-node, alone or as a part of a multi. Nodes that end with a session are no writes.
+node, alone or as a part of a multi. Nodes that end with a session are no writes. With --json a line is
+an object of JSON.
 
 Errors, on standard error after `zk: `, are those of `zk list` of a directory."#;
 
