@@ -63,3 +63,6 @@ top_told number start new records none f =
     let told = counted_from start new records f in
     ap (λ (k : Key). rows_text k number new.counts) told.0
     ∙ ap (rows_text start.key number) (told.1 ∙ ap (λ (c : Counted). counted_in start.range start.key c records) none)
+
+pub counts_told : (start new : Top) (records : List NewerRecord) → start.counts ≡ [] → AllFollow Counts start records new → new.counts ≡ counted_all [] (all_keys start.range start.key records)
+counts_told start new records none f = (counted_from start new records f).1 ∙ ap (λ (c : Counted). counted_in start.range start.key c records) none

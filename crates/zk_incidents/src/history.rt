@@ -45,8 +45,12 @@ impl History {
     }
 }
 
-/// The paths that a scope covers.
-fn covered<'a>(alloc: Global, scope: &Scope, paths: &[&'a str]) -> Result<Vec<&'a str>, NoMemory>
+/// The paths that a scope covers, in order.
+pub fn covered<'a>(
+    alloc: Global,
+    scope: &Scope,
+    paths: &[&'a str],
+) -> Result<Vec<&'a str>, NoMemory>
     ensures { IfOk result (λ seen. map (λ path. path.now) seen.items ≡ filter (is_within (string_bytes scope.now.root) scope.now.below) (map (λ path. path.now) paths.now)) }
 {
     let mut seen = Vec::new(alloc);

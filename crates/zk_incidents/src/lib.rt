@@ -12,7 +12,9 @@ mod scope;
 mod top;
 mod writes;
 
-pub use history::History;
+pub use history::{History, covered};
+pub use owners::Owners;
 pub use range::{Bound, Range};
+pub use ranks::Ranks;
 pub use scope::Scope;
-pub use top::{Key, Top};
+pub use top::{Key, Top, first_rows};

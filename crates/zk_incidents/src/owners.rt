@@ -15,7 +15,7 @@ use zk_txn::{Op, Sub};
 
 /// The sessions that own ephemeral nodes, by path, as far as the records so far show.
 #[derive(Drop)]
-pub(crate) struct Owners {
+pub struct Owners {
     alloc: Global,
     sessions: BTreeMap<String, i64>,
 }
@@ -32,7 +32,7 @@ impl Model for Owners {
 
 impl Owners {
     /// No node yet.
-    pub(crate) fn new(alloc: Global) -> Owners
+    pub fn new(alloc: Global) -> Owners
         ensures { result ≡ [] }
     {
         Owners {
@@ -65,7 +65,7 @@ impl Owners {
     }
 
     /// The paths of the nodes that a record creates, changes or deletes.
-    pub(crate) fn touched<'a>(&'a self, newer: &'a NewerRecord) -> Result<Vec<&'a str>, NoMemory>
+    pub fn touched<'a>(&'a self, newer: &'a NewerRecord) -> Result<Vec<&'a str>, NoMemory>
         ensures { IfOk result (λ paths. map (λ path. path.now) paths.items ≡ touched self.now newer.now) }
     {
         match &newer.txn.op {
@@ -151,8 +151,8 @@ impl Owners {
         copies_of(self.alloc, closed.as_slice())
     }
 
-    /// Follows a record.
-    pub(crate) fn follow(&mut self, newer: &NewerRecord) -> Result<(), NoMemory>
+    /// Follows a record. Nothing is specified after an allocation failure.
+    pub fn follow(&mut self, newer: &NewerRecord) -> Result<(), NoMemory>
         ensures { OnOk result (self.new ≡ owned_after self.old newer.now) }
     {
         let session = newer.txn.session;

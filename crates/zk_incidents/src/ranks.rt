@@ -18,7 +18,7 @@ pub(crate) struct Rank {
 
 /// Texts in order of their counts.
 #[derive(Drop)]
-pub(crate) struct Ranks {
+pub struct Ranks {
     alloc: Global,
     counts: BTreeMap<Rank, u64>,
 }
@@ -57,8 +57,8 @@ impl Ranks {
         Ok(())
     }
 
-    /// The texts and their counts.
-    pub(crate) fn rows(&self) -> Result<Vec<(&str, u64)>, NoMemory>
+    /// The texts and their counts, the greatest first.
+    pub fn rows(&self) -> Result<Vec<(&str, u64)>, NoMemory>
         ensures { IfOk result (λ rows. map (λ row. (row.0.now, row.1)) rows.items ≡ rows_of self.now) }
     {
         let mut rows = Vec::new(self.alloc);

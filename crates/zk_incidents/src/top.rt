@@ -2,12 +2,13 @@
 ghost use Rattle.std.specs.Prelude.{◌≡◌, ◌++◌, [], IfOk, OnOk, map};
 ghost use Rattle.std.specs.List.{flat_map};
 ghost use Rattle.std.specs.String.{string_bytes};
-ghost use Rattle.zk_incidents.specs.Counts.{counted_all};
+ghost use Rattle.zk_incidents.specs.Counts.{counted_all, ranked_all};
 ghost use Rattle.zk_incidents.specs.Tops.{Counts as Follows, first_rows, key_text, keys_of, row_text, rows_text};
 ghost use Rattle.zk_format.specs.Spelling.{id_digits};
 
 use crate::counts::Counts;
 use crate::range::Range;
+use crate::ranks::Ranks;
 use crate::writes::written;
 use std::alloc::Global;
 use zk_format::{push_id, push_quoted};
@@ -53,14 +54,21 @@ impl Top {
     pub fn text(&self, number: Option<usize>) -> Result<String, NoMemory>
         ensures { IfOk result (λ text. string_bytes text ≡ rows_text self.now.key number self.now.counts) }
     {
-        let ranks = self.counts.ranks()?;
+        let ranks = self.ranks()?;
         let rows = ranks.rows()?;
         rows_text(self.alloc, self.key, first_rows(rows.as_slice(), number))
     }
+
+    /// The paths or sessions with their writes, in order.
+    pub fn ranks(&self) -> Result<Ranks, NoMemory>
+        ensures { IfOk result (λ ranks. ranks ≡ ranked_all [] self.now.counts) }
+    {
+        self.counts.ranks()
+    }
 }
 
-/// The first rows, or all.
-fn first_rows<'r, 'a>(rows: &'r [(&'a str, u64)], number: Option<usize>) -> &'r [(&'a str, u64)]
+/// The first `number` rows, or all.
+pub fn first_rows<'r, 'a>(rows: &'r [(&'a str, u64)], number: Option<usize>) -> &'r [(&'a str, u64)]
     ensures { map (λ row. (row.0.now, row.1)) result.now ≡ first_rows number (map (λ row. (row.0.now, row.1)) rows.now) }
 {
     match number {

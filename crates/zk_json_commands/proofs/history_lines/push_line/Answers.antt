@@ -1,0 +1,10 @@
+use Rattle.std.proofs.Common.{◌≡◌, ◌==◌, true, false, length, refl, rules}
+use Rattle.std.proofs.lemmas.Result.{on_ok_weaker}
+use Rattle.std.specs.String.{string_bytes}
+use Rattle.zk_json_commands.proofs.Finished.{no_line, one_line}
+use Rattle.zk_json_commands.proofs.history_lines.push_line.Goals as goal
+
+pub returns : goal.returns
+returns c =
+    let some : (length c.args.paths.now == 0) ≡ false = search rules in
+    on_ok_weaker c.push_history_line.result (one_line c.args.paths.now c.args.txn.now (string_bytes c.args.text.now) (string_bytes c.push_history_line.new.text) some) c.push_history_line.ensures
