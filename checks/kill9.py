@@ -5,7 +5,7 @@ Nothing that was acknowledged is lost: after each start a new client finds each 
 counter at least at the last version that was; a client that only waits keeps its session. After the last kill, `zk show` of some server's directory has what the
 clients have seen, `zk debug` ends at the same place, and ZooKeeper's own TxnLogToolkit reads each log.
 
-usage: kill9.py [KILLS] [SEED]
+usage: kill9.py [KILLS] [SEED] [SERVERS]
 """
 import os
 import random
@@ -29,7 +29,7 @@ except ImportError:
 
 ROOT = Path(__file__).resolve().parent.parent
 PROGRAM = Path(os.environ.get("ZK", ROOT / "crates" / "zk_cli" / "out" / "zk_cli"))
-SERVERS = 3
+SERVERS = int(sys.argv[3]) if len(sys.argv) > 3 else 3
 WRITERS = 4
 # Seconds in which a start serves, and in which a client connects.
 PATIENCE = 60

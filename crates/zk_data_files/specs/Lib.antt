@@ -1,1 +1,3 @@
+pub mod Epochs
+pub mod Faults
 pub mod Identities

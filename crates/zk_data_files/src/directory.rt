@@ -1,11 +1,17 @@
+ghost use Rattle.std.specs.Prelude.{◌≡◌};
+ghost use Rattle.zk_data_files.specs.Faults.{fault_of};
+
+use crate::data_store::{DataStore, EpochStore};
+use crate::epoch_files::EpochFiles;
 use crate::fault::DataFault;
 use crate::identity::{Identity, SECRET_BYTES};
+use crate::system_files::{PRIVATE, create_directories, create_directory, replace_file};
 use sqlite_disk::Files;
 use sqlite_std_file::{File, Unknown, open};
+use std::alloc::AllocError;
+use std::fs;
 use std::fs::{OpenOptions, TryLockError};
-use std::io::{ErrorKind, Write};
-use std::os::unix::fs::OpenOptionsExt;
-use std::{fs, io};
+use std::io::ErrorKind;
 use zk_file_store::{FileStore, OpenFault};
 use zk_store::StoreFiles;
 
@@ -13,7 +19,8 @@ use zk_store::StoreFiles;
 ///
 /// Server P's transaction log is `P/version-2/log.1`, for the tools of ZooKeeper and of this project.
 /// Beside it are the tags of its entries (`P/version-2/log.1-wal`), the entries of a change of its
-/// history that is not complete (`P/joining`, `P/joining-wal`), and its book (`P/book`).
+/// history that is not complete (`P/joining`, `P/joining-wal`), and its book (`P/book`). The files
+/// `acceptedEpoch` and `currentEpoch` beside the log have the book's epochs, for other tools.
 #[derive(Drop)]
 pub struct DataDirectory<'a> {
     rt: &'a HostRuntime,
@@ -24,14 +31,15 @@ pub struct DataDirectory<'a> {
 }
 
 impl<'a> DataDirectory<'a> {
-    /// Opens the directory of an ensemble of this number of servers, or creates it with a new secret.
+    /// Opens the directory of an ensemble of this number of servers, or creates it with a new secret,
+    /// and the directories above it that are missing.
     pub fn open(
         rt: &'a HostRuntime,
         path: &str,
         servers: u8,
         new_secret: [u8; SECRET_BYTES],
     ) -> Result<DataDirectory<'a>, DataFault> {
-        create_directory(rt, path)?;
+        create_directories(rt, path)?;
         let lock = lock_directory(rt, path)?;
         let identity = match read_identity(rt, path)? {
             Some(identity) => identity,
@@ -74,10 +82,30 @@ impl<'a> DataDirectory<'a> {
         let files = self.open_files(server)?;
         match FileStore::open(self.rt.alloc(), files) {
             Ok(store) => Ok(store),
-            Err(OpenFault::NoMemory) => Err(DataFault::NoMemory),
-            Err(OpenFault::Disk) => Err(DataFault::Store(server)),
-            Err(OpenFault::NoBook) => Err(DataFault::NoBook(server)),
+            Err(unopened) => Err(fault_of(server, unopened.fault)),
         }
+    }
+
+    /// Opens the store of each server, as [`DataDirectory::open_data_store`].
+    pub fn open_data_stores(&self) -> Result<Vec<DataStore<'a>>, DataFault> {
+        let mut stores = Vec::new(self.rt.alloc());
+        for server in 1..=usize::from(self.identity.servers) {
+            stores.push(self.open_data_store(server)?)?;
+        }
+        Ok(stores)
+    }
+
+    /// Opens a server's store, as [`DataDirectory::open_store`]. It also writes the server's epochs for
+    /// other tools.
+    pub fn open_data_store(&self, server: usize) -> Result<DataStore<'a>, DataFault> {
+        let epochs = EpochFiles::new(self.rt, self.log_directory(server)?);
+        Ok(EpochStore::new(self.open_store(server)?, epochs))
+    }
+
+    /// The directory of a server's log.
+    fn log_directory(&self, server: usize) -> Result<String, AllocError> {
+        let path = self.path.as_str();
+        format!(in self.rt.alloc(); "{path}/{server}/version-2")
     }
 
     /// Opens the files of a server's store. Those that are missing are created, and empty.
@@ -85,7 +113,7 @@ impl<'a> DataDirectory<'a> {
         let alloc = self.rt.alloc();
         let path = self.path.as_str();
         let directory = format!(in alloc; "{path}/{server}")?;
-        let logs = format!(in alloc; "{path}/{server}/version-2")?;
+        let logs = self.log_directory(server)?;
         create_directory(self.rt, directory.as_str())?;
         create_directory(self.rt, logs.as_str())?;
         let log = format!(in alloc; "{path}/{server}/version-2/log.1")?;
@@ -107,21 +135,15 @@ impl<'a> DataDirectory<'a> {
     }
 }
 
-/// Creates a directory, if it is missing, so that a crash does not lose it.
-fn create_directory(rt: &HostRuntime, path: &str) -> Result<(), DataFault> {
-    match fs::create_dir(rt, path) {
-        Ok(()) => {
-            let parent = format!(in rt.alloc(); "{path}/..")?;
-            sync_directory(rt, parent.as_str())
-        }
-        Err(error) if error.kind() == ErrorKind::AlreadyExists => Ok(()),
-        Err(error) => Err(DataFault::System(error)),
+/// The fault of a directory whose server's store was not opened.
+fn fault_of(server: usize, fault: OpenFault) -> DataFault
+    ensures { result ≡ fault_of server fault }
+{
+    match fault {
+        OpenFault::NoMemory => DataFault::NoMemory,
+        OpenFault::Disk => DataFault::Store(server),
+        OpenFault::NoBook => DataFault::NoBook(server),
     }
-}
-
-fn sync_directory(rt: &HostRuntime, path: &str) -> Result<(), DataFault> {
-    fs::File::open(rt, path)?.sync_all()?;
-    Ok(())
 }
 
 /// Locks a directory against other processes.
@@ -154,23 +176,6 @@ fn read_identity(rt: &HostRuntime, path: &str) -> Result<Option<Identity>, DataF
 
 /// Writes the identity of a new directory, whole or not at all.
 fn write_identity(rt: &HostRuntime, path: &str, identity: &Identity) -> Result<(), DataFault> {
-    let alloc = rt.alloc();
-    let name = format!(in alloc; "{path}/ensemble")?;
-    let draft = format!(in alloc; "{path}/ensemble.new")?;
-    let bytes = identity.to_bytes(alloc)?;
-    write_synced(rt, draft.as_str(), &bytes)?;
-    fs::rename(rt, draft.as_str(), name.as_str())?;
-    sync_directory(rt, path)
-}
-
-/// Writes a file that its owner alone can read.
-fn write_synced(rt: &HostRuntime, path: &str, bytes: &[u8]) -> io::Result<()> {
-    let mut file = OpenOptions::new()
-        .write(true)
-        .create(true)
-        .truncate(true)
-        .mode(0o600)
-        .open(rt, path)?;
-    file.write_all(bytes)?;
-    file.sync_all()
+    let bytes = identity.to_bytes(rt.alloc())?;
+    replace_file(rt, path, "ensemble", PRIVATE, &bytes)
 }

@@ -2,4 +2,6 @@
 #![tactic(auto)]
 
 #[cfg(test)]
+mod epoch_tests;
+#[cfg(test)]
 mod identity_tests;

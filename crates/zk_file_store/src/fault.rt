@@ -2,10 +2,11 @@ ghost use Rattle.std.specs.Prelude.{◌≡◌, ◌≢◌};
 ghost use Rattle.zab_host.specs.declared.storage.StoreFault.TheVariants as store_faults;
 ghost use Rattle.zk_file_store.specs.declared.fault.OpenFault.TheVariants as faults;
 
+use sqlite_disk::Disk;
 use std::io;
 use thiserror::Error;
 use zab_host::StoreFault;
-use zk_store::FilesFault;
+use zk_store::{FilesFault, StoreFiles};
 
 /// Why a store was not opened.
 #[derive(Clone, Copy, Debug, Error)]
@@ -22,12 +23,18 @@ pub enum OpenFault {
 }
 
 impl From<io::Error> for OpenFault {
+    ghost from_gives = { λ _ error. error ≡ faults.Disk };
+
     fn from(_error: io::Error) -> OpenFault {
         OpenFault::Disk
     }
 }
 
 impl From<FilesFault> for OpenFault {
+    ghost use Rattle.zk_file_store.specs.FileStores.{open_fault};
+
+    ghost from_gives = { λ fault error. error ≡ open_fault fault };
+
     fn from(fault: FilesFault) -> OpenFault {
         match fault {
             FilesFault::NoMemory => OpenFault::NoMemory,
@@ -36,6 +43,14 @@ impl From<FilesFault> for OpenFault {
             FilesFault::Full => OpenFault::Disk,
         }
     }
+}
+
+/// A store that was not opened, and why.
+#[derive(Drop)]
+pub struct Unopened<D: Disk> {
+    pub fault: OpenFault,
+    /// The files, as the call has left them.
+    pub files: StoreFiles<D>,
 }
 
 /// The fault of a store whose files failed.

@@ -6,5 +6,5 @@ mod file_store;
 mod opening;
 mod stored;
 
-pub use fault::OpenFault;
+pub use fault::{OpenFault, Unopened};
 pub use file_store::FileStore;

@@ -1,10 +1,10 @@
 //! Tests of stores that are opened again after a crash.
 
-use sqlite_disk::{Crash, Disk, Memory};
+use sqlite_disk::{Crash, Disk, Fuse, Memory};
 use std::alloc::Global;
 use zab_epoch::{History, Stable};
 use zab_host::{Storage, StoreFault};
-use zk_file_store::{FileStore, OpenFault};
+use zk_file_store::{FileStore, OpenFault, Unopened};
 use zk_store::StoreFiles;
 
 fn new_files(alloc: Global) -> StoreFiles<Memory> {
@@ -48,7 +48,7 @@ fn recovers(alloc: Global, store: &mut FileStore<Memory>, promised: u32, current
 }
 
 /// Opens new files, stores epochs in two ways, and opens the files again after a crash.
-fn epochs_are_recovered(alloc: Global) -> Result<bool, OpenFault> {
+fn epochs_are_recovered(alloc: Global) -> Result<bool, Unopened<Memory>> {
     let mut store = FileStore::open(alloc, new_files(alloc))?;
     let first = store.count_boot() == Ok(1) && recovers(alloc, &mut store, 0, 0);
     let stored = store.store(&epochs(alloc, 2, 1), 0).is_ok();
@@ -62,7 +62,7 @@ fn epochs_are_recovered(alloc: Global) -> Result<bool, OpenFault> {
 }
 
 /// Whether nothing is stored before the history was loaded.
-fn is_loaded_first(alloc: Global) -> Result<bool, OpenFault> {
+fn is_loaded_first(alloc: Global) -> Result<bool, Unopened<Memory>> {
     let mut store = FileStore::open(alloc, new_files(alloc))?;
     Ok(store.store_atomically(&epochs(alloc, 2, 1)) == Err(StoreFault::Failed))
 }
@@ -73,7 +73,64 @@ fn needs_its_book(alloc: Global) -> bool {
     if !files.log.may_be_used() || files.log.write_at(0, &[0; 17]).is_err() {
         return false;
     }
-    matches!(FileStore::open(alloc, files), Err(OpenFault::NoBook))
+    matches!(
+        FileStore::open(alloc, files),
+        Err(Unopened {
+            fault: OpenFault::NoBook,
+            ..
+        })
+    )
+}
+
+fn fused(alloc: Global, calls: u64) -> Fuse<Memory> {
+    Fuse::new(Memory::new(alloc), calls)
+}
+
+/// New files, of which the log and the book fail after these numbers of calls.
+fn fused_files(alloc: Global, log: u64, book: u64) -> StoreFiles<Fuse<Memory>> {
+    StoreFiles {
+        log: fused(alloc, log),
+        tags: fused(alloc, 0),
+        joining: fused(alloc, 0),
+        joining_tags: fused(alloc, 0),
+        book: fused(alloc, book),
+    }
+}
+
+/// Whether files are not opened, since a call of one fails.
+fn fails(alloc: Global, files: StoreFiles<Fuse<Memory>>) -> bool {
+    matches!(
+        FileStore::open(alloc, files),
+        Err(Unopened {
+            fault: OpenFault::Disk,
+            ..
+        })
+    )
+}
+
+/// The calls on a new log and a new book: each change is one, and so is its sync.
+const LOG_CALLS: u64 = 7;
+
+const BOOK_CALLS: u64 = 10;
+
+/// Whether an open fails with each call of the log and of the book that fails.
+fn each_call_counts(alloc: Global) -> bool {
+    for calls in 0..LOG_CALLS {
+        if !fails(alloc, fused_files(alloc, calls, BOOK_CALLS)) {
+            return false;
+        }
+    }
+    for calls in 0..BOOK_CALLS {
+        if !fails(alloc, fused_files(alloc, LOG_CALLS, calls)) {
+            return false;
+        }
+    }
+    FileStore::open(alloc, fused_files(alloc, LOG_CALLS, BOOK_CALLS)).is_ok()
+}
+
+#[test]
+fn a_call_that_fails_is_a_fault_of_the_disk(rt: HostRuntime) {
+    assert!(rt; each_call_counts(rt.alloc()));
 }
 
 #[test]

@@ -51,6 +51,10 @@ impl From<AllocError> for FilesFault {
 }
 
 impl From<TagFault> for FilesFault {
+    ghost use Rattle.zk_store.specs.Faults.{tag_fault};
+
+    ghost from_gives = { λ error fault. fault ≡ tag_fault error };
+
     fn from(fault: TagFault) -> FilesFault {
         match fault {
             TagFault::Disk(error) => FilesFault::Disk(error),
@@ -60,6 +64,10 @@ impl From<TagFault> for FilesFault {
 }
 
 impl From<BookFault> for FilesFault {
+    ghost use Rattle.zk_store.specs.Faults.{book_fault};
+
+    ghost from_gives = { λ error fault. fault ≡ book_fault error };
+
     fn from(fault: BookFault) -> FilesFault {
         match fault {
             BookFault::Disk(error) => FilesFault::Disk(error),
@@ -69,6 +77,10 @@ impl From<BookFault> for FilesFault {
 }
 
 impl From<LogStoreFault> for FilesFault {
+    ghost use Rattle.zk_store.specs.Faults.{log_fault};
+
+    ghost from_gives = { λ error fault. fault ≡ log_fault error };
+
     fn from(fault: LogStoreFault) -> FilesFault {
         match fault {
             LogStoreFault::Disk(error) => FilesFault::Disk(error),

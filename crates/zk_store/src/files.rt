@@ -21,7 +21,8 @@ pub struct StoreFiles<D: Disk> {
 impl<D: Disk> StoreFiles<D> {
     /// Whether no sync of a file has failed.
     pub fn may_be_used(&self) -> bool
-        ensures { IsTrue result → AreUsable D.Disk self.now }
+        ensures usable { IsTrue result → AreUsable D.Disk self.now }
+        ensures unusable { AreUsable D.Disk self.now → IsTrue result }
     {
         self.log.may_be_used()
             && self.tags.may_be_used()
