@@ -1,0 +1,29 @@
+use Rattle.std.proofs.Common.{◌≡◌, rules, true, Err, sym, subst}
+use Rattle.std.proofs.lemmas.Result.{err_from_is_err_and}
+use Rattle.std.specs.String.{string_bytes}
+use Rattle.zk_differences.specs.Differences.{differences_text}
+use Rattle.zk_folder_commands.specs.declared.fault.HistoryFault.{HistoryFault}
+use Rattle.zk_diff_commands.proofs.Found.{difference_found, no_new}
+use Rattle.zk_diff_commands.specs.Differences.{FindsDifference}
+use Rattle.zk_diff_commands.proofs.tree_difference.difference_of.Goals as goal
+
+pub returns-in_err-new : goal.returns-in_err-new
+returns-in_err-new g c =
+    let snapshots = g.S.Folder.names_in c.args.snapshots.now in
+    let snapshot_bytes = g.S.Folder.bytes_in c.args.snapshots.now in
+    let logs = g.L.Folder.names_in c.args.logs.now in
+    let log_bytes = g.L.Folder.bytes_in c.args.logs.now in
+    let p = err_from_is_err_and c.from_residual-in_err-new.result c.from_residual-in_err-new.ensures.1 in
+    let fault = c.in_err-new.field-0.0 in
+    let told : FindsDifference snapshots snapshot_bytes logs log_bytes c.args.from c.args.to c.args.path.now (Err fault) = no_new snapshots snapshot_bytes logs log_bytes c.args.from c.args.to c.args.path.now fault c.in_err-new.ensures in
+    subst (FindsDifference snapshots snapshot_bytes logs log_bytes c.args.from c.args.to c.args.path.now) (sym p.1) (subst (λ (y : HistoryFault). FindsDifference snapshots snapshot_bytes logs log_bytes c.args.from c.args.to c.args.path.now (Err y)) (sym p.2) told)
+
+pub returns : goal.returns
+returns g c =
+    let snapshots = g.S.Folder.names_in c.args.snapshots.now in
+    let snapshot_bytes = g.S.Folder.bytes_in c.args.snapshots.now in
+    let logs = g.L.Folder.names_in c.args.logs.now in
+    let log_bytes = g.L.Folder.bytes_in c.args.logs.now in
+    let text = c.in_ok-difference_text.field-0 in
+    let is : string_bytes text ≡ differences_text c.args.path.now true c.in_ok-old.old.state.nodes c.in_ok-new.new.state.nodes = search rules in
+    difference_found snapshots snapshot_bytes logs log_bytes c.args.from c.args.to c.args.path.now c.in_ok-old.old c.in_ok-new.new text c.in_ok-old.ensures c.in_ok-new.ensures is

@@ -1,0 +1,6 @@
+//! The command `zk diff` of a data directory, over any folders and any writers.
+#![tactic(auto)]
+
+mod tree_difference;
+
+pub use tree_difference::diff;

@@ -1,0 +1,5 @@
+-- What the contracts of this crate cite.
+pub mod Helps
+pub mod Marks
+pub mod Reports
+pub mod Surveys

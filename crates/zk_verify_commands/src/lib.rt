@@ -1,0 +1,9 @@
+//! The command `zk verify` of a data directory, over any folders and any writers.
+#![tactic(auto)]
+
+mod checking;
+mod files;
+mod following;
+mod verification;
+
+pub use verification::verify;
