@@ -2,3 +2,4 @@
 pub mod Lines
 pub mod Records
 pub mod Histories
+pub mod Nodes
