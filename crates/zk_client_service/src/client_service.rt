@@ -52,7 +52,7 @@ impl<S: Storage> ClientService<S> {
     ghost use Rattle.zk_peers.specs.Peers.{host_at, is_led, is_link, is_server, is_up_at, state_of};
     ghost use Rattle.zk_peers.specs.declared.fault.PeersFault.TheVariants as peers_faults;
 
-    /// Starts 2 to 15 servers, each on its store, and elects a leader. The passwords of sessions
+    /// Starts 1 to 15 servers, each on its store, and elects a leader. The passwords of sessions
     /// come from the secret.
     pub fn start(
         alloc: Global,

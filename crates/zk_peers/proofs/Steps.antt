@@ -1,5 +1,5 @@
 -- The steps of peers.
-use Rattle.std.proofs.Common.{◌≡◌, ◌≢◌, ℕ, Bool, true, false, List, [], length, Option, Some, None, refl, sym, ap, ◌∙◌, subst}
+use Rattle.std.proofs.Common.{◌≡◌, ◌≢◌, ℕ, Bool, true, false, List, [], ◌++◌, length, Option, Some, None, refl, sym, ap, ◌∙◌, subst}
 use Rattle.zab_epoch.specs.declared.message.Message.{Message}
 use Rattle.zab_epoch.specs.declared.stable.Stable.{Stable}
 use Rattle.zab_host.specs.declared.vote.Vote.{Vote}
@@ -10,7 +10,7 @@ use Rattle.zk_peers.specs.declared.place.Place.{Place}
 use Rattle.zk_peers.specs.Elections.{IsWinner}
 use Rattle.zk_peers.specs.Hosts.{setting_for}
 use Rattle.zk_peers.specs.Links.{mail_for}
-use Rattle.zk_peers.specs.Peers.{candidates, is_up_at, is_leader, leader_without, SameAround, TakesRoleAt, FirstTakeRoles, Leads, IsElected, Elects, FirstRejoin, Rejoin, Heals, Crashes, FollowsIf, RestartsAt, Receives}
+use Rattle.zk_peers.specs.Peers.{candidates, is_up_at, is_leader, leader_without, SameAround, own_mail, TakesRoleAt, FirstTakeRoles, Leads, IsElected, Elects, FirstRejoin, Rejoin, Heals, Crashes, FollowsIf, RestartsAt, Receives}
 use Rattle.zk_peers.specs.Places.{ChangesAt, HearsAt, Restarts, after_crash}
 
 module _ {S : Type 0} (may_recover : S → Stable → Type 0) (boots : S → ℕ) (old new : Peers S) where
@@ -18,8 +18,8 @@ module _ {S : Type 0} (may_recover : S → Stable → Type 0) (boots : S → ℕ
   around cuts posted arriving = record { cuts = cuts; posted = posted; arriving = arriving }
 
   pub leads : (leader : ℕ) → FirstTakeRoles may_recover boots leader (length old.places.items) old.places.items new.places.items → new.leader ≡ Some leader
-      → new.cuts ≡ old.cuts → new.posted ≡ old.posted → new.arriving ≡ old.arriving → Leads may_recover boots leader old new
-  leads leader roles is cuts posted arriving = record { roles = roles; leader_is = is; around = around cuts posted arriving }
+      → new.cuts ≡ old.cuts → new.posted ≡ old.posted ++ own_mail new.places.items leader → new.arriving ≡ old.arriving → Leads may_recover boots leader old new
+  leads leader roles is cuts posted arriving = record { roles = roles; leader_is = is; posted = posted; cuts = cuts; arriving = arriving }
 
   pub elects_one : (vote : Vote) (votes : List Vote) → votes ≡ candidates old.cuts.items old.places.items → IsWinner vote votes → Leads may_recover boots vote.server old new
       → Elects may_recover boots (Some vote.server) old new

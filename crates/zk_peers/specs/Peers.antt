@@ -2,11 +2,13 @@
 -- ZooKeeper Internals, "Quorums" and "Leader Activation"; class QuorumPeer.
 use Rattle.std.specs.Prelude.{◌≡◌, ◌≢◌, ◌+◌, ◌-◌, ◌==◌, ◌&&◌, nat_le, nat_lt, ℕ, zero, suc, Bool, true, false, not, List, [], ◌∷◌, ◌++◌, length, slice_get, Option, Some, None, if◌then◌else◌}
 use Rattle.zab_broadcast.specs.Rules.{is_serving}
+use Rattle.zab_epoch.specs.declared.message.Message.{Message}
 use Rattle.zab_epoch.specs.declared.role.Role.{Role}
 use Rattle.zab_epoch.specs.declared.role.Role.TheVariants.{Looking, Following as Follows}
 use Rattle.zab_epoch.specs.declared.stable.Stable.{Stable}
 use Rattle.zab_host.specs.declared.vote.Vote.{Vote}
 use Rattle.zab_host.specs.Votes.{vote_of}
+use Rattle.zab_lone_leader.specs.LoneLeaders.{own_messages}
 use Rattle.zab_quorums.specs.Quorums.{is_majority}
 use Rattle.zk_host.specs.declared.replica_host.ReplicaHost.{ReplicaHost}
 use Rattle.zk_peers.specs.declared.cut.Cut.{Cut}
@@ -18,6 +20,7 @@ use Rattle.zk_peers.specs.declared.state.PeerState.TheVariants as states
 use Rattle.zk_peers.specs.Elections.{IsWinner}
 use Rattle.zk_peers.specs.Hosts.{setting_for, HasStarted}
 use Rattle.zk_peers.specs.Links.{is_cut, mail_for}
+use Rattle.zk_requests.specs.declared.call.Call.{Call}
 use Rattle.zk_peers.specs.Places.{host_in, is_up, after_crash, Restarts, TakesRole, HearsAt, ChangesAt}
 
 -- ---- servers
@@ -137,6 +140,16 @@ state_of cuts places leader server =
 abbrev pub leader_without : Option ℕ → ℕ → Option ℕ
 leader_without leader server = if is_leader leader server then None else leader
 
+-- ---- a lone server
+
+abbrev pub own_messages_of : {S : Type 0} → Option (ReplicaHost S) → List (Message Call)
+own_messages_of None = []
+own_messages_of (Some host) = own_messages host.host.state.peer.role (vote_of host.host.state)
+
+-- what the only server of an ensemble sends itself as it begins to lead
+abbrev pub own_mail : {S : Type 0} → List (Place S) → ℕ → List (Message Call)
+own_mail places server = if length places == 1 then own_messages_of (host_at places server) else []
+
 -- ---- changes
 
 -- all but the places and the leader is as it was
@@ -183,11 +196,13 @@ module _ {S : Type 0} (may_recover : S → Stable → Type 0) (boots : S → ℕ
   FirstTakeRoles leader (suc servers) old new =
       (between : List (Place S)) × FirstTakeRoles leader servers old between × TakesRoleAt (servers + 1) leader between new
 
-  -- a server leads, and each other that is up follows it
+  -- a server leads, and each other that is up follows it; a lone server acknowledges itself
   pub record Leads (leader : ℕ) (old new : Peers S) : Type 0 where
     pub roles : FirstTakeRoles leader (length old.places.items) old.places.items new.places.items
     pub leader_is : new.leader ≡ Some leader
-    pub around : SameAround old new
+    pub posted : new.posted ≡ old.posted ++ own_mail new.places.items leader
+    pub cuts : new.cuts ≡ old.cuts
+    pub arriving : new.arriving ≡ old.arriving
 
   -- the server that is elected leads; if no server hears a quorum, none leads
   abbrev pub Elects : Option ℕ → Peers S → Peers S → Type 0

@@ -7,8 +7,8 @@ use zk_path::NoMemory;
 /// Why a step of the peers fails.
 #[derive(Clone, Copy, Debug, PartialEq, Eq, Error)]
 pub enum PeersFault {
-    /// There are fewer than 2 stores, or more than 15.
-    #[error("an ensemble has 2 to 15 servers")]
+    /// There is no store, or there are more than 15.
+    #[error("an ensemble has 1 to 15 servers")]
     Count,
     /// No server has this number, or a link has the same server at both ends.
     #[error("no such server")]

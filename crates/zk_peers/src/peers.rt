@@ -8,12 +8,13 @@ use std::alloc::Global;
 use std::mem::replace;
 use zab_epoch::{Messages, Role};
 use zab_host::{Storage, Vote};
+use zab_lone_leader::own_messages;
 use zk_host::ReplicaHost;
 use zk_path::NoMemory;
 use zk_requests::Call;
 
 /// The least and the greatest number of servers.
-pub const FEWEST: usize = 2;
+pub const FEWEST: usize = 1;
 
 pub const MOST: usize = 15;
 
@@ -51,14 +52,14 @@ impl<S: Storage> Peers<S> {
     ghost use Rattle.std.specs.Option.{option_copied_mut, option_map};
     ghost use Rattle.zk_peers.specs.Lending.{lends_place};
     ghost use Rattle.zk_peers.specs.Links.{is_cut, with_cut, listed};
-    ghost use Rattle.zk_peers.specs.Peers.{is_server, is_link, host_at, is_up_at, place_at, has_quorum, candidate, candidates, is_leading_host, is_led, serves, is_leader, state_of, SameAround, Starts, Leads, Elects, Rejoin, Heals, FollowsIf, Crashes, RestartsAt, Receives};
+    ghost use Rattle.zk_peers.specs.Peers.{is_server, is_link, host_at, is_up_at, place_at, has_quorum, candidate, candidates, is_leading_host, is_led, serves, is_leader, state_of, SameAround, Starts, own_mail, Leads, Elects, Rejoin, Heals, FollowsIf, Crashes, RestartsAt, Receives};
     ghost use Rattle.zk_peers.specs.declared.fault.PeersFault.TheVariants as faults;
 
-    /// Starts 2 to 15 servers, each on its store. They have no leader, and all links are healthy.
+    /// Starts 1 to 15 servers, each on its store. They have no leader, and all links are healthy.
     pub fn start(alloc: Global, storages: Vec<S>) -> Result<Peers<S>, PeersFault>
         ensures started { IfOk result (Starts S.is_clean S.may_recover S.boots storages.items) }
-        ensures range { OnOk result ((2 ≤ length storages.items) × (length storages.items ≤ 15)) }
-        ensures few { length storages.items < 2 → IsErrOf result faults.Count }
+        ensures range { OnOk result ((1 ≤ length storages.items) × (length storages.items ≤ 15)) }
+        ensures few { length storages.items < 1 → IsErrOf result faults.Count }
         ensures many { 15 < length storages.items → IsErrOf result faults.Count }
     {
         let servers = storages.len();
@@ -193,7 +194,7 @@ impl<S: Storage> Peers<S> {
     }
 
     /// Makes a server lead, and each other that is up follow it. It serves once a quorum has
-    /// exchanged mail with it.
+    /// exchanged mail with it; a lone server exchanges it with itself.
     pub fn lead(&mut self, server: usize) -> Result<(), PeersFault>
         ensures leads { OnOk result (Leads S.may_recover S.boots server self.old self.new) }
         ensures up { OnOk result (is_up_at self.old.places.items server ≡ true) }
@@ -226,7 +227,22 @@ impl<S: Storage> Peers<S> {
     {
         take_roles(self.alloc, &mut self.places, server)?;
         self.leader = Some(server);
+        let mail = self.own_mail(server)?;
+        self.post(mail)?;
         Ok(())
+    }
+
+    /// What the only server of an ensemble sends itself; no messages if there are others.
+    fn own_mail(&self, server: usize) -> Result<Messages<Call>, NoMemory>
+        ensures { IfOk result (λ mail. mail ≡ own_mail self.now.places.items server) }
+    {
+        if self.places.len() != 1 {
+            return Ok(Messages::new(self.alloc));
+        }
+        match self.host(server) {
+            Some(host) => own_messages(self.alloc, host.role(), &host.vote()),
+            None => Ok(Messages::new(self.alloc)),
+        }
     }
 
     /// Stops a server. What it has not stored is lost.

@@ -14,11 +14,11 @@ fn is_rejected(alloc: Global, servers: usize) -> bool {
 }
 
 #[test]
-fn an_ensemble_has_two_to_fifteen_servers(rt: HostRuntime) {
+fn an_ensemble_has_one_to_fifteen_servers(rt: HostRuntime) {
     let alloc = rt.alloc();
-    assert!(rt; is_rejected(alloc, 1));
+    assert!(rt; is_rejected(alloc, 0));
     assert!(rt; is_rejected(alloc, 16));
-    assert!(rt; matches!(ensemble(alloc, FEWEST), Some(peers) if peers.len() == 2));
+    assert!(rt; matches!(ensemble(alloc, FEWEST), Some(peers) if peers.len() == 1));
     assert!(rt; matches!(ensemble(alloc, MOST), Some(peers) if peers.len() == 15));
 }
 
@@ -81,7 +81,7 @@ fn is_displayed(alloc: Global, fault: PeersFault, text: &str) -> bool {
 #[test]
 fn faults_have_texts(rt: HostRuntime) {
     let alloc = rt.alloc();
-    assert!(rt; is_displayed(alloc, PeersFault::Count, "an ensemble has 2 to 15 servers"));
+    assert!(rt; is_displayed(alloc, PeersFault::Count, "an ensemble has 1 to 15 servers"));
     assert!(rt; is_displayed(alloc, PeersFault::NoServer, "no such server"));
     assert!(rt; is_displayed(alloc, PeersFault::Down, "the server is down"));
     assert!(rt; is_displayed(alloc, PeersFault::NotDown, "the server is not down"));

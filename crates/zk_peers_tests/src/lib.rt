@@ -11,4 +11,6 @@ mod fault_tests;
 #[cfg(test)]
 mod five_tests;
 #[cfg(test)]
+mod lone_tests;
+#[cfg(test)]
 mod three_tests;

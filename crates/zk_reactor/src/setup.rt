@@ -24,7 +24,7 @@ pub struct Settings {
     pub address: Ipv4Addr,
     /// The port of server 1. Those of the others follow.
     pub port: u16,
-    /// 2 to 15.
+    /// 1 to 15.
     pub servers: usize,
     pub most_connections: usize,
     /// Whether the end of standard input ends the ensemble.
