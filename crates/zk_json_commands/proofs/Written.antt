@@ -14,7 +14,7 @@ use Rattle.zk_json_commands.specs.Nodes.{AppendsEntryLine, AreNodeLines, IsEntry
 
 -- ---- one line more
 
-lines_more : {A : Type 0} → (is_line : A → List ℕ → Type 0) (xs : List A) (x : A) (text line : List ℕ) → AreLines is_line xs text → is_line x line → AreLines is_line (xs ++ x ∷ []) (text ++ line)
+pub lines_more : {A : Type 0} → (is_line : A → List ℕ → Type 0) (xs : List A) (x : A) (text line : List ℕ) → AreLines is_line xs text → is_line x line → AreLines is_line (xs ++ x ∷ []) (text ++ line)
 lines_more is_line [] x text line e h = subst (λ (t : List ℕ). AreLines is_line (x ∷ []) (t ++ line)) (sym e) (line, [], h, refl, sym (append-nil line))
 lines_more is_line (y ∷ ys) x text line e h = (e.0, e.1 ++ line, e.2, lines_more is_line ys x e.1 line e.3 h, ap (λ t. t ++ line) e.4 ∙ append_assoc e.0 e.1 line)
 
@@ -38,7 +38,7 @@ all_written entries count old new le h = subst (λ (es : List Entry). AppendsLin
 
 -- ---- the lines of a tree
 
-lines_mapped : {A B : Type 0} → (f : A → B) (is_line : B → List ℕ → Type 0) (xs : List A) (text : List ℕ) → AreLines (λ x. is_line (f x)) xs text → AreLines is_line (map f xs) text
+pub lines_mapped : {A B : Type 0} → (f : A → B) (is_line : B → List ℕ → Type 0) (xs : List A) (text : List ℕ) → AreLines (λ x. is_line (f x)) xs text → AreLines is_line (map f xs) text
 lines_mapped f is_line [] text h = h
 lines_mapped f is_line (x ∷ xs) text h = (h.0, h.1, h.2, lines_mapped f is_line xs h.1 h.3, h.4)
 

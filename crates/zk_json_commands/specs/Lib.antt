@@ -3,3 +3,4 @@ pub mod Lines
 pub mod Records
 pub mod Histories
 pub mod Nodes
+pub mod Tops

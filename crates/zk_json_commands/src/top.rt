@@ -1,0 +1,59 @@
+//! `zk top --json`.
+ghost use Rattle.std.specs.Prelude.{◌≡◌, ◌-◌, ◌<◌, ◌^◌};
+ghost use Rattle.zk_json_commands.specs.Tops.{FindsTop, TellsTop};
+ghost use Rattle.zk_records.specs.Sinks.{write_failures_of};
+
+use crate::row_lines::row_lines;
+use std::alloc::Global;
+use std::io::Write;
+use zk_directory_records::fold_directory;
+use zk_folder::Folder;
+use zk_folder_commands::{HistoryFault, put_text, tell_fault};
+use zk_incidents::{Key, Range, Top, first_rows};
+use zk_log::Sink;
+use zk_path::NoMemory;
+
+/// The lines of the paths or sessions with the most writes.
+fn lines_of<S: Folder, L: Folder>(
+    alloc: Global,
+    snapshots: &S,
+    logs: &L,
+    range: Range,
+    key: Key,
+    number: Option<usize>,
+) -> Result<String, HistoryFault>
+    ensures { FindsTop range key number (S.names_in snapshots.now) (L.names_in logs.now) (L.bytes_in logs.now) result }
+{
+    let mut top = Top::new(alloc, range, key);
+    fold_directory(alloc, snapshots, logs, &mut top)?;
+    let ranks = top.ranks()?;
+    let rows = ranks.rows()?;
+    let text = row_lines(alloc, key, first_rows(rows.as_slice(), number))?;
+    Ok(text)
+}
+
+/// Writes a JSON object for each path or session of the second folder's logs, with its number of
+/// writes, the one with most first: at most `number` lines. Returns the exit status.
+///
+/// A write creates, changes or deletes a node, alone or as a part of a multi. The nodes that the end
+/// of a session deletes are no writes.
+pub fn top_json<S: Folder, L: Folder, O: Write, E: Write>(
+    alloc: Global,
+    snapshots: &S,
+    logs: &L,
+    range: Range,
+    key: Key,
+    number: Option<usize>,
+    output: &mut Sink<O>,
+    faults: &mut Sink<E>,
+) -> Result<u8, NoMemory>
+    requires output { write_failures_of output.old < 2 ^ 64 - 1 }
+    requires faults { write_failures_of faults.old < 2 ^ 64 - 1 }
+    ensures { TellsTop O.contents E.contents range key number (S.names_in snapshots.now) (L.names_in logs.now)
+        (L.bytes_in logs.now) output.old output.new faults.old faults.new result }
+{
+    match lines_of(alloc, snapshots, logs, range, key, number) {
+        Ok(text) => Ok(put_text(text.as_str(), output, faults)),
+        Err(fault) => tell_fault(alloc, &fault, faults),
+    }
+}
