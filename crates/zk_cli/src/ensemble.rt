@@ -1,12 +1,10 @@
 //! The command `ensemble`.
 
 use crate::faults::refuse;
-use sqlite_std_file::File;
 use std::net::{Ipv4Addr, Net};
 use zab_host::MemoryStorage;
 use zk_cli_args::Ensemble;
-use zk_data_files::{DataDirectory, DataFault};
-use zk_file_store::FileStore;
+use zk_data_files::{DataDirectory, DataFault, DataStore};
 use zk_path::NoMemory;
 use zk_reactor::{InMemory, ReactorFault, Settings, Stores, new_secret, run};
 
@@ -16,12 +14,12 @@ struct OnDisk<'a, 'b> {
     directory: &'a DataDirectory<'b>,
 }
 
-impl Stores<FileStore<File>> for OnDisk<'_, '_> {
+impl<'b> Stores<DataStore<'b>> for OnDisk<'_, 'b> {
     fn are_reopened(&self) -> bool {
         true
     }
 
-    fn open(&self, server: usize) -> Option<FileStore<File>> {
+    fn open(&self, server: usize) -> Option<DataStore<'b>> {
         self.directory.open_store(server).ok()
     }
 }

@@ -75,7 +75,7 @@ fn tell_comparison(rt: &HostRuntime, job: &CompareJob) -> Result<u8, NoMemory> {
     compare(rt.alloc(), &first, &second, &mut output, &mut faults)
 }
 
-fn key_of(by: By) -> Key {
+pub(crate) fn key_of(by: By) -> Key {
     match by {
         By::Path => Key::Path,
         By::Session => Key::Session,
@@ -83,7 +83,7 @@ fn key_of(by: By) -> Key {
 }
 
 /// The bound of a range; the last transaction of all is none.
-fn bound_of(until: Option<Until>) -> Option<Bound> {
+pub(crate) fn bound_of(until: Option<Until>) -> Option<Bound> {
     match until {
         Some(Until::Zxid(zxid)) => Some(Bound::Zxid(zxid)),
         Some(Until::Time(time)) => Some(Bound::Time(time)),

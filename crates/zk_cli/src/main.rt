@@ -2,20 +2,24 @@
 //! servers. This crate reads the command line and opens files, directories and ports.
 #![tactic(auto)]
 
+mod checking;
 mod clock;
 mod debugging;
 mod disk_folder;
 mod ensemble;
 mod faults;
 mod incidents;
+mod json;
 mod listening;
 mod looking;
 
+use checking::run_checking;
 use debugging::{debug_directory, debugs_directory};
 use disk_folder::is_directory;
 use ensemble::run_ensemble;
 use faults::{faults, refuse};
 use incidents::run_named;
+use json::run_json;
 use listening::listen;
 use looking::look;
 use std::io::{IsTerminal, Read, Write};
@@ -69,7 +73,13 @@ fn run<R: Threads + Wait + Net<Listener = TcpListener, Stream = TcpStream> + tim
     if let Some(ensemble) = ensemble_of(rt.alloc(), texts.as_slice())? {
         return run_ensemble(rt, threads, &ensemble);
     }
+    if let Some(status) = run_json(rt, texts.as_slice())? {
+        return Ok(status);
+    }
     if let Some(status) = run_named(rt, texts.as_slice())? {
+        return Ok(status);
+    }
+    if let Some(status) = run_checking(rt, texts.as_slice())? {
         return Ok(status);
     }
     match read_command_line(rt.alloc(), texts.as_slice()) {
