@@ -20,7 +20,7 @@ impl<'b> Stores<DataStore<'b>> for OnDisk<'_, 'b> {
     }
 
     fn open(&self, server: usize) -> Option<DataStore<'b>> {
-        self.directory.open_store(server).ok()
+        self.directory.open_data_store(server).ok()
     }
 }
 
@@ -81,7 +81,7 @@ fn run_on_disk<N: Net>(
         Ok(directory) => directory,
         Err(fault) => return refuse_directory(rt, fault),
     };
-    match directory.open_stores() {
+    match directory.open_data_stores() {
         Ok(stores) => {
             let on_disk = OnDisk {
                 directory: &directory,

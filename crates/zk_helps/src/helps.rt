@@ -305,7 +305,7 @@ pub(crate) const ENSEMBLE: OrderHelp = OrderHelp {
         },
         ValueHelp {
             name: "N",
-            help: "The number of servers, 2 to 15",
+            help: "The number of servers, 1 to 15",
             required: true,
         },
     ],
