@@ -13,7 +13,7 @@ done
 [ "$(ends "$zk" show --explain "$work/none" last | sed -n 2p)" = "An input cannot be opened or read; of a time, it must be a directory." ]
 # on a terminal, as `script` gives one
 if command -v script >/dev/null; then
-    script -qec "$zk show $work/text last" /dev/null | tr -d '\r' | grep -qx "It is no transaction log: .*"
+    { script -qec "$zk show $work/text last" /dev/null || true; } | tr -d '\r' | grep -qx "It is no transaction log: .*"
 fi
 
 # each error of the page has words
