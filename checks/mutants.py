@@ -295,7 +295,7 @@ def main(words):
     for crate in crates or every:
         edits = [Edit(crate, it) for it in sorted(os.listdir(os.path.join(HERE, "mutants", crate)))]
         work.append((crate, edits))
-    # (first, as a text that is gone would be told only after the trials of other crates)
+    # (first: a mutant whose old text has moved would stop the run only after the trials of other crates)
     texts = [it.edited(os.path.join(ROOT, "crates", crate)) for crate, edits in work for it in edits]
     if "--texts" in words:
         print("%d edits can be applied" % len(texts))

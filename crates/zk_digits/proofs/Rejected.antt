@@ -1,4 +1,4 @@
--- What is no lower-case digit spells nothing.
+-- A text with what is no lower-case digit encodes no bytes.
 use Rattle.std.proofs.Common.{◌≡◌, ℕ, zero, suc, ◌+◌, ◌/◌, ◌%◌, ◌<◌, ◌⊎◌, inl, inr, Bool, true, false, ◌||◌, ◌&&◌, not, List, [], ◌∷◌, length, slice_index, Some, None, Result, Ok, Err, if◌then◌else◌, refl, sym, ap, ◌∙◌, arith}
 use Rattle.std.specs.Char.{is_ascii_uppercase}
 use Rattle.std.specs.List.{list_any}
@@ -80,7 +80,7 @@ odd_spells_nothing digits odd = by_capitals (list_any is_ascii_uppercase digits)
   by_capitals true = refl
   by_capitals false = rw odd refl
 
--- ---- digits spell their bytes
+-- ---- digits encode their bytes
 
 lower_below : ℕ → Bool
 lower_below zero = true

@@ -21,7 +21,7 @@ taken_pair xs at fits =
     let first = take_more xs (2 * at) 0 (omega arith) in
     rw (two, second, first) (append_assoc (take (2 * at) xs) (slice_index xs (2 * at) ∷ []) (slice_index xs (2 * at + 1) ∷ []))
 
--- one byte more is spelled
+-- one byte more is encoded
 pub spelled_more : (digits bytes : List ℕ) (at high low byte : ℕ) → 2 * at + 1 < length digits → at < length bytes
     → high < 16 → low < 16 → byte ≡ high * 16 + low → glyph high ≡ slice_index digits (2 * at) → glyph low ≡ slice_index digits (2 * at + 1)
     → encode_lower (take at bytes) ≡ take (2 * at) digits

@@ -1,4 +1,4 @@
--- The bytes that lower-case hexadecimal digits spell. RFC 4648, section 8, with lower-case letters.
+-- The bytes that lower-case hexadecimal digits encode. RFC 4648, section 8, with lower-case letters.
 use Rattle.std.specs.Prelude.{◌≡◌, ◌⊎◌, ℕ, true, List, Option, Some, None, Result, Ok, Err, if◌then◌else◌}
 use Rattle.std.specs.Char.{is_ascii_uppercase}
 use Rattle.std.specs.List.{list_any}

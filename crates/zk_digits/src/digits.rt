@@ -7,7 +7,7 @@ use std::alloc::{AllocError, Global};
 /// What stands for a byte that is no digit.
 const NONE: u8 = 255;
 
-/// The bytes that pairs of lower-case digits spell (RFC 4648, section 8, in lower case); `None` if
+/// The bytes that pairs of lower-case digits encode (RFC 4648, section 8, in lower case); `None` if
 /// the text is not of such pairs alone.
 pub fn decode_lower(alloc: Global, digits: &[u8]) -> Result<Option<Vec<u8>>, AllocError>
     ensures bytes { IfOk result (λ found. IfSome found (λ bytes. bytes_of digits.now ≡ Some bytes.items)) }
@@ -24,7 +24,7 @@ pub fn decode_lower(alloc: Global, digits: &[u8]) -> Result<Option<Vec<u8>>, All
     }
 }
 
-/// Writes the bytes that pairs of digits spell. Returns the greatest value of a digit; if it is not
+/// Writes the bytes that pairs of digits encode. Returns the greatest value of a digit; if it is not
 /// below 16, a byte was no digit.
 ///
 /// It does not stop at such a byte, so that many are read at a time.
