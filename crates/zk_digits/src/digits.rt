@@ -1,4 +1,4 @@
-ghost use Rattle.std.specs.Prelude.{◌≡◌, ◌<◌, ◌≤◌, ◌*◌, ℕ, length, IfOk, IfSome, Some, None, slice_index};
+ghost use Rattle.std.specs.Prelude.{◌≡◌, ◌<◌, ◌≤◌, ◌*◌, ℕ, length, true, false, IfOk, IfSome, Some, None, slice_index};
 ghost use Rattle.hex.specs.Hex.{IsBytes, encode_lower, lower_digits};
 ghost use Rattle.zk_digits.specs.Digits.{IsBad, bytes_of};
 
@@ -22,6 +22,16 @@ pub fn decode_lower(alloc: Global, digits: &[u8]) -> Result<Option<Vec<u8>>, All
     } else {
         Ok(None)
     }
+}
+
+/// Writes the bytes that pairs of lower-case digits encode, and returns whether the text is of such
+/// pairs alone. If it is not, the bytes are of no meaning.
+pub fn decode_lower_to(digits: &[u8], bytes: &mut [u8]) -> bool
+    requires { length digits.now ≡ 2 * length bytes.old }
+    ensures bytes { result ≡ true → bytes_of digits.now ≡ Some bytes.new }
+    ensures none { result ≡ false → bytes_of digits.now ≡ None }
+{
+    decode_into(digits, bytes) < 16
 }
 
 /// Writes the bytes that pairs of digits encode. Returns the greatest value of a digit; if it is not

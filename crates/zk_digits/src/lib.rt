@@ -5,4 +5,4 @@ mod digits;
 #[cfg(test)]
 mod tests;
 
-pub use digits::decode_lower;
+pub use digits::{decode_lower, decode_lower_to};

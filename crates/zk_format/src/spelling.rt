@@ -183,11 +183,9 @@ fn digit_of(number: u8) -> u8
     requires { number < 16 }
     ensures { result ≡ slice_index lower_digits number }
 {
-    if number < 10 {
-        b'0' + number
-    } else {
-        b'a' - 10 + number
-    }
+    // Added to every digit, so that the compiler needs no blend of two sums.
+    let letter = if number > 9 { b'a' - b'0' - 10 } else { 0 };
+    b'0' + number + letter
 }
 
 /// Appends an access control list: the number of its entries, and the three fields of each.

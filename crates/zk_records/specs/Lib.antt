@@ -1,6 +1,7 @@
 pub use Rattle.zk_path.specs.Paths
 pub mod Checksum
 pub mod Journals
+pub mod Lanes
 pub mod Laws
 pub mod Ranges
 pub mod Records
