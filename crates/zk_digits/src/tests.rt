@@ -1,6 +1,6 @@
 //! RFC 4648, section 10, "Test Vectors", for base16; in lower case.
 
-use crate::decode_lower;
+use crate::{decode_lower, decode_lower_to};
 use std::alloc::AllocError;
 
 #[test]
@@ -16,6 +16,14 @@ fn pairs_of_digits_are_read(rt: HostRuntime) -> Result<(), AllocError> {
         assert!(rt; decoded.is_some_and(|it| it.as_slice() == bytes));
     }
     Ok(())
+}
+
+#[test]
+fn pairs_of_digits_are_read_into_a_buffer(rt: HostRuntime) {
+    let mut bytes = [0u8; 6];
+    assert!(rt; decode_lower_to(b"666f6f626172", &mut bytes));
+    assert!(rt; bytes.as_slice() == b"foobar".as_slice());
+    assert!(rt; !decode_lower_to(b"666f6f62617G", &mut bytes));
 }
 
 #[test]

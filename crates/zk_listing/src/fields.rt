@@ -3,13 +3,15 @@
 ghost use Rattle.std.specs.Prelude.{◌≡◌, ◌≢◌, IfErr};
 ghost use Rattle.std.specs.Int.{w32, w64};
 ghost use Rattle.zk_listing.specs.Reading.{TakesField, Takes, Makes, id_from, id_at, int_from, int_at, content_from, content_at, content_of_digits, count_at, is_plain, is_end};
-ghost use Rattle.std.specs.List.{list_any, position, position_or_len};
-ghost use Rattle.std.specs.Char.{is_ascii_uppercase};
+ghost use Rattle.std.specs.List.{position, position_or_len};
 
 use crate::fault::ListCause;
 use std::alloc::Global;
-use zk_digits::decode_lower;
+use zk_digits::{decode_lower, decode_lower_to};
 use zk_txn::Content;
+
+/// The number of digits of a zxid or a session id.
+const ID_DIGITS: usize = 16;
 
 /// The field at the start, up to the next space, the end of the line or the end of the input;
 /// `None` if it is empty.
@@ -55,18 +57,15 @@ pub(crate) fn id(input: &mut &str) -> Result<i64, ListCause>
 fn id_of(field: &str) -> Option<i64>
     ensures { result ≡ id_from field.now }
 {
-    if has_upper_case(field) {
+    let digits = field.as_bytes();
+    if digits.len() != ID_DIGITS {
         return None;
     }
     let mut bytes = [0u8; 8];
-    hex::decode_to_slice(field, &mut bytes).ok()?;
+    if !decode_lower_to(digits, &mut bytes) {
+        return None;
+    }
     Some(u64::from_be_bytes(bytes).cast_signed())
-}
-
-fn has_upper_case(text: &str) -> bool
-    ensures { result ≡ list_any is_ascii_uppercase text.now }
-{
-    text.bytes().any(|b| b.is_ascii_uppercase())
 }
 
 /// A decimal of 32 bits.
