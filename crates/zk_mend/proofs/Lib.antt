@@ -1,5 +1,4 @@
 -- Lemmas of this crate.
-pub mod Crcs
 pub mod Totals
 pub mod DigestSteps
 pub mod Start

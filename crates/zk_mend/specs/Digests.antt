@@ -8,7 +8,7 @@ use Rattle.std.specs.Int.{w32, w64, to_be_bytes, cast_unsigned}
 use Rattle.std.specs.FinMap.{entries}
 use Rattle.zk_txn.specs.declared.node.Node.{Node}
 use Rattle.zk_table.specs.States.{NodeMap}
-use Rattle.zk_mend.specs.Crc.{crc_of}
+use Rattle.zk_crc.specs.Crc.{crc_of}
 
 unfoldable pub int : ℤ → List ℕ
 int number = to_be_bytes w32 (cast_unsigned w32 number)

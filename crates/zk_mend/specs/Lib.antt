@@ -1,5 +1,4 @@
 -- The definitions that this crate's contracts cite.
-pub mod Crc
 pub mod Owning
 pub mod Digests
 pub mod Following

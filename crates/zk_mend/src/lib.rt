@@ -8,7 +8,6 @@
 
 mod closing;
 mod conversion_report;
-mod crc;
 mod fault;
 mod laws;
 mod mended;

@@ -1,8 +1,8 @@
 ghost use Rattle.std.specs.Prelude.{◌≡◌};
-ghost use Rattle.zk_mend.specs.Crc.{after_bytes};
+ghost use Rattle.zk_crc.specs.Crc.{after_bytes};
 ghost use Rattle.zk_mend.specs.Digests.{node_digest, content_bytes, field_bytes, is_apart, path_bytes, int, long};
 
-use crate::crc::{after_bytes, complement};
+use zk_crc::{after_bytes, complement};
 use zk_table::{Content, Node};
 
 /// The digest of the node at a path with this owner; 0 for the nodes below `/zookeeper`, which
@@ -35,7 +35,7 @@ fn path_bytes(path: &str) -> &[u8]
     path.as_bytes()
 }
 
-#[tactic(auto, unfolding(crate::specs::Crc::after_bytes))]
+#[tactic(auto, unfolding(zk_crc::specs::Crc::after_bytes))]
 fn after_content(register: u32, content: &Option<Content>) -> u32
     ensures { result ≡ after_bytes register (content_bytes content.now) }
 {

@@ -1,8 +1,8 @@
 use Rattle.std.proofs.Common.{◌≡◌, ℕ, ℤ, w32, w64, to_z, of_z, FitsSigned, rules, ap, ◌∙◌, ◌++◌}
 use Rattle.std.proofs.lemmas.Int.{to_z-of_z}
-use Rattle.zk_mend.specs.Crc.{after_bytes}
+use Rattle.zk_crc.specs.Crc.{after_bytes}
 use Rattle.zk_mend.specs.Digests.{int, long}
-use Rattle.zk_mend.proofs.Crcs.{behind}
+use Rattle.zk_crc.proofs.Crcs.{behind}
 use Rattle.zk_mend.proofs.node.after_fields.Goals as goal
 
 long_passed : (r s : ℕ) (z : ℤ) → FitsSigned w64 z → s ≡ after_bytes r (long (to_z w64 (of_z w64 z))) → s ≡ after_bytes r (long z)

@@ -1,9 +1,9 @@
 use Rattle.std.proofs.Common.{◌++◌, w64, ap, sym, ◌∙◌, cond}
 use Rattle.std.specs.Int.Bits.{bit_xor}
 use Rattle.std.proofs.lemmas.Int.{to_z-of_z}
-use Rattle.zk_mend.specs.Crc.{after_bytes, crc_of}
+use Rattle.zk_crc.specs.Crc.{after_bytes, crc_of}
 use Rattle.zk_mend.specs.Digests.{path_bytes, content_bytes, field_bytes}
-use Rattle.zk_mend.proofs.Crcs.{behind}
+use Rattle.zk_crc.proofs.Crcs.{behind}
 use Rattle.zk_mend.proofs.node.node_digest.Goals as goal
 
 pub returns : goal.returns
