@@ -1,10 +1,10 @@
 -- The sum of counts.
-use Rattle.std.proofs.Common.{◌≡◌, ◌≢◌, ◌+◌, ◌<◌, ◌≤◌, ◌^◌, ◌-◌, ℕ, zero, suc, min, List, [], ◌∷◌, length, map, Option, Some, None, Less, Equal, Greater, arith, refl, sym, subst, ap, ◌∙◌}
+use Rattle.std.proofs.Common.{◌≡◌, ◌+◌, ◌<◌, ◌≤◌, ◌^◌, ℕ, suc, min, List, [], ◌∷◌, length, Option, Some, None, Less, Equal, Greater, arith, refl, sym, ap, ◌∙◌}
 use Rattle.std.proofs.lemmas.Cmp.{nat_list_cmp_total}
 use Rattle.std.proofs.lemmas.Map.Entries.{sum_by-insert_entry, sum_by-remove_entry}
 use Rattle.std.specs.BTreeMap.{insert_entry, is_at}
 use Rattle.std.specs.Cmp.{IsTotalOrder}
-use Rattle.std.specs.List.{AllByRecursion, sum, sum_by}
+use Rattle.std.specs.List.{AllByRecursion, sum}
 use Rattle.std.specs.List.Sorted.{IsStrictlySortedBy}
 use Rattle.std.specs.Map.{keys_of, lookup, remove_entry, values_of}
 use Rattle.std.specs.Option.{option_map, unwrap_or}
@@ -13,9 +13,6 @@ use Rattle.std.specs.declared.cmp.Ordering.{Ordering}
 use Rattle.zk_table.specs.States.{path_cmp}
 use Rattle.zk_incidents.specs.Counts.{Counted, count_of, counted_all, counted_one, most, one_more}
 use Rattle.zk_incidents.specs.Tops.{all_keys}
-use Rattle.zk_incidents.specs.declared.range.Range.{Range}
-use Rattle.zk_incidents.specs.declared.top.Key.{Key}
-use Rattle.zk_newer_records.specs.declared.newer_record.NewerRecord.{NewerRecord}
 use Rattle.zk_incident_laws.specs.Counts.{CountsAddUp}
 
 -- ---- entries stay sorted

@@ -1,2 +1,3 @@
 -- The statements of the laws.
 pub mod Counts
+pub mod Listings
