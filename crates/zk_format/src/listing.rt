@@ -4,7 +4,9 @@ ghost use Rattle.std.specs.String.{string_bytes};
 ghost use Rattle.zk_format.specs.Listings.{IsListed, HasCountedAcls, listing_of, line_of, op_text, sub_text, part_text, create_text, create_old_text, delete_text, set_data_text, set_acl_text, check_text, error_text, ephemeral_text, header_text};
 
 use crate::ranges::{txn_is_listed, txns_are_listed};
-use crate::spelling::{LINE, push_id, spell_acl, spell_content, spell_next_id, spell_quoted};
+use crate::spelling::{
+    LINE, push_id, spell_acl, spell_content, spell_next_decimal, spell_next_id, spell_quoted,
+};
 use std::alloc::Global;
 use zk_acl::Acls;
 use zk_path::{NoMemory, Path};
@@ -56,7 +58,8 @@ fn spell_header(text: &mut String, txn: &Txn) -> Result<(), NoMemory>
 {
     push_id(text, txn.zxid)?;
     spell_next_id(text, txn.session)?;
-    write!(text, " {} {}", txn.cxid, txn.time)?;
+    spell_next_decimal(text, i64::from(txn.cxid))?;
+    spell_next_decimal(text, txn.time)?;
     Ok(())
 }
 
@@ -145,7 +148,7 @@ fn spell_create(
     text.push(' ')?;
     spell_acl(text, acl)?;
     spell_ephemeral(text, ephemeral)?;
-    write!(text, " {count}")?;
+    spell_next_decimal(text, i64::from(count))?;
     Ok(())
 }
 
@@ -200,7 +203,7 @@ fn spell_set_data(
     spell_quoted(text, path.text())?;
     text.push(' ')?;
     spell_content(text, content)?;
-    write!(text, " {version}")?;
+    spell_next_decimal(text, i64::from(version))?;
     Ok(())
 }
 
@@ -212,7 +215,7 @@ fn spell_set_acl(text: &mut String, path: &Path, acl: &Acls, version: i32) -> Re
     spell_quoted(text, path.text())?;
     text.push(' ')?;
     spell_acl(text, acl)?;
-    write!(text, " {version}")?;
+    spell_next_decimal(text, i64::from(version))?;
     Ok(())
 }
 
@@ -221,7 +224,7 @@ fn spell_check(text: &mut String, path: &Path, version: i32) -> Result<(), NoMem
 {
     text.push_str("check ")?;
     spell_quoted(text, path.text())?;
-    write!(text, " {version}")?;
+    spell_next_decimal(text, i64::from(version))?;
     Ok(())
 }
 

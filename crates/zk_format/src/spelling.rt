@@ -1,6 +1,7 @@
 //! The format of fields. Public functions append a whole field, or nothing if an allocation fails.
 //! Private ones may leave a part then, and write to a text of their own.
 ghost use Rattle.std.specs.Prelude.{◌≡◌, ◌≤◌, ◌<◌, ◌*◌, ◌++◌, ◌∷◌, OnErr, OnOk, length, slice_index};
+ghost use Rattle.std.specs.Fmt.{signed_decimal};
 ghost use Rattle.std.specs.List.{flat_map, list_any};
 ghost use Rattle.std.specs.Option.{option_copied};
 ghost use Rattle.std.specs.Str.{chars};
@@ -8,6 +9,7 @@ ghost use Rattle.std.specs.String.{string_bytes};
 ghost use Rattle.hex.specs.Hex.{encode_lower, lower_digits};
 ghost use Rattle.zk_format.specs.Spelling.{sixteen_digits, id_digits, is_escaped, escaped, quoted, content_text, acl_entry_text, acl_text, stat_text, stat_times, stat_versions, stat_rest};
 
+use itoa::Buffer;
 use std::str;
 use zk_acl::{Acl, Acls, Stat};
 use zk_path::NoMemory;
@@ -43,6 +45,16 @@ pub(crate) fn spell_next_id(line: &mut String, id: i64) -> Result<(), NoMemory>
 {
     line.push_str(" ")?;
     push_id(line, id)?;
+    Ok(())
+}
+
+/// Appends a space and a decimal. Faster than `write!`, by which most fields would cost more than
+/// their digits.
+pub(crate) fn spell_next_decimal(line: &mut String, number: i64) -> Result<(), NoMemory>
+    ensures { OnOk result (string_bytes line.new ≡ string_bytes line.old ++ 32 ∷ signed_decimal number) }
+{
+    line.push(' ')?;
+    line.push_str(Buffer::new().format(number))?;
     Ok(())
 }
 
@@ -204,7 +216,7 @@ pub(crate) fn spell_acl(line: &mut String, acl: &Acls) -> Result<(), NoMemory>
     ensures { OnOk result (string_bytes line.new ≡ string_bytes line.old ++ acl_text acl.now) }
 {
     let entries = acl.as_slice();
-    write!(line, "{}", entries.len())?;
+    line.push_str(Buffer::new().format(entries.len()))?;
     for entry in entries {
         spell_acl_entry(line, entry)?;
     }
@@ -216,7 +228,7 @@ pub(crate) fn spell_acl(line: &mut String, acl: &Acls) -> Result<(), NoMemory>
 fn spell_acl_entry(line: &mut String, entry: &Acl) -> Result<(), NoMemory>
     ensures { OnOk result (string_bytes line.new ≡ string_bytes line.old ++ acl_entry_text entry.now) }
 {
-    write!(line, " {}", entry.perms)?;
+    spell_next_decimal(line, i64::from(entry.perms))?;
     line.push(' ')?;
     spell_quoted(line, entry.id.scheme.as_str())?;
     line.push(' ')?;
@@ -254,7 +266,8 @@ fn spell_stat_times(line: &mut String, stat: &Stat) -> Result<(), NoMemory>
 {
     push_id(line, stat.czxid)?;
     spell_next_id(line, stat.mzxid)?;
-    write!(line, " {} {}", stat.ctime, stat.mtime)?;
+    spell_next_decimal(line, stat.ctime)?;
+    spell_next_decimal(line, stat.mtime)?;
     Ok(())
 }
 
@@ -263,7 +276,9 @@ fn spell_stat_times(line: &mut String, stat: &Stat) -> Result<(), NoMemory>
 fn spell_stat_versions(line: &mut String, stat: &Stat) -> Result<(), NoMemory>
     ensures { OnOk result (string_bytes line.new ≡ string_bytes line.old ++ stat_versions stat.now) }
 {
-    write!(line, "{} {} {}", stat.version, stat.cversion, stat.aversion)?;
+    line.push_str(Buffer::new().format(stat.version))?;
+    spell_next_decimal(line, i64::from(stat.cversion))?;
+    spell_next_decimal(line, i64::from(stat.aversion))?;
     Ok(())
 }
 
@@ -273,7 +288,8 @@ fn spell_stat_rest(line: &mut String, stat: &Stat) -> Result<(), NoMemory>
     ensures { OnOk result (string_bytes line.new ≡ string_bytes line.old ++ stat_rest stat.now) }
 {
     push_id(line, stat.ephemeral_owner)?;
-    write!(line, " {} {}", stat.data_length, stat.num_children)?;
+    spell_next_decimal(line, i64::from(stat.data_length))?;
+    spell_next_decimal(line, i64::from(stat.num_children))?;
     spell_next_id(line, stat.pzxid)?;
     Ok(())
 }

@@ -9,5 +9,5 @@ pub returns : goal.returns
 returns c =
     let word : string_bytes c.push_str.new.self ≡ string_bytes c.args.text.now ++ codes "check " = search rules in
     let path : string_bytes c.spell_quoted.new.line ≡ string_bytes c.push_str.new.self ++ quoted c.args.path.now = search rules in
-    let version : string_bytes c.write.new.self ≡ string_bytes c.spell_quoted.new.line ++ 32 ∷ signed_decimal c.args.version = search rules in
+    let version : string_bytes c.spell_next_decimal.new.line ≡ string_bytes c.spell_quoted.new.line ++ 32 ∷ signed_decimal c.args.version = search rules in
     rw (version, path, word) (simp append_assoc)

@@ -15,5 +15,5 @@ returns c =
     let gap : string_bytes c.push-2.new.self ≡ string_bytes c.spell_content.new.line ++ 32 ∷ [] = search rules in
     let acl : string_bytes c.spell_acl.new.line ≡ string_bytes c.push-2.new.self ++ acl_text c.args.acl.now = search rules in
     let kind : string_bytes c.spell_ephemeral.new.text ≡ string_bytes c.spell_acl.new.line ++ 32 ∷ ephemeral_text c.args.ephemeral = search rules in
-    let count : string_bytes c.write.new.self ≡ string_bytes c.spell_ephemeral.new.text ++ 32 ∷ signed_decimal c.args.count = search rules in
+    let count : string_bytes c.spell_next_decimal.new.line ≡ string_bytes c.spell_ephemeral.new.text ++ 32 ∷ signed_decimal c.args.count = search rules in
     rw (count, kind, acl, gap, content, space, path, word) (simp append_assoc)

@@ -9,5 +9,6 @@ returns c =
     let txn = c.args.txn.now in
     let one : string_bytes c.push_id.new.line ≡ string_bytes c.args.text.now ++ id_digits txn.zxid = search rules in
     let two : string_bytes c.spell_next_id.new.line ≡ string_bytes c.push_id.new.line ++ 32 ∷ id_digits txn.session = search rules in
-    let rest : string_bytes c.write.new.self ≡ string_bytes c.spell_next_id.new.line ++ (32 ∷ signed_decimal txn.cxid ++ 32 ∷ signed_decimal txn.time) = search rules in
-    rw (rest, two, one) (simp append_assoc)
+    let three : string_bytes c.spell_next_decimal.new.line ≡ string_bytes c.spell_next_id.new.line ++ 32 ∷ signed_decimal txn.cxid = search rules in
+    let rest : string_bytes c.spell_next_decimal-2.new.line ≡ string_bytes c.spell_next_decimal.new.line ++ 32 ∷ signed_decimal txn.time = search rules in
+    rw (rest, three, two, one) (simp append_assoc)

@@ -11,5 +11,5 @@ returns c =
     let path : string_bytes c.spell_quoted.new.line ≡ string_bytes c.push_str.new.self ++ quoted c.args.path.now = search rules in
     let space : string_bytes c.push.new.self ≡ string_bytes c.spell_quoted.new.line ++ 32 ∷ [] = search rules in
     let content : string_bytes c.spell_content.new.line ≡ string_bytes c.push.new.self ++ content_text c.args.content.now = search rules in
-    let version : string_bytes c.write.new.self ≡ string_bytes c.spell_content.new.line ++ 32 ∷ signed_decimal c.args.version = search rules in
+    let version : string_bytes c.spell_next_decimal.new.line ≡ string_bytes c.spell_content.new.line ++ 32 ∷ signed_decimal c.args.version = search rules in
     rw (version, content, space, path, word) (simp append_assoc)

@@ -9,8 +9,8 @@ pub returns : goal.returns
 unfolding acl_entry_text
 returns c =
     let entry = c.args.entry.now in
-    let perms : string_bytes c.write.new.self ≡ string_bytes c.args.line.now ++ 32 ∷ signed_decimal entry.perms = search rules in
-    let gap : string_bytes c.push.new.self ≡ string_bytes c.write.new.self ++ 32 ∷ [] = search rules in
+    let perms : string_bytes c.spell_next_decimal.new.line ≡ string_bytes c.args.line.now ++ 32 ∷ signed_decimal entry.perms = search rules in
+    let gap : string_bytes c.push.new.self ≡ string_bytes c.spell_next_decimal.new.line ++ 32 ∷ [] = search rules in
     let scheme : string_bytes c.spell_quoted.new.line ≡ string_bytes c.push.new.self ++ quoted entry.id.scheme = search rules in
     let space : string_bytes c.push-2.new.self ≡ string_bytes c.spell_quoted.new.line ++ 32 ∷ [] = search rules in
     let id : string_bytes c.spell_quoted-2.new.line ≡ string_bytes c.push-2.new.self ++ quoted entry.id.id = search rules in
