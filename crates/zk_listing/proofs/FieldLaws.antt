@@ -1,10 +1,11 @@
 -- Where fields end.
-use Rattle.std.proofs.Common.{◌≡◌, ◌≢◌, eqb, ℕ, suc, ◌+◌, ◌≤◌, ◌<◌, Bool, true, false, List, [], ◌∷◌, length, take, drop, get_or, Option, None, refl, ap, arith, inl, inr}
+use Rattle.std.proofs.Common.{◌≡◌, ◌≢◌, eqb, ℕ, suc, ◌+◌, ◌-◌, ◌≤◌, ◌<◌, ◌||◌, zero, Bool, true, false, List, [], ◌∷◌, length, take, drop, get_or, Option, None, refl, sym, ◌∙◌, ap, arith, inl, inr}
 use Rattle.std.proofs.lemmas.Bool.{cases_eq, cases_lt, lt-ltb, le-ltb}
 use Rattle.std.proofs.lemmas.Bool.Decides.{nat_tests}
+use Rattle.std.proofs.lemmas.List.{drop-drop, length-drop, length-take-le}
 use Rattle.std.proofs.lemmas.List.Sums.{prefix_len-le-length}
 use Rattle.std.proofs.lemmas.Str.{IsCharBoundary-before_ascii, IsCharBoundary-end}
-use Rattle.std.specs.List.{position, position_or_len}
+use Rattle.std.specs.List.{list_any, position, position_or_len}
 use Rattle.std.specs.Option.{unwrap_or}
 use Rattle.std.specs.Str.{IsUtf8, IsCharBoundary}
 use Rattle.zk_listing.specs.Reading.{is_end, front_of, back_of, of_field, past}
@@ -40,6 +41,31 @@ position-unwrap_or bytes =
       | inl lt ↦ rw (lt-ltb n (length bytes) lt) refl
       | inr ge ↦ rw (le-ltb n (length bytes) ge) (omega arith)
     ]
+
+-- no end is among the first bytes
+no_end-cons : (n b : ℕ) (bs : List ℕ) (v : Bool) → is_end b ≡ v → (list_any is_end (take n bs) ≡ false → position_or_len is_end bs ≡ n + position_or_len is_end (drop n bs)) → (v || list_any is_end (take n bs)) ≡ false
+    → position_or_len is_end (b ∷ bs) ≡ suc n + position_or_len is_end (drop n bs)
+no_end-cons n b bs true e rest none = absurd (let bad : true ≡ false = none in cc)
+no_end-cons n b bs false e rest none = rw e (omega (arith, rest none))
+
+pub no_end : (n : ℕ) (bytes : List ℕ) → n ≤ length bytes → list_any is_end (take n bytes) ≡ false → position_or_len is_end bytes ≡ n + position_or_len is_end (drop n bytes)
+no_end zero bytes within none = omega arith
+no_end (suc n) [] within none = absurd (omega (arith, within))
+no_end (suc n) (b ∷ bs) within none = no_end-cons n b bs (is_end b) refl (λ rest. no_end n bs (omega (arith, within)) rest) none
+
+pub no_end_in_step : (bytes step : List ℕ) (start more : ℕ) → more ≤ length bytes → start + 32 ≡ more → step ≡ take 32 (drop start bytes) → list_any is_end step ≡ false
+    → position_or_len is_end bytes ≡ start + position_or_len is_end (drop start bytes) → position_or_len is_end bytes ≡ more + position_or_len is_end (drop more bytes)
+no_end_in_step bytes step start more within on is none before =
+    let here : position_or_len is_end (drop start bytes) ≡ 32 + position_or_len is_end (drop 32 (drop start bytes)) =
+    no_end 32 (drop start bytes) (omega (arith, within, on, length-drop start bytes)) (ap (list_any is_end) (sym is) ∙ none) in
+    let further : drop 32 (drop start bytes) ≡ drop more bytes = drop-drop 32 start bytes ∙ ap (λ n. drop n bytes) on in
+    omega (arith, before, here, ap (position_or_len is_end) further, on)
+
+pub end_within : (start end : ℕ) (bytes : List ℕ) → end ≡ position_or_len is_end (take (length bytes - start) (drop start bytes)) → start ≤ length bytes → start + end ≤ length bytes
+end_within start end bytes is within =
+    let rest = take (length bytes - start) (drop start bytes) in
+    let le : position_or_len is_end rest ≤ length rest = prefix_len-le-length _ rest in
+    omega (arith, is, within, le, length-take-le (length bytes - start) (drop start bytes) (omega (arith, length-drop start bytes)))
 
 -- an end is an ASCII byte
 end_small-cons : (b : ℕ) (bs : List ℕ) (v : Bool) → is_end b ≡ v → (position_or_len is_end bs < length bs → get_or bs (position_or_len is_end bs) 0 < 128) → position_or_len is_end (b ∷ bs) < length (b ∷ bs) → get_or (b ∷ bs) (position_or_len is_end (b ∷ bs)) 0 < 128

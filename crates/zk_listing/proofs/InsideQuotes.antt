@@ -1,18 +1,21 @@
 -- The text between quotes, character by character.
-use Rattle.std.proofs.Common.{◌≡◌, ◌≢◌, ℕ, zero, suc, ◌+◌, ◌≤◌, ◌<◌, Bool, true, false, cond, eqb, ltb, ◌||◌, ◌&&◌, List, [], ◌∷◌, ◌++◌, length, Option, Some, None, refl, sym, ap, subst, ◌∙◌, append_assoc, length-append, arith, inl, inr}
+use Rattle.std.proofs.Common.{◌≡◌, ◌≢◌, ℕ, zero, suc, ◌+◌, ◌≤◌, ◌<◌, Bool, true, false, cond, eqb, ltb, ◌||◌, ◌&&◌, List, [], ◌∷◌, ◌++◌, length, take, drop, get_or, Option, Some, None, refl, sym, ap, subst, ◌∙◌, append_assoc, length-append, arith, inl, inr}
 use Rattle.std.specs.Char.{is_ascii_control}
-use Rattle.std.specs.List.{position_or_len, before_first, after_first}
-use Rattle.std.specs.Option.{option_and_then}
-use Rattle.std.proofs.lemmas.Bool.{cases_lt, ltb-true}
+use Rattle.std.specs.List.{position, position_or_len, before_first, after_first}
+use Rattle.std.specs.Str.{IsUtf8, IsCharBoundary}
+use Rattle.std.specs.Option.{option_and_then, unwrap_or}
+use Rattle.std.proofs.lemmas.Bool.{cases_lt, lt-ltb, le-ltb, ltb-true}
 use Rattle.std.proofs.lemmas.Bool.Decides.{nat_tests}
 use Rattle.std.proofs.lemmas.List.{length-drop}
 use Rattle.std.proofs.lemmas.Option.{cond_some}
-use Rattle.std.proofs.lemmas.Str.{encode_ascii, length-encode, len_utf8_bounds}
+use Rattle.std.proofs.lemmas.List.Sums.{prefix_len-le-length}
+use Rattle.std.proofs.lemmas.Str.{IsCharBoundary-before_ascii, IsCharBoundary-end, encode_ascii, length-encode, len_utf8_bounds}
 use lib.Utf8.{encode}
 use Rattle.zk_listing.specs.Reading.{inside_at, inside, escape_at, braced_at, control_at, control_from, lower_digit, is_brace, past, behind, Fails}
 use Rattle.zk_listing.specs.declared.fault.ListCause.{ListCause}
 use Rattle.zk_listing.specs.declared.fault.ListCause.TheVariants as causes
 use Rattle.zk_listing.proofs.Exact.{bind_some, past_is, first_is, second_is, some_is}
+use Rattle.zk_format.specs.Spelling.{is_escaped}
 use Rattle.zk_format.proofs.QuotedBytes.{AllHigh, encode_high}
 
 -- ---- prepending
@@ -227,3 +230,62 @@ inside_plain bytes rest c e no_quote no_slash plain = record {
 pub Fails-then : {X Y : Type 0} (cause : ListCause) (part : Option X) (whole : Option Y) → (part ≡ None → whole ≡ None) → Fails cause part → Fails cause whole
 Fails-then causes.NoMemory part whole same fails = tt
 Fails-then cause part whole same fails = same fails
+
+-- ---- the plain characters at the start
+
+neither : (a b : Bool) → (a || b) ≡ false → (a ≡ false) × (b ≡ false)
+neither false b e = (refl, e)
+neither true b e = absurd (let bad : true ≡ false = e in cc)
+
+unescaped : (b : ℕ) (bs : List ℕ) → is_escaped b ≡ false → inside (b ∷ bs) ≡ behind (b ∷ []) (inside bs)
+unfolding inside_at
+unescaped b bs e =
+    let p = neither (eqb b 34 || eqb b 92) (is_ascii_control b) e in
+    let q = neither (eqb b 34) (eqb b 92) p.0 in
+    rw (q.0, q.1, p.1) refl
+
+plain_cons : (b : ℕ) (bs : List ℕ) (v : Bool) → is_escaped b ≡ v → behind (take (position_or_len is_escaped bs) bs) (inside (drop (position_or_len is_escaped bs) bs)) ≡ inside bs
+    → behind (take (position_or_len is_escaped (b ∷ bs)) (b ∷ bs)) (inside (drop (position_or_len is_escaped (b ∷ bs)) (b ∷ bs))) ≡ inside (b ∷ bs)
+plain_cons b bs true e rest = rw e (behind-nil (inside (b ∷ bs)))
+plain_cons b bs false e rest =
+    let n = position_or_len is_escaped bs in
+    let more : 1 + n ≡ suc n = omega arith in
+    rw (e, more) (sym (behind-behind (b ∷ []) (take n bs) (inside (drop n bs))) ∙ ap (behind (b ∷ [])) rest ∙ sym (unescaped b bs e))
+
+pub inside_plain_front : (bytes : List ℕ) → behind (take (position_or_len is_escaped bytes) bytes) (inside (drop (position_or_len is_escaped bytes) bytes)) ≡ inside bytes
+inside_plain_front [] = behind-nil (inside [])
+inside_plain_front (b ∷ bs) = plain_cons b bs (is_escaped b) refl (inside_plain_front bs)
+
+-- the character at their end is one of ASCII
+escaped_small : (b : ℕ) → is_escaped b ≡ true → b < 128
+escaped_small b e = grind (arith, nat_tests)
+
+first_small : (b : ℕ) (bs : List ℕ) (v : Bool) → is_escaped b ≡ v → (position_or_len is_escaped bs < length bs → get_or bs (position_or_len is_escaped bs) 0 < 128) → position_or_len is_escaped (b ∷ bs) < length (b ∷ bs)
+    → get_or (b ∷ bs) (position_or_len is_escaped (b ∷ bs)) 0 < 128
+first_small b bs true e rest h = rw e (escaped_small b e)
+first_small b bs false e rest h =
+    let more : 1 + position_or_len is_escaped bs ≡ suc (position_or_len is_escaped bs) = omega arith in
+    let inner : 1 + position_or_len is_escaped bs < suc (length bs) = rw e at h in
+    rw (e, more) (rest (omega arith))
+
+all_small : (bytes : List ℕ) → position_or_len is_escaped bytes < length bytes → get_or bytes (position_or_len is_escaped bytes) 0 < 128
+all_small [] h = absurd (omega arith)
+all_small (b ∷ bs) h = first_small b bs (is_escaped b) refl (λ inner. all_small bs inner) h
+
+pub plain_boundary : (bytes : List ℕ) → IsUtf8 bytes → IsCharBoundary bytes (position_or_len is_escaped bytes)
+plain_boundary bytes utf8 =
+    let n = position_or_len is_escaped bytes in
+    let le : n ≤ length bytes = prefix_len-le-length _ bytes in
+    elim (cases_lt n (length bytes)) [
+      | inl lt ↦ IsCharBoundary-before_ascii bytes n lt (all_small bytes lt)
+      | inr ge ↦ let same : n ≡ length bytes = omega arith in rw same (IsCharBoundary-end bytes)
+    ]
+
+pub plain-unwrap_or : (bytes : List ℕ) → unwrap_or (position is_escaped bytes) (length bytes) ≡ position_or_len is_escaped bytes
+plain-unwrap_or bytes =
+    let n = position_or_len is_escaped bytes in
+    let le : n ≤ length bytes = prefix_len-le-length _ bytes in
+    elim (cases_lt n (length bytes)) [
+      | inl lt ↦ rw (lt-ltb n (length bytes) lt) refl
+      | inr ge ↦ rw (le-ltb n (length bytes) ge) (omega arith)
+    ]

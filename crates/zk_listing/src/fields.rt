@@ -1,14 +1,17 @@
 //! Readers of single fields. Each consumes a field at the start of its input; after an error the
 //! input may have advanced within that field.
-ghost use Rattle.std.specs.Prelude.{◌≡◌, ◌≢◌, IfErr};
+ghost use Rattle.std.specs.Prelude.{◌≡◌, ◌≢◌, ◌+◌, ◌≤◌, drop, length, IfErr};
 ghost use Rattle.std.specs.Int.{w32, w64};
 ghost use Rattle.zk_listing.specs.Reading.{TakesField, Takes, Makes, id_from, id_at, int_from, int_at, content_from, content_at, content_of_digits, count_at, is_plain, is_end};
-ghost use Rattle.std.specs.List.{position, position_or_len};
+ghost use Rattle.std.specs.List.{list_any, position, position_or_len};
 
 use crate::fault::ListCause;
 use std::alloc::Global;
 use zk_digits::{decode_lower, decode_lower_to};
 use zk_txn::Content;
+
+/// The number of bytes that are searched together for the end of a field.
+const STEP: usize = 32;
 
 /// The number of digits of a zxid or a session id.
 const ID_DIGITS: usize = 16;
@@ -31,6 +34,46 @@ pub(crate) fn take_field<'a>(input: &mut &'a str) -> Option<&'a str>
 fn field_len(bytes: &[u8]) -> usize
     ensures { result ≡ position_or_len is_end bytes.now }
 {
+    let start = steps_len(bytes);
+    start + rest_len(&bytes[start..])
+}
+
+/// The number of bytes in the steps before that with the first space or newline.
+fn steps_len(bytes: &[u8]) -> usize
+    ensures within { result ≤ length bytes.now }
+    ensures none { position_or_len is_end bytes.now ≡ result + position_or_len is_end (drop result bytes.now) }
+{
+    for step in 0..bytes.len() / STEP {
+        let start = STEP * step;
+        if has_end(&bytes[start..start + STEP]) {
+            return start;
+        }
+    }
+    bytes.len() / STEP * STEP
+}
+
+fn has_end(bytes: &[u8]) -> bool
+    ensures { result ≡ list_any is_end bytes.now }
+{
+    let mut found = false;
+    // No early exit, so that the compiler vectorizes the loop.
+    for byte in bytes {
+        found |= is_end(*byte);
+    }
+    found
+}
+
+/// Whether a field ends before this byte.
+fn is_end(byte: u8) -> bool
+    ensures { result ≡ is_end byte }
+{
+    byte == b' ' || byte == b'\n'
+}
+
+/// The number of bytes before the first space or newline, one byte at a time.
+fn rest_len(bytes: &[u8]) -> usize
+    ensures { result ≡ position_or_len is_end bytes.now }
+{
     first_end(bytes).unwrap_or(bytes.len())
 }
 
@@ -38,7 +81,7 @@ fn field_len(bytes: &[u8]) -> usize
 fn first_end(bytes: &[u8]) -> Option<usize>
     ensures { result ≡ position is_end bytes.now }
 {
-    bytes.iter().position(|b| *b == b' ' || *b == b'\n')
+    bytes.iter().position(|b| is_end(*b))
 }
 
 /// Sixteen lower-case hexadecimal digits.

@@ -1,7 +1,9 @@
 //! The reader of quoted texts.
 ghost use Rattle.std.specs.Prelude.{◌≡◌, ◌<◌, IfSome};
+ghost use Rattle.std.specs.List.{position, position_or_len};
 ghost use Rattle.std.specs.String.{string_bytes};
-ghost use Rattle.zk_listing.specs.Reading.{TakesBy, Makes, TakesChar, Continues, quoted_at, inside, TakesFirst, escape_at, braced_at, control_at, control_from, lower_digit};
+ghost use Rattle.zk_format.specs.Spelling.{is_escaped};
+ghost use Rattle.zk_listing.specs.Reading.{TakesBy, Makes, TakesChar, Continues, behind, quoted_at, inside, TakesFirst, escape_at, braced_at, control_at, control_from, lower_digit};
 
 use crate::fault::ListCause;
 use crate::fields::take_field;
@@ -28,11 +30,40 @@ pub(crate) fn quoted(alloc: Global, input: &mut &str) -> Result<String, ListCaus
 fn inside(alloc: Global, input: &mut &str) -> Result<String, ListCause>
     ensures { TakesBy (λ text. string_bytes text) result input.new.now (inside input.old.now) }
 {
-    let mut text = String::new(alloc);
+    let mut text = String::from_str(alloc, plain(input))?;
     while let Some(c) = spelled_char(input)? {
         text.push(c)?;
     }
     Ok(text)
+}
+
+/// The characters before the first quote, backslash or control character. Most texts have no such
+/// character but the closing quote.
+fn plain<'a>(input: &mut &'a str) -> &'a str
+    ensures { behind result.now (inside input.new.now) ≡ inside input.old.now }
+{
+    let (plain, rest) = input.split_at(plain_len(input.as_bytes()));
+    *input = rest;
+    plain
+}
+
+fn plain_len(bytes: &[u8]) -> usize
+    ensures { result ≡ position_or_len is_escaped bytes.now }
+{
+    first_escaped(bytes).unwrap_or(bytes.len())
+}
+
+fn first_escaped(bytes: &[u8]) -> Option<usize>
+    ensures { result ≡ position is_escaped bytes.now }
+{
+    bytes.iter().position(|b| is_escaped(*b))
+}
+
+/// Whether a byte ends a plain text.
+fn is_escaped(byte: u8) -> bool
+    ensures { result ≡ is_escaped byte }
+{
+    byte == b'"' || byte == b'\\' || byte.is_ascii_control()
 }
 
 /// A character between quotes; `None` for the closing quote.
