@@ -1,32 +1,71 @@
 -- What `zk diff` writes: what differs between two states of a data directory.
-use Rattle.std.specs.Prelude.{◌≡◌, ◌⊎◌, ℕ, true, false, List, Option, Result, Ok, Err, String}
+use Rattle.std.specs.Prelude.{◌≡◌, ◌⊎◌, ℕ, true, int_le, List, map, Option, Result, Ok, Err, String, false, ℤ, if◌then◌else◌}
+use Rattle.std.specs.Borrow.{Bor}
 use Rattle.std.specs.Global.{Global}
+use Rattle.std.specs.List.{flat_map}
 use Rattle.std.specs.String.{string_bytes}
-use Rattle.zk_differences.specs.Differences.{differences_text}
-use Rattle.zk_directory_commands.specs.Histories.{Holds}
+use Rattle.zk_differences.specs.Changes.{Track, followed_all, stamp_at, start_track}
+use Rattle.zk_differences.specs.Differences.{differences}
+use Rattle.zk_differences.specs.Texts.{AreLines}
+use Rattle.zk_directory_commands.specs.Histories.{AreIn, Holds}
+use Rattle.zk_directory_commands.specs.Logs.{AreGiven, IsUnread, bytes_of}
 use Rattle.zk_directory_commands.specs.declared.history.Shown.{Shown}
 use Rattle.zk_directory_commands.specs.declared.upto.Upto.{Upto}
+use Rattle.zk_folder.specs.Names.{log_zxid}
 use Rattle.zk_folder_commands.specs.Outcomes.{Rejects}
 use Rattle.zk_folder_commands.specs.declared.fault.HistoryFault.{HistoryFault}
-use Rattle.zk_folder_commands.specs.declared.fault.HistoryFault.TheVariants as faults
 use Rattle.zk_log_commands.specs.Telling.{Outputs}
+use Rattle.zk_log_files.specs.declared.file.LogFile.{LogFile}
 use Rattle.zk_machine.specs.Machines.{MachineView}
+use Rattle.zk_newer_records.specs.declared.newer_record.NewerRecord.{NewerRecord}
 use Rattle.zk_path.specs.declared.memory.NoMemory.{NoMemory}
 use Rattle.zk_records.specs.declared.sink.Sink.{Sink}
+use Rattle.zk_restore.specs.Directories.{AreLogFiles}
+use Rattle.zk_table.specs.States.{State}
 
--- the states up to two transactions, as `zk show` prints them, and what differs at a path and below
+-- ---- the transactions between two states
+
+-- all records of files, in order; logs may share some
+abbrev pub records_of : LogFile → List NewerRecord
+records_of file = map (λ entry. entry.newer) file.entries.items
+
+abbrev pub records_in : List LogFile → List NewerRecord
+records_in files = flat_map records_of files
+
+-- of the logs that a folder gives
+pub record AreLogged (logs : Option (List (List ℕ))) (log_bytes : List ℕ → Option (List ℕ)) (records : List NewerRecord) : Type 0 where
+  pub logged : List ℤ
+  pub are_logs : AreIn log_zxid logs logged
+  pub given : List (Bor (List ℕ))
+  pub are_given : AreGiven log_bytes logged (map bytes_of given)
+  pub files : List LogFile
+  pub of_logs : AreLogFiles given files
+  pub are : records ≡ records_in files
+
+-- from the earlier state to the later
+abbrev pub track_between : State → State → Track
+track_between old new = if int_le old.last new.last then start_track old.nodes old.last new.last else start_track new.nodes new.last old.last
+
+-- ---- the difference
+
+-- at a path and below, each node with the last transaction between them that changed it
+abbrev pub IsDifferenceOf : List ℕ → State → State → List NewerRecord → List ℕ → Type 0
+IsDifferenceOf path old new records text = AreLines (stamp_at (followed_all (track_between old new) records)) (differences path true old.nodes new.nodes) text
+
+-- of the states up to two transactions, as `zk show` prints them
 pub record IsDifference (snapshots : Option (List (List ℕ))) (snapshot_bytes : List ℕ → Option (List ℕ)) (logs : Option (List (List ℕ))) (log_bytes : List ℕ → Option (List ℕ)) (from to : Upto) (path text : List ℕ) : Type 0 where
   pub old : Shown
   pub new : Shown
   pub holds_old : Holds snapshots snapshot_bytes logs log_bytes from (Ok old)
   pub holds_new : Holds snapshots snapshot_bytes logs log_bytes to (Ok new)
-  pub is : text ≡ differences_text path true old.restored.table.state.nodes new.restored.table.state.nodes
+  pub records : List NewerRecord
+  pub logged : AreLogged logs log_bytes records
+  pub is : IsDifferenceOf path old.restored.table.state new.restored.table.state records text
 
--- unless allocation failed, the fault of the first state that there is not
+-- unless a file could not be read, the fault of the first state that there is not
 abbrev pub FindsDifference : Option (List (List ℕ)) → (List ℕ → Option (List ℕ)) → Option (List (List ℕ)) → (List ℕ → Option (List ℕ)) → Upto → Upto → List ℕ → Result (String Global) HistoryFault → Type 0
 FindsDifference snapshots snapshot_bytes logs log_bytes from to path (Ok text) = IsDifference snapshots snapshot_bytes logs log_bytes from to path (string_bytes text)
-FindsDifference snapshots snapshot_bytes logs log_bytes from to path (Err faults.NoMemory) = Unit {0}
-FindsDifference snapshots snapshot_bytes logs log_bytes from to path (Err fault) = Holds snapshots snapshot_bytes logs log_bytes from (Err fault) ⊎ Holds snapshots snapshot_bytes logs log_bytes to (Err fault)
+FindsDifference snapshots snapshot_bytes logs log_bytes from to path (Err fault) = IsUnread fault ⊎ (Holds snapshots snapshot_bytes logs log_bytes from (Err fault) ⊎ Holds snapshots snapshot_bytes logs log_bytes to (Err fault))
 
 abbrev pub OutputsDifference : {O E : Type 0} → (O → Option (List ℕ)) → (E → Option (List ℕ)) → Result (String Global) HistoryFault → Sink O → Sink O → Sink E → Sink E → Result ℕ NoMemory → Type 0
 OutputsDifference written told (Ok text) output output' faults faults' result = Outputs written told (string_bytes text) output output' faults faults' result
@@ -43,5 +82,13 @@ pub record TellsDifference {O E : Type 0} (written : O → Option (List ℕ)) (t
 -- a machine in the state
 abbrev pub FindsMachine : Option (List (List ℕ)) → (List ℕ → Option (List ℕ)) → Option (List (List ℕ)) → (List ℕ → Option (List ℕ)) → Upto → Result MachineView HistoryFault → Type 0
 FindsMachine snapshots snapshot_bytes logs log_bytes upto (Ok machine) = (shown : Shown) × Holds snapshots snapshot_bytes logs log_bytes upto (Ok shown) × (machine.state ≡ shown.restored.table.state) × (machine.failed ≡ false)
-FindsMachine snapshots snapshot_bytes logs log_bytes upto (Err faults.NoMemory) = Unit {0}
-FindsMachine snapshots snapshot_bytes logs log_bytes upto (Err fault) = Holds snapshots snapshot_bytes logs log_bytes upto (Err fault)
+FindsMachine snapshots snapshot_bytes logs log_bytes upto (Err fault) = IsUnread fault ⊎ Holds snapshots snapshot_bytes logs log_bytes upto (Err fault)
+
+-- the records of logs are followed
+abbrev pub FollowsLogs : List (Bor (List ℕ)) → Track → Track → Type 0
+FollowsLogs given old new = (files : List LogFile) × AreLogFiles given files × (new ≡ followed_all old (records_in files))
+
+pub record FollowsLogged (logs : Option (List (List ℕ))) (log_bytes : List ℕ → Option (List ℕ)) (old new : Track) : Type 0 where
+  pub records : List NewerRecord
+  pub logged : AreLogged logs log_bytes records
+  pub is : new ≡ followed_all old records

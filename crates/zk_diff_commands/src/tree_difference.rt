@@ -1,13 +1,16 @@
 //! `zk diff`.
 ghost use Rattle.std.specs.Prelude.{◌≡◌, ◌-◌, ◌<◌, ◌^◌, IfOk, false, true};
 ghost use Rattle.std.specs.String.{string_bytes};
-ghost use Rattle.zk_diff_commands.specs.Differences.{FindsDifference, FindsMachine, TellsDifference};
-ghost use Rattle.zk_differences.specs.Differences.{differences_text};
+ghost use Rattle.zk_diff_commands.specs.Differences.{FindsDifference, FindsMachine, TellsDifference, track_between};
+ghost use Rattle.zk_differences.specs.Changes.{stamp_at};
+ghost use Rattle.zk_differences.specs.Differences.{differences};
+ghost use Rattle.zk_differences.specs.Texts.{AreLines};
 ghost use Rattle.zk_records.specs.Sinks.{write_failures_of};
 
+use crate::logged::follow_logged;
 use std::alloc::Global;
 use std::io::Write;
-use zk_differences::push_differences;
+use zk_differences::{LastChanges, push_differences};
 use zk_directory_commands::{Upto, shown_of};
 use zk_folder::Folder;
 use zk_folder_commands::{HistoryFault, put_text, tell_fault};
@@ -15,6 +18,7 @@ use zk_incidents::Scope;
 use zk_log::Sink;
 use zk_machine::Machine;
 use zk_path::NoMemory;
+use zk_tree::Tree;
 
 /// The state of a directory up to a transaction.
 #[tactic(auto, using(crate::proofs::Found::machine_found, crate::proofs::Found::no_machine))]
@@ -30,22 +34,48 @@ fn machine_of<S: Folder, L: Folder>(
     Ok(shown.restored.table.machine()?)
 }
 
+/// No record yet, from the earlier of two states to the later.
+fn changes_between(alloc: Global, old: &Machine, new: &Machine) -> Result<LastChanges, NoMemory>
+    requires old { old.now.failed ≡ false }
+    requires new { new.now.failed ≡ false }
+    ensures { IfOk result (λ changes. changes ≡ track_between old.now.state new.now.state) }
+{
+    let Ok(first) = old.last() else {
+        unreachable!()
+    };
+    let Ok(last) = new.last() else { unreachable!() };
+    if first <= last {
+        LastChanges::new(alloc, tree_of(old), first, last)
+    } else {
+        LastChanges::new(alloc, tree_of(new), last, first)
+    }
+}
+
+fn tree_of(machine: &Machine) -> &Tree
+    requires { machine.now.failed ≡ false }
+    ensures { result.now ≡ machine.now.state.nodes }
+{
+    let Ok(tree) = machine.tree() else {
+        unreachable!()
+    };
+    tree
+}
+
 /// The lines of what differs between the trees of two machines, at a path and below it.
 fn difference_text(
     alloc: Global,
     path: &str,
-    from: &Machine,
-    to: &Machine,
+    changes: &LastChanges,
+    old: &Machine,
+    new: &Machine,
 ) -> Result<String, NoMemory>
-    requires from { from.now.failed ≡ false }
-    requires to { to.now.failed ≡ false }
-    ensures { IfOk result (λ text. string_bytes text ≡ differences_text path.now true from.now.state.nodes to.now.state.nodes) }
+    requires old { old.now.failed ≡ false }
+    requires new { new.now.failed ≡ false }
+    ensures { IfOk result (λ text. AreLines (stamp_at changes.now) (differences path.now true old.now.state.nodes new.now.state.nodes) (string_bytes text)) }
 {
-    let Ok(old) = from.tree() else { unreachable!() };
-    let Ok(new) = to.tree() else { unreachable!() };
     let scope = Scope::new(alloc, path, true)?;
     let mut text = String::new(alloc);
-    push_differences(&mut text, &scope, old, new)?;
+    push_differences(&mut text, &scope, changes, tree_of(old), tree_of(new))?;
     Ok(text)
 }
 
@@ -63,11 +93,15 @@ fn difference_of<S: Folder, L: Folder>(
 {
     let old = machine_of(alloc, snapshots, logs, from)?;
     let new = machine_of(alloc, snapshots, logs, to)?;
-    Ok(difference_text(alloc, path, &old, &new)?)
+    let mut changes = changes_between(alloc, &old, &new)?;
+    follow_logged(alloc, logs, &mut changes)?;
+    Ok(difference_text(alloc, path, &changes, &old, &new)?)
 }
 
 /// Writes what differs between the trees that a data directory holds up to two transactions, at a
-/// path and below it: `/` for the whole trees. Returns the exit status.
+/// path and below it: `/` for the whole trees. Each line has the last transaction between the two
+/// that changed the node, or two dashes where the logs do not lead from the one to the other. Returns
+/// the exit status.
 ///
 /// The trees are those of `zk show`: that of the first folder's snapshots and the second folder's
 /// logs.

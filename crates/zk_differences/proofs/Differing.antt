@@ -1,5 +1,5 @@
 -- Where two trees have no differences.
-use Rattle.std.proofs.Common.{◌≡◌, ◌⊎◌, ℕ, Bool, true, false, cond, ◌||◌, List, [], ◌∷◌, ◌++◌, codes, Option, Some, None, Result, Ok, Err, inl, inr, refl, sym, ap, ◌∙◌, subst}
+use Rattle.std.proofs.Common.{◌≡◌, ◌⊎◌, ℕ, Bool, true, false, cond, ◌||◌, List, [], ◌∷◌, ◌++◌, Option, Some, None, Result, Ok, Err, inl, inr, refl, sym, ap, ◌∙◌, subst}
 use Rattle.std.proofs.lemmas.Map.Lookups.{exact_bytes}
 use Rattle.std.proofs.lemmas.Map.Views.{tells_apart}
 use Rattle.std.proofs.lemmas.Slice.Eq.{bytes_eq-Decides}
@@ -11,7 +11,10 @@ use Rattle.std.specs.Prelude.{OnOk, is_some}
 use Rattle.std.specs.Str.{bytes_eq}
 use Rattle.std.specs.declared.cmp.Ordering.{Ordering}
 use Rattle.std.specs.declared.cmp.Ordering.TheVariants.{Less, Equal, Greater}
-use Rattle.zk_differences.specs.Differences.{Paths, change_by, change_text, changed_text, differences_text, line_at, paths_of, texts_of, with_all, with_path}
+use Rattle.zk_differences.specs.Differences.{Line, Paths, differences, line_at, line_of, lines_at, lines_by, paths_of, texts_of, with_all, with_path}
+use Rattle.zk_differences.specs.Texts.{AppendsLines}
+use Rattle.zk_differences.specs.declared.sign.Sign.TheVariants.{Before, After}
+use Rattle.zk_differences.specs.declared.stamps.Stamp.{Stamp}
 use Rattle.zk_incidents.specs.Within.{is_within}
 use Rattle.zk_path.specs.declared.memory.NoMemory.{NoMemory}
 use Rattle.zk_table.specs.States.{NodeMap, path_cmp}
@@ -70,92 +73,94 @@ occurs_any (k ∷ ks) q e = occurs_by (eq_by_cmp path_cmp q k) q k ks refl e (oc
 in_keys : (nodes : NodeMap) (q : List ℕ) (node : Node) → get nodes q ≡ Some node → Occurs q (keys nodes)
 in_keys nodes q node is = occurs_any (keys nodes) q (sym (contains_key-keys nodes q) ∙ ap is_some is)
 
-in_old : (old new : NodeMap) (q : List ℕ) (node : Node) → get old q ≡ Some node → Occurs q (texts_of (paths_of old new))
+pub in_old : (old new : NodeMap) (q : List ℕ) (node : Node) → get old q ≡ Some node → Occurs q (texts_of (paths_of old new))
 in_old old new q node is = kept_all (with_all [] (keys old)) (keys new) q (added_all [] (keys old) q (in_keys old q node is))
 
-in_new : (old new : NodeMap) (q : List ℕ) (node : Node) → get new q ≡ Some node → Occurs q (texts_of (paths_of old new))
+pub in_new : (old new : NodeMap) (q : List ℕ) (node : Node) → get new q ≡ Some node → Occurs q (texts_of (paths_of old new))
 in_new old new q node is = added_all (with_all [] (keys old)) (keys new) q (in_keys new q node is)
 
 in_cond : (b : Bool) (q x : List ℕ) (xs : List (List ℕ)) → Occurs q xs → Occurs q (cond b (x ∷ xs) xs)
 in_cond true q x xs o = inr o
 in_cond false q x xs o = o
 
-occurs_filter : (test : List ℕ → Bool) (xs : List (List ℕ)) (q : List ℕ) → test q ≡ true → Occurs q xs → Occurs q (filter test xs)
+pub occurs_filter : (test : List ℕ → Bool) (xs : List (List ℕ)) (q : List ℕ) → test q ≡ true → Occurs q xs → Occurs q (filter test xs)
 occurs_filter test [] q t o = absurd o
 occurs_filter test (x ∷ xs) q t (inl is) = subst (λ b. Occurs q (cond b (x ∷ filter test xs) (filter test xs))) (sym (ap test is ∙ t)) (inl is)
 occurs_filter test (x ∷ xs) q t (inr o) = in_cond (test x) q x (filter test xs) (occurs_filter test xs q t o)
 
--- ---- texts that are empty
+-- ---- no line
 
-no_front : (xs ys : List ℕ) → xs ++ ys ≡ [] → xs ≡ []
+no_front : {X : Type 0} (xs ys : List X) → xs ++ ys ≡ [] → xs ≡ []
 no_front [] ys e = refl
 no_front (x ∷ xs) ys e = cc
 
-no_rest : (xs ys : List ℕ) → xs ++ ys ≡ [] → ys ≡ []
+no_rest : {X : Type 0} (xs ys : List X) → xs ++ ys ≡ [] → ys ≡ []
 no_rest [] ys e = e
 no_rest (x ∷ xs) ys e = cc
 
-empty_at : (f : List ℕ → List ℕ) (xs : List (List ℕ)) (q : List ℕ) → flat_map f xs ≡ [] → Occurs q xs → f q ≡ []
+empty_at : {X : Type 0} (f : List ℕ → List X) (xs : List (List ℕ)) (q : List ℕ) → flat_map f xs ≡ [] → Occurs q xs → f q ≡ []
 empty_at f [] q e o = absurd o
 empty_at f (x ∷ xs) q e (inl is) = ap f (sym is) ∙ no_front (f x) (flat_map f xs) e
 empty_at f (x ∷ xs) q e (inr o) = empty_at f xs q (no_rest (f x) (flat_map f xs) e) o
 
-none_by : (f : List ℕ → List ℕ) (t : Bool) (x : List ℕ) (xs : List (List ℕ)) → (t ≡ true → f x ≡ []) → flat_map f xs ≡ [] → flat_map f (cond t (x ∷ xs) xs) ≡ []
+none_by : {X : Type 0} (f : List ℕ → List X) (t : Bool) (x : List ℕ) (xs : List (List ℕ)) → (t ≡ true → f x ≡ []) → flat_map f xs ≡ [] → flat_map f (cond t (x ∷ xs) xs) ≡ []
 none_by f true x xs h e = ap (λ l. l ++ flat_map f xs) (h refl) ∙ e
 none_by f false x xs h e = e
 
-all_none : (f : List ℕ → List ℕ) (test : List ℕ → Bool) (xs : List (List ℕ)) → ((x : List ℕ) → test x ≡ true → f x ≡ []) → flat_map f (filter test xs) ≡ []
+all_none : {X : Type 0} (f : List ℕ → List X) (test : List ℕ → Bool) (xs : List (List ℕ)) → ((x : List ℕ) → test x ≡ true → f x ≡ []) → flat_map f (filter test xs) ≡ []
 all_none f test [] h = refl
 all_none f test (x ∷ xs) h = none_by f (test x) x (filter test xs) (h x) (all_none f test xs h)
 
--- ---- the change at a path
+-- ---- the lines at a path
 
-change_is : (old new : NodeMap) (path : List ℕ) → change_text old new path ≡ change_by (line_at old path) (line_at new path)
-unfolding change_text
-change_is old new path = refl
+pub lines_are : (old new : NodeMap) (path : List ℕ) → lines_at old new path ≡ lines_by path (line_at old path) (line_at new path)
+unfolding lines_at
+lines_are old new path = refl
 
-same_text : (t : Bool) (a b : List ℕ) → bytes_eq a b ≡ t → cond t [] ((codes "< " ++ a) ++ (codes "> " ++ b)) ≡ [] → a ≡ b
-same_text true a b is e = (bytes_eq-Decides a b).0 is
-same_text false a b is e = cc
+same_text : (t : Bool) (path a b : List ℕ) → bytes_eq a b ≡ t → cond t [] (line_of Before path a ∷ line_of After path b ∷ []) ≡ [] → a ≡ b
+same_text true path a b is e = (bytes_eq-Decides a b).0 is
+same_text false path a b is e = cc
 
-same_by : (a b : Option (List ℕ)) → change_by a b ≡ [] → a ≡ b
-same_by None None e = refl
-same_by (Some a) None e = cc
-same_by None (Some b) e = cc
-same_by (Some a) (Some b) e = ap Some (same_text (bytes_eq a b) a b refl e)
+same_by : (path : List ℕ) (a b : Option (List ℕ)) → lines_by path a b ≡ [] → a ≡ b
+same_by path None None e = refl
+same_by path (Some a) None e = cc
+same_by path None (Some b) e = cc
+same_by path (Some a) (Some b) e = ap Some (same_text (bytes_eq a b) path a b refl e)
 
-no_change : (a : Option (List ℕ)) → change_by a a ≡ []
-no_change None = refl
-no_change (Some a) = ap (λ t. cond t [] ((codes "< " ++ a) ++ (codes "> " ++ a))) ((bytes_eq-Decides a a).1 refl)
+no_change : (path : List ℕ) (a : Option (List ℕ)) → lines_by path a a ≡ []
+no_change path None = refl
+no_change path (Some a) = ap (λ t. cond t [] (line_of Before path a ∷ line_of After path a ∷ [])) ((bytes_eq-Decides a a).1 refl)
 
 -- a text to which the lines before and after were appended
-pub changed_by : (r : Result (Unit {0}) NoMemory) (t t' : List ℕ) (old new : NodeMap) (path : List ℕ) (a b : Option (List ℕ)) → a ≡ line_at old path → b ≡ line_at new path → OnOk r (t' ≡ t ++ change_by a b) → OnOk r (t' ≡ t ++ change_text old new path)
-changed_by (Ok done) t t' old new path a b before after e = e ∙ ap (λ l. t ++ l) (ap (λ x. change_by x b) before ∙ ap (change_by (line_at old path)) after ∙ sym (change_is old new path))
-changed_by (Err failed) t t' old new path a b before after e = tt
+pub changed_by : (r : Result (Unit {0}) NoMemory) (stamp_at : List ℕ → Option Stamp) (t t' : List ℕ) (old new : NodeMap) (path : List ℕ) (a b : Option (List ℕ)) → a ≡ line_at old path → b ≡ line_at new path → OnOk r (AppendsLines stamp_at (lines_by path a b) t t')
+    → OnOk r (AppendsLines stamp_at (lines_at old new path) t t')
+changed_by (Ok done) stamp_at t t' old new path a b before after h =
+    subst (λ (l : List Line). AppendsLines stamp_at l t t') (ap (λ x. lines_by path x b) before ∙ ap (lines_by path (line_at old path)) after ∙ sym (lines_are old new path)) h
+changed_by (Err failed) stamp_at t t' old new path a b before after h = tt
 
 -- ---- all paths
 
-differences_are : (root : List ℕ) (below : Bool) (old new : NodeMap) → differences_text root below old new ≡ flat_map (change_text old new) (filter (is_within root below) (texts_of (paths_of old new)))
-unfolding differences_text
+pub differences_are : (root : List ℕ) (below : Bool) (old new : NodeMap) → differences root below old new ≡ flat_map (lines_at old new) (filter (is_within root below) (texts_of (paths_of old new)))
+unfolding differences
 differences_are root below old new = refl
 
-at_path : (root : List ℕ) (below : Bool) (old new : NodeMap) (path : List ℕ) → differences_text root below old new ≡ [] → is_within root below path ≡ true → Occurs path (texts_of (paths_of old new)) → line_at old path ≡ line_at new path
+at_path : (root : List ℕ) (below : Bool) (old new : NodeMap) (path : List ℕ) → differences root below old new ≡ [] → is_within root below path ≡ true → Occurs path (texts_of (paths_of old new)) → line_at old path ≡ line_at new path
 at_path root below old new path e within o =
-    same_by (line_at old path) (line_at new path)
-    (sym (change_is old new path) ∙ empty_at (change_text old new) (filter (is_within root below) (texts_of (paths_of old new))) path (sym (differences_are root below old new) ∙ e) (occurs_filter (is_within root below) (texts_of (paths_of old new)) path within o))
+    same_by path (line_at old path) (line_at new path)
+    (sym (lines_are old new path) ∙ empty_at (lines_at old new) (filter (is_within root below) (texts_of (paths_of old new))) path (sym (differences_are root below old new) ∙ e) (occurs_filter (is_within root below) (texts_of (paths_of old new)) path within o))
 
-no_line : (nodes : NodeMap) (path : List ℕ) → get nodes path ≡ None → line_at nodes path ≡ None
+pub no_line : (nodes : NodeMap) (path : List ℕ) → get nodes path ≡ None → line_at nodes path ≡ None
 no_line nodes path is = rw is refl
 
-by_nodes : (root : List ℕ) (below : Bool) (old new : NodeMap) (path : List ℕ) (a b : Option Node) → get old path ≡ a → get new path ≡ b → differences_text root below old new ≡ [] → is_within root below path ≡ true → line_at old path ≡ line_at new path
+by_nodes : (root : List ℕ) (below : Bool) (old new : NodeMap) (path : List ℕ) (a b : Option Node) → get old path ≡ a → get new path ≡ b → differences root below old new ≡ [] → is_within root below path ≡ true → line_at old path ≡ line_at new path
 by_nodes root below old new path (Some node) b is other e within = at_path root below old new path e within (in_old old new path node is)
 by_nodes root below old new path None (Some node) is other e within = at_path root below old new path e within (in_new old new path node other)
 by_nodes root below old new path None None is other e within = no_line old path is ∙ sym (no_line new path other)
 
-pub same_lines : (root : List ℕ) (below : Bool) (old new : NodeMap) → differences_text root below old new ≡ [] → (path : List ℕ) → is_within root below path ≡ true → line_at old path ≡ line_at new path
+pub same_lines : (root : List ℕ) (below : Bool) (old new : NodeMap) → differences root below old new ≡ [] → (path : List ℕ) → is_within root below path ≡ true → line_at old path ≡ line_at new path
 same_lines root below old new e path within = by_nodes root below old new path (get old path) (get new path) refl refl e within
 
-pub no_differences : (root : List ℕ) (below : Bool) (old new : NodeMap) → ((path : List ℕ) → is_within root below path ≡ true → line_at old path ≡ line_at new path) → differences_text root below old new ≡ []
+pub no_differences : (root : List ℕ) (below : Bool) (old new : NodeMap) → ((path : List ℕ) → is_within root below path ≡ true → line_at old path ≡ line_at new path) → differences root below old new ≡ []
 no_differences root below old new same =
     differences_are root below old new
-    ∙ all_none (change_text old new) (is_within root below) (texts_of (paths_of old new)) (λ path within. change_is old new path ∙ ap (λ a. change_by a (line_at new path)) (same path within) ∙ no_change (line_at new path))
+    ∙ all_none (lines_at old new) (is_within root below) (texts_of (paths_of old new)) (λ path within. lines_are old new path ∙ ap (λ a. lines_by path a (line_at new path)) (same path within) ∙ no_change path (line_at new path))

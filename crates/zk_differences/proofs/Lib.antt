@@ -1,1 +1,5 @@
+pub mod Applying
 pub mod Differing
+pub mod Lining
+pub mod Parents
+pub mod Stamping

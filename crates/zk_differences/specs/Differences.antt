@@ -1,14 +1,15 @@
 -- What differs between two trees, path by path: the lines of nodes that were created, deleted or
 -- changed. A definition of this project; the line of a node is that of a report.
-use Rattle.std.specs.Prelude.{ℕ, Bool, List, [], ◌∷◌, ◌++◌, map, Option, Some, None, option_map, if◌then◌else◌, codes}
+use Rattle.std.specs.Prelude.{ℕ, Bool, List, [], ◌∷◌, map, Option, Some, None, option_map, if◌then◌else◌}
 use Rattle.std.specs.BTreeMap.{insert_entry}
 use Rattle.std.specs.FinMap.{get, keys}
 use Rattle.std.specs.List.{filter, flat_map}
 use Rattle.std.specs.Str.{bytes_eq}
+use Rattle.zk_differences.specs.declared.sign.Sign.{Sign}
+use Rattle.zk_differences.specs.declared.sign.Sign.TheVariants.{Removed, Added, Before, After}
 use Rattle.zk_incidents.specs.Within.{is_within}
 use Rattle.zk_reports.specs.Reports.{line, tree_node_line}
 use Rattle.zk_table.specs.States.{NodeMap, path_cmp}
-use Rattle.zk_txn.specs.declared.node.Node.{Node}
 
 -- ---- at a path
 
@@ -16,18 +17,27 @@ use Rattle.zk_txn.specs.declared.node.Node.{Node}
 abbrev pub line_at : NodeMap → List ℕ → Option (List ℕ)
 line_at nodes path = option_map (λ node. line (tree_node_line nodes (path, node))) (get nodes path)
 
-abbrev pub changed_text : List ℕ → List ℕ → List ℕ
-changed_text before after = if bytes_eq before after then [] else (codes "< " ++ before) ++ (codes "> " ++ after)
+-- a line of a difference: the line of the node at a path, in one of the trees
+pub record Line : Type 0 where
+  pub sign : Sign
+  pub path : List ℕ
+  pub node : List ℕ
+
+abbrev pub line_of : Sign → List ℕ → List ℕ → Line
+line_of sign path node = record { sign = sign; path = path; node = node }
+
+abbrev pub changed_lines : List ℕ → List ℕ → List ℕ → List Line
+changed_lines path before after = if bytes_eq before after then [] else line_of Before path before ∷ line_of After path after ∷ []
 
 -- deleted, created or changed
-abbrev pub change_by : Option (List ℕ) → Option (List ℕ) → List ℕ
-change_by None None = []
-change_by (Some before) None = codes "- " ++ before
-change_by None (Some after) = codes "+ " ++ after
-change_by (Some before) (Some after) = changed_text before after
+abbrev pub lines_by : List ℕ → Option (List ℕ) → Option (List ℕ) → List Line
+lines_by path None None = []
+lines_by path (Some before) None = line_of Removed path before ∷ []
+lines_by path None (Some after) = line_of Added path after ∷ []
+lines_by path (Some before) (Some after) = changed_lines path before after
 
-unfoldable pub change_text : NodeMap → NodeMap → List ℕ → List ℕ
-change_text old new path = change_by (line_at old path) (line_at new path)
+unfoldable pub lines_at : NodeMap → NodeMap → List ℕ → List Line
+lines_at old new path = lines_by path (line_at old path) (line_at new path)
 
 -- ---- all paths
 
@@ -56,5 +66,5 @@ texts_of paths = map (λ entry. entry.0) paths
 -- ---- two trees
 
 -- at each path at or below a root, in order
-unfoldable pub differences_text : List ℕ → Bool → NodeMap → NodeMap → List ℕ
-differences_text root below old new = flat_map (change_text old new) (filter (is_within root below) (texts_of (paths_of old new)))
+unfoldable pub differences : List ℕ → Bool → NodeMap → NodeMap → List Line
+differences root below old new = flat_map (lines_at old new) (filter (is_within root below) (texts_of (paths_of old new)))

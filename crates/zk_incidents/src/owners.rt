@@ -74,7 +74,8 @@ impl Owners {
         }
     }
 
-    fn set(&mut self, path: &str, session: i64) -> Result<(), NoMemory>
+    /// Sets the session that owns the node at a path.
+    pub fn set(&mut self, path: &str, session: i64) -> Result<(), NoMemory>
         ensures { OnOk result (self.new ≡ with_owner self.old path.now session) }
     {
         let text = String::from_str(self.alloc, path)?;

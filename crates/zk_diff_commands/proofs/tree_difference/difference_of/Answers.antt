@@ -1,7 +1,5 @@
-use Rattle.std.proofs.Common.{◌≡◌, rules, true, Err, sym, subst}
+use Rattle.std.proofs.Common.{Err, sym, subst}
 use Rattle.std.proofs.lemmas.Result.{err_from_is_err_and}
-use Rattle.std.specs.String.{string_bytes}
-use Rattle.zk_differences.specs.Differences.{differences_text}
 use Rattle.zk_folder_commands.specs.declared.fault.HistoryFault.{HistoryFault}
 use Rattle.zk_diff_commands.proofs.Found.{difference_found, no_new}
 use Rattle.zk_diff_commands.specs.Differences.{FindsDifference}
@@ -24,6 +22,5 @@ returns g c =
     let snapshot_bytes = g.S.Folder.bytes_in c.args.snapshots.now in
     let logs = g.L.Folder.names_in c.args.logs.now in
     let log_bytes = g.L.Folder.bytes_in c.args.logs.now in
-    let text = c.in_ok-difference_text.field-0 in
-    let is : string_bytes text ≡ differences_text c.args.path.now true c.in_ok-old.old.state.nodes c.in_ok-new.new.state.nodes = search rules in
-    difference_found snapshots snapshot_bytes logs log_bytes c.args.from c.args.to c.args.path.now c.in_ok-old.old c.in_ok-new.new text c.in_ok-old.ensures c.in_ok-new.ensures is
+    difference_found snapshots snapshot_bytes logs log_bytes c.args.from c.args.to c.args.path.now c.in_ok-old.old c.in_ok-new.new c.in_ok-changes.changes c.follow_logged.new.changes c.in_ok-difference_text.field-0
+    c.in_ok-old.ensures c.in_ok-new.ensures c.in_ok-changes.ensures c.in_ok-follow_logged.ensures.followed c.in_ok-difference_text.ensures
