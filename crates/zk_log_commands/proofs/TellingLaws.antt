@@ -13,13 +13,14 @@ use Rattle.zk_records.specs.declared.sink.Sink.{Sink}
 use Rattle.zk_log.specs.declared.source.Source.{Source}
 use Rattle.zk_log.specs.declared.txn_sink.Head.{Head}
 use Rattle.zk_path.specs.declared.memory.NoMemory.{NoMemory}
+use Rattle.zk_format.specs.Listings.{listing_of}
 use Rattle.zk_reports.specs.Reports.{line, tree_report}
 use Rattle.zk_table.specs.Histories.{state_after}
 use Rattle.zk_table.specs.States.{State, start_state}
 use Rattle.zk_txn.specs.declared.txn.Txn.{Txn}
 use Rattle.zk_log_commands.specs.Notices.{begins_within, first_of, within_epoch}
 use Rattle.zk_log_commands.specs.Showing.{shown_of, end_line, show_report}
-use Rattle.zk_log_commands.specs.Telling.{EndsNoted, Loads, OutputsNoted, TellsLog, TellsWriting}
+use Rattle.zk_log_commands.specs.Telling.{EndsNoted, Loads, Outputs, OutputsNoted, TellsLog, TellsWriting}
 use Rattle.zk_log_commands.specs.Writing.{Writes, Wrote, WrotePart}
 use Rattle.zk_log_commands.specs.declared.lines.LineFault.{LineFault}
 use Rattle.zk_log_commands.specs.declared.lines.LineFault.TheVariants as line_faults
@@ -52,6 +53,16 @@ outputs_written contents told text notice output output' faults faults' (Ok done
 outputs_written contents told text notice output output' faults faults' (Err line_faults.Write) result w t = subst (OutputsNoted contents told text notice output output' faults faults') (sym t.0) (w, t.1)
 outputs_written contents told text notice output output' faults faults' (Err line_faults.NoMemory) (Ok status) w t = absurd (false≢true t.0)
 outputs_written contents told text notice output output' faults faults' (Err line_faults.NoMemory) (Err refused) w t = (w, t.1)
+
+-- a text was written, without a notice
+pub outputs_unnoted : {O E : Type 0} (contents : O → Option (List ℕ)) (told : E → Option (List ℕ)) (text : List ℕ) (output output' : Sink O) (faults faults' : Sink E) (status : ℕ)
+    → Outputs contents told text output output' faults faults' (Ok status) → OutputsNoted contents told text None output output' faults faults' (Ok status)
+outputs_unnoted contents told text output output' faults faults' zero w = w
+outputs_unnoted contents told text output output' faults faults' (suc status) w = w
+
+-- the listing of the transactions that were consumed
+pub taken_listing : (start text : List ℕ) (txns : List Txn) → start ≡ [] → text ≡ start ++ listing_of txns → text ≡ listing_of txns
+taken_listing start text txns none taken = taken ∙ ap (λ l. l ++ listing_of txns) none
 
 answers_nothing : (bytes : Option (List ℕ)) → Answers bytes (Err log_faults.NoMemory)
 answers_nothing None = tt

@@ -1,32 +1,38 @@
-ghost use Rattle.std.specs.Prelude.{◌-◌, ◌<◌, ◌^◌};
-ghost use Rattle.zk_log_commands.specs.Writing.{Writes};
-ghost use Rattle.zk_format.specs.Listings.{listing_of};
-ghost use Rattle.zk_records.specs.Sinks.{write_failures_of};
+//! The listing of a log.
+ghost use Rattle.std.specs.Prelude.{◌≡◌, []};
+ghost use Rattle.std.specs.String.{string_bytes};
 
-use crate::lines::{LineFault, PAGE};
 use std::alloc::Global;
-use std::io::Write;
 use zk_format::spell_line;
-use zk_log::Sink;
+use zk_log::TxnSink;
+use zk_path::NoMemory;
 use zk_table::Txn;
 
-pub(crate) fn write_listing<O: Write>(
-    alloc: Global,
-    txns: &[Txn],
-    output: &mut Sink<O>,
-) -> Result<(), LineFault>
-    requires { write_failures_of output.old < 2 ^ 64 - 1 }
-    ensures { Writes O.contents output.old (listing_of txns.now) result output.new }
-{
-    let mut page = String::new(alloc);
-    for txn in txns {
-        spell_line(&mut page, txn)?;
-        // A write for each line would cost more than the lines.
-        if page.len() >= PAGE {
-            output.write_all(page.as_bytes())?;
-            page.clear();
+/// The lines of a log's transactions. Each is written as its transaction is read, so that no
+/// transaction is kept.
+#[derive(Drop)]
+pub(crate) struct ListSink {
+    pub(crate) text: String,
+}
+
+impl ListSink {
+    pub(crate) fn new(alloc: Global) -> ListSink
+        ensures { string_bytes result.text ≡ [] }
+    {
+        ListSink {
+            text: String::new(alloc),
         }
     }
-    output.write_all(page.as_bytes())?;
-    Ok(())
+}
+
+impl TxnSink for ListSink {
+    ghost use Rattle.std.specs.Prelude.{◌++◌};
+    ghost use Rattle.zk_format.specs.Listings.{listing_of};
+
+    ghost took = { λ start txns it. string_bytes it.text ≡ string_bytes start.text ++ listing_of txns };
+
+    fn take(&mut self, txn: Txn) -> Result<(), NoMemory> {
+        spell_line(&mut self.text, &txn)?;
+        Ok(())
+    }
 }

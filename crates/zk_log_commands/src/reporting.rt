@@ -6,15 +6,15 @@ ghost use Rattle.zk_format.specs.Listings.{listing_of};
 ghost use Rattle.zk_records.specs.Sinks.{write_failures_of};
 ghost use Rattle.zk_log.specs.Devices.{reads_of, read_failures_of};
 
+use crate::answering::put_answers;
 use crate::lines::LineFault;
-use crate::list::write_listing;
+use crate::list::ListSink;
 use crate::notice::tell_notice;
 use crate::show::{ShowSink, write_report};
 use crate::telling::{TURNS, tell, tell_log_fault};
 use std::alloc::Global;
 use std::io::{Read, Write};
-use std::mem::forget;
-use zk_log::{LogFault, Sink, Source, load, load_into};
+use zk_log::{LogFault, Sink, Source, load_into};
 use zk_path::NoMemory;
 
 /// The report on a log.
@@ -88,14 +88,9 @@ fn tell_listing<F: Read, O: Write, E: Write>(
     ensures { TellsLog F.remaining O.contents E.contents (λ loaded. listing_of loaded.txns) (λ loaded. None) file.old file.new
         output.old output.new faults.old faults.new result }
 {
-    match load(alloc, file, TURNS) {
-        Ok(loaded) => {
-            let written = write_listing(alloc, loaded.txns.as_slice(), output);
-            // The program ends after this: to free the memory object by object would cost as much
-            // as to list the log.
-            forget(loaded);
-            tell_written(alloc, written, None, faults)
-        }
+    let mut lines = ListSink::new(alloc);
+    match load_into(alloc, file, TURNS, &mut lines) {
+        Ok(_) => Ok(put_answers(lines.text.as_str(), output, faults)),
         Err(LogFault::NoMemory) => Err(NoMemory),
         Err(fault) => tell_log_fault(alloc, fault, faults),
     }

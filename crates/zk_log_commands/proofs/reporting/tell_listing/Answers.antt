@@ -1,20 +1,32 @@
-use Rattle.std.proofs.Common.{List, None, Ok, subst}
+use Rattle.std.proofs.Common.{List, ℕ, Ok, Err, rules, subst}
+use Rattle.std.specs.String.{string_bytes}
 use Rattle.zk_format.specs.Listings.{listing_of}
-use Rattle.zk_txn.specs.declared.txn.Txn.{Txn}
-use Rattle.zk_log_commands.proofs.TellingLaws.{outputs_written}
-use Rattle.zk_log_commands.specs.Writing.{Writes}
+use Rattle.zk_log.specs.Taking.{loaded_of}
+use Rattle.zk_log_commands.proofs.TellingLaws.{loads_taken, outputs_unnoted, taken_listing}
+use Rattle.zk_log_commands.specs.Telling.{Outputs}
 use Rattle.zk_log_commands.proofs.reporting.tell_listing.Goals as goal
 
 pub returns-in-Ok : goal.returns-in-Ok
 returns-in-Ok g c =
-    let contents = g.O.Write.contents in
     let e = c.in-Ok.ensures in
-    let loaded = c.in-Ok.loaded in
-    let output' = c.write_listing-written.new.output in
-    let written = c.write_listing-written.result in
+    let t = e.takes in
+    let status = c.put_answers.result in
+    let text = taken_listing (string_bytes c.new-lines.result.text) (string_bytes c.load_into.new.taker.text) t.txns c.new-lines.ensures t.taken in
+    let output : Outputs g.O.Write.contents g.E.Write.contents (string_bytes c.load_into.new.taker.text) c.args.output.now c.put_answers.new.output c.args.faults.now c.put_answers.new.faults (Ok status) =
+    subst (λ (l : List ℕ). Outputs g.O.Write.contents g.E.Write.contents l c.args.output.now c.put_answers.new.output c.args.faults.now c.put_answers.new.faults (Ok status)) c.as_str.ensures.value c.put_answers.ensures in
     record {
-      answer = Ok loaded;
-      loads = record { answers = e.answers; tells = e.tells; sparing = e.sparing; ends = e.ends; reads = e.reads };
-      outputs = outputs_written contents g.E.Write.contents (listing_of loaded.txns) None c.args.output.now output' c.args.faults.now c.tell_written.new.faults written c.tell_written.result
-          (subst (λ (txns : List Txn). Writes contents c.args.output.now (listing_of txns) written output') c.as_slice.ensures c.write_listing-written.ensures) c.tell_written.ensures;
+      answer = loaded_of t.txns (Ok c.in-Ok.field-0);
+      loads = loads_taken g.F.Read.remaining _ c.args.file.now c.load_into.new.source _ 1048576 (Ok c.in-Ok.field-0) t e.sparing e.ends e.reads e.tells;
+      outputs = outputs_unnoted g.O.Write.contents g.E.Write.contents (listing_of t.txns) c.args.output.now c.put_answers.new.output c.args.faults.now c.put_answers.new.faults status
+          (subst (λ (l : List ℕ). Outputs g.O.Write.contents g.E.Write.contents l c.args.output.now c.put_answers.new.output c.args.faults.now c.put_answers.new.faults (Ok status)) text output);
+    }
+
+pub returns : goal.returns
+returns g c =
+    let e = c.in-Err.ensures in
+    let t = e.takes in
+    record {
+      answer = Err c.in-Err.fault;
+      loads = loads_taken g.F.Read.remaining _ c.args.file.now c.load_into.new.source _ 1048576 (Err c.in-Err.fault) t e.sparing e.ends e.reads e.tells;
+      outputs = search rules;
     }
