@@ -1,13 +1,14 @@
-//! The commands that verify a data directory, and compare two of its states.
+//! The commands that verify a data directory, compare two of its states, and restore one.
 
 use crate::disk_folder::DiskFolder;
 use crate::faults::faults;
 use crate::looking::upto_of;
 use std::io;
-use zk_cli_args::{DiffJob, VerifyJob, diff_of, verify_of};
+use zk_cli_args::{DiffJob, RestoreJob, VerifyJob, diff_of, restore_of, verify_of};
 use zk_diff_commands::diff;
 use zk_log::Sink;
 use zk_path::NoMemory;
+use zk_restore_commands::restore;
 use zk_verify_commands::verify;
 
 /// Runs the command of this file that words name, if they name one. Returns its exit status.
@@ -18,8 +19,11 @@ pub(crate) fn run_checking<'a>(
     if let Some(job) = verify_of(rt.alloc(), words)? {
         return Ok(Some(tell_verification(rt, &job)?));
     }
-    match diff_of(rt.alloc(), words)? {
-        Some(job) => Ok(Some(tell_difference(rt, &job)?)),
+    if let Some(job) = diff_of(rt.alloc(), words)? {
+        return Ok(Some(tell_difference(rt, &job)?));
+    }
+    match restore_of(rt.alloc(), words)? {
+        Some(job) => Ok(Some(tell_script(rt, &job)?)),
         None => Ok(None),
     }
 }
@@ -45,6 +49,23 @@ fn tell_difference(rt: &HostRuntime, job: &DiffJob) -> Result<u8, NoMemory> {
         &logs,
         upto_of(job.from),
         upto_of(job.to),
+        job.path,
+        &mut output,
+        &mut faults,
+    )
+}
+
+/// Writes the script that restores nodes of a data directory. Returns the exit status.
+fn tell_script(rt: &HostRuntime, job: &RestoreJob) -> Result<u8, NoMemory> {
+    let snapshots = DiskFolder::at(rt, job.folder)?;
+    let logs = DiskFolder::at(rt, job.logs.unwrap_or(job.folder))?;
+    let mut output = Sink::new(io::writer(rt));
+    let mut faults = faults(rt);
+    restore(
+        rt.alloc(),
+        &snapshots,
+        &logs,
+        upto_of(job.at),
         job.path,
         &mut output,
         &mut faults,

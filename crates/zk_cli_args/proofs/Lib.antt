@@ -9,6 +9,7 @@ pub mod GivenLaws
 pub mod LinesLaws
 pub mod NamesLaws
 pub mod OptionLaws
+pub mod RestoreLaws
 pub mod ServingLaws
 pub mod ShowLaws
 pub mod TopLaws

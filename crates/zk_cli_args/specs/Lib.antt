@@ -8,6 +8,7 @@ pub mod Incidents
 pub mod Lines
 pub mod Options
 pub mod Parting
+pub mod Restoring
 pub mod Serving
 pub mod Tops
 pub mod Verifying

@@ -45,7 +45,7 @@ pub(crate) struct OptionHelp {
 pub(crate) const READING: [OrderHelp; 6] = [SHOW, LIST, FILES, ASM, MEND, DEBUG];
 
 /// The commands that say what happened in a data directory.
-pub(crate) const ASKING: [OrderHelp; 5] = [VERIFY, HISTORY, DIFF, TOP, COMPARE];
+pub(crate) const ASKING: [OrderHelp; 6] = [VERIFY, HISTORY, DIFF, TOP, COMPARE, RESTORE];
 
 /// The commands that run servers.
 pub(crate) const RUNNING: [OrderHelp; 3] = [RUN, SERVE, ENSEMBLE];
@@ -172,6 +172,30 @@ pub(crate) const TOP: OrderHelp = OrderHelp {
             name: "n",
             value: "N",
             help: "The most lines, 0 to 4294967295; all if left out",
+        },
+        LOGS,
+    ],
+};
+
+pub(crate) const RESTORE: OrderHelp = OrderHelp {
+    name: "restore",
+    title: "zk restore",
+    about: "Prints a script of zkCli.sh that restores a node of a data directory and those below it",
+    notes: RESTORE_NOTES,
+    values: &[
+        DIR,
+        ValueHelp {
+            name: "PATH",
+            help: "The path of the node",
+            required: true,
+        },
+    ],
+    flags: &[],
+    options: &[
+        OptionHelp {
+            name: "at",
+            value: "T",
+            help: "The last transaction of the tree: a zxid, `last` or a time, as for show; the last of all if left out",
         },
         LOGS,
     ],
@@ -423,11 +447,24 @@ and `read` if a directory cannot be read, `write` and `memory`."#;
 /// The lines of `zk diff`, and its errors.
 const DIFF_NOTES: &str =
     r#"The trees are those that `zk show` prints. The lines are, in order of path:
-  + NODE      the second tree alone has this node, in the form of `zk show`
-  - NODE      the first tree alone has it
-  < NODE      a node that differs, in the first tree
-  > NODE      the same node in the second tree
-`zk history DIR PATH` has the transactions that changed a node.
+  + TIME ZXID NODE    the second tree alone has this node, in the form of `zk show`
+  - TIME ZXID NODE    the first tree alone has it
+  < TIME ZXID NODE    a node that differs, in the first tree
+  > TIME ZXID NODE    the same node in the second tree
+TIME, in UTC, and ZXID are those of the last transaction between the two that created, changed or deleted
+the node or one of its children. Both are - where the logs do not lead from the one tree to the other.
+
+Errors, on standard error after `zk: `, are those of `zk show` of a directory."#;
+
+/// The lines of `zk restore`, and its errors.
+const RESTORE_NOTES: &str =
+    r#"The tree is that of `zk show`. The lines create the nodes with their contents and access control lists,
+parents first, and set the root. They assume that the parent is there and that these nodes are not, and a
+UTF-8 locale. Versions, times and zxids are not restored; containers and nodes with a time to live become
+plain nodes. Comments, which begin with #, name what is left out:
+  ephemeral nodes, and /zookeeper, /zookeeper/config and /zookeeper/quota
+  contents that zkCli.sh cannot read: bytes that are no UTF-8, ends of lines, both " and '
+  nodes whose path or access control list it cannot read
 
 Errors, on standard error after `zk: `, are those of `zk show` of a directory."#;
 

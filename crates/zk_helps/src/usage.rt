@@ -4,7 +4,7 @@ ghost use Rattle.std.specs.Prelude.{◌≢◌, ◌↔◌, IsTrue};
 ghost use Rattle.clap.specs.declared.error.kind.ErrorKind.TheVariants as kinds;
 
 use crate::grammar::{command, order_command};
-use crate::helps::{DEBUG, DIFF, ENSEMBLE, MEND, OrderHelp, SERVE, SHOW, TOP};
+use crate::helps::{DEBUG, DIFF, ENSEMBLE, MEND, OrderHelp, RESTORE, SERVE, SHOW, TOP};
 use clap::Error;
 use clap::error::ErrorKind;
 use std::alloc::{AllocError, Global};
@@ -49,6 +49,7 @@ pub fn refusal_of<'a>(alloc: Global, words: &'a [&'a str]) -> Result<Refusal, Al
         None if words.get(1) == Some(&"ensemble") => ensemble_fault(alloc)?,
         None if words.get(1) == Some(&"top") => top_fault(alloc)?,
         None if words.get(1) == Some(&"diff") => zxid_fault(alloc, &DIFF)?,
+        None if words.get(1) == Some(&"restore") => zxid_fault(alloc, &RESTORE)?,
         None if words.get(1) == Some(&"debug") => debug_fault(alloc, words)?,
         // Of the other words that clap accepts, only a ZXID is an error.
         None => zxid_fault(alloc, &SHOW)?,

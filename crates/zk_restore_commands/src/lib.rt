@@ -1,0 +1,6 @@
+//! The command `zk restore` of a data directory, over any folders and any writers.
+#![tactic(auto)]
+
+mod tree_script;
+
+pub use tree_script::restore;

@@ -1,0 +1,64 @@
+//! `zk restore`.
+ghost use Rattle.std.specs.Prelude.{◌≡◌, ◌-◌, ◌<◌, ◌^◌, IfOk};
+ghost use Rattle.std.specs.String.{string_bytes};
+ghost use Rattle.zk_records.specs.Sinks.{write_failures_of};
+ghost use Rattle.zk_restoration.specs.Scripts.{script};
+ghost use Rattle.zk_restore_commands.specs.Scripts.{FindsScript, TellsScript};
+
+use std::alloc::Global;
+use std::io::Write;
+use zk_directory_commands::{Shown, Upto, shown_of};
+use zk_folder::Folder;
+use zk_folder_commands::{HistoryFault, put_text, tell_fault};
+use zk_log::Sink;
+use zk_path::NoMemory;
+use zk_restoration::push_script;
+
+/// The script of the node at a path and those below it, as a state holds them.
+fn script_text(alloc: Global, path: &str, shown: &Shown) -> Result<String, NoMemory>
+    ensures { IfOk result (λ text. string_bytes text ≡ script path.now shown.now.restored.table.state) }
+{
+    let mut text = String::new(alloc);
+    push_script(&mut text, path, &shown.restored.table)?;
+    Ok(text)
+}
+
+/// The script of the node at a path and those below it, as a directory holds them up to a
+/// transaction.
+#[tactic(auto, using(crate::proofs::Found::script_found, crate::proofs::Found::no_script))]
+fn script_of<S: Folder, L: Folder>(
+    alloc: Global,
+    snapshots: &S,
+    logs: &L,
+    upto: Upto,
+    path: &str,
+) -> Result<String, HistoryFault>
+    ensures { FindsScript (S.names_in snapshots.now) (S.bytes_in snapshots.now) (L.names_in logs.now) (L.bytes_in logs.now) upto path.now result }
+{
+    let shown = shown_of(alloc, snapshots, logs, upto)?;
+    Ok(script_text(alloc, path, &shown)?)
+}
+
+/// Writes the script that restores the node at a path and those below it, as a data directory holds
+/// them up to a transaction: lines of `zkCli.sh`. Returns the exit status.
+///
+/// The tree is that of `zk show`: that of the first folder's snapshots and the second folder's logs.
+pub fn restore<S: Folder, L: Folder, O: Write, E: Write>(
+    alloc: Global,
+    snapshots: &S,
+    logs: &L,
+    upto: Upto,
+    path: &str,
+    output: &mut Sink<O>,
+    faults: &mut Sink<E>,
+) -> Result<u8, NoMemory>
+    requires output { write_failures_of output.old < 2 ^ 64 - 1 }
+    requires faults { write_failures_of faults.old < 2 ^ 64 - 1 }
+    ensures { TellsScript O.contents E.contents (S.names_in snapshots.now) (S.bytes_in snapshots.now) (L.names_in logs.now)
+        (L.bytes_in logs.now) upto path.now output.old output.new faults.old faults.new result }
+{
+    match script_of(alloc, snapshots, logs, upto, path) {
+        Ok(text) => Ok(put_text(text.as_str(), output, faults)),
+        Err(fault) => tell_fault(alloc, &fault, faults),
+    }
+}
