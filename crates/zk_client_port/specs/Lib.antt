@@ -1,7 +1,11 @@
 pub mod Demands
+pub mod Execution
+pub mod Flushing
 pub mod Laws
 pub mod Listings
 pub mod Outputs
 pub mod Ports
 pub mod Results
+pub mod Serving
 pub mod Sessions
+pub mod Turns

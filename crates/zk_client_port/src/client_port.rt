@@ -1,15 +1,19 @@
-ghost use Rattle.std.specs.Prelude.{◌≡◌, [], length, map, nat_eq, if◌then◌else◌, IfOk, OnOk, OnErr};
+ghost use Rattle.std.specs.Prelude.{◌≡◌, ◌<◌, [], length, map, nat_eq, if◌then◌else◌, IfOk, OnOk, OnErr};
 ghost use Rattle.std.specs.List.{list_any};
 ghost use Rattle.std.specs.Ordering.{int_eq};
 ghost use Rattle.zk_client_port.specs.Ports.{all_detached, closed_if, cut_off_if, is_among, is_selected, numbers_over, without_over, without_requests};
 ghost use Rattle.zk_client_port.specs.declared.client_port.Selection.TheVariants as selections;
+ghost use Rattle.zk_client_port.specs.Turns.{clients, cut_off_with, server, synced, written, ServesFirst, ServesPlace, TakesSyncs, Turns};
+ghost use Rattle.zk_client_port.specs.Sessions.{after_ends};
+ghost use Rattle.zk_hub.specs.Deliveries.{left_after, outputs_of};
+ghost use Rattle.zk_model.specs.Ensembles.{profile_by};
 ghost use Rattle.zab_host.specs.Hosts.{IsStored};
 
 use crate::admission::Admission;
+use crate::execution::Moment;
 use crate::expected::Expected;
 use crate::outputs::{PortOutput, write_outputs};
-use crate::result::Attachment;
-use crate::serve::{Moment, serve};
+use crate::turn::serve;
 use std::alloc::Global;
 use std::mem::replace;
 use zab_broadcast::CaughtSyncs;
@@ -17,7 +21,6 @@ use zab_epoch::{Messages, Quorums};
 use zab_host::Storage;
 use zk_connections::Connection;
 use zk_delivery::{Outcome, release};
-use zk_frames::FrameFault;
 use zk_host::{ReleaseFault, ReplicaHost};
 use zk_hub::{Hub, News};
 use zk_path::NoMemory;
@@ -124,6 +127,9 @@ impl ClientPort {
         moment: Moment,
     ) -> Result<Turned, ReleaseFault>
         ensures messages { IfOk result (λ it. it.messages ≡ host.old.host.outbox) }
+        ensures turns { IfOk result (λ it. Turns (profile_by (Q.passes quorums.now)).setting moment
+            (server host.old self.old.hub self.old.connections.items admission.old)
+            (server host.new self.new.hub self.new.connections.items admission.new) it.displaced.items it.closed.items) }
     {
         let mut released = release(alloc, host, &mut self.hub)?;
         let outputs = replace(&mut released.outputs, Vec::new(alloc));
@@ -136,8 +142,7 @@ impl ClientPort {
             return Err(ReleaseFault::NoMemory);
         };
         self.write(alloc, admission, last, now, synced, &mut displaced)?;
-        close_ended(&mut self.connections, &closed);
-        admission.end_all(&closed);
+        self.end_sessions(admission, &closed);
         self.serve_all(alloc, host, quorums, admission, moment);
         Ok(Turned {
             messages,
@@ -156,7 +161,11 @@ impl ClientPort {
         now: i64,
         outputs: Vec<PortOutput>,
         displaced: &mut Vec<u64>,
-    ) -> Result<(), ReleaseFault> {
+    ) -> Result<(), ReleaseFault>
+        ensures written { OnOk result (clients self.new.connections.items admission.new displaced.new.items
+            ≡ written last now outputs.items (clients self.old.connections.items admission.old displaced.old.items)) }
+        ensures hub { self.new.hub ≡ self.old.hub }
+    {
         match write_outputs(alloc, admission, last, &mut self.connections, outputs) {
             Ok(gained) => match admission.attach_all(&gained, now, displaced) {
                 Ok(()) => Ok(()),
@@ -173,14 +182,28 @@ impl ClientPort {
         host: &mut ReplicaHost<S>,
     ) -> Result<Vec<PortOutput>, NoMemory>
         requires { IsStored S.may_recover host.old.host }
-        ensures { host.new.tree ≡ host.old.tree }
+        ensures outputs { IfOk result (λ it. it.items ≡ outputs_of (map synced host.old.host.state.caught) self.old.hub) }
+        ensures hub { OnOk result (self.new.hub ≡ left_after (map synced host.old.host.state.caught) self.old.hub) }
+        ensures syncs { TakesSyncs host.old host.new }
+        ensures connections { self.new.connections ≡ self.old.connections }
     {
         let caught = host.take_syncs(alloc);
         let news = news_of(alloc, &caught)?;
         self.hub.deliver(alloc, news)
     }
 
+    /// Ends sessions, and closes their connections.
+    fn end_sessions(&mut self, admission: &mut Admission, closed: &[i64])
+        ensures connections { self.new.connections.items ≡ map (closed_if closed.now) self.old.connections.items }
+        ensures sessions { admission.new ≡ record admission.old { sessions = after_ends closed.now admission.old.sessions } }
+        ensures hub { self.new.hub ≡ self.old.hub }
+    {
+        close_ended(&mut self.connections, closed);
+        admission.end_all(closed);
+    }
+
     /// Takes what the connections have sent. A connection for which an allocation fails is lost.
+    #[tactic(auto, using(crate::proofs::Serving::none_served, crate::proofs::Serving::one_more))]
     fn serve_all<S: Storage, Q: Quorums>(
         &mut self,
         alloc: Global,
@@ -190,22 +213,39 @@ impl ClientPort {
         moment: Moment,
     )
         requires { host.old.tree.news ≡ [] }
+        ensures { ServesFirst (profile_by (Q.passes quorums.now)).setting moment (length self.old.connections.items)
+            (server host.old self.old.hub self.old.connections.items admission.old)
+            (server host.new self.new.hub self.new.connections.items admission.new) }
     {
         'connections: for index in 0..self.connections.len() {
-            let Some(connection) = self.connections.get_mut(index) else {
-                return;
-            };
-            if serve(
-                alloc,
-                host,
-                quorums,
-                &mut self.hub,
-                connection,
-                admission,
-                moment,
-            )
-            .is_err()
-            {
+            self.serve_at(alloc, host, quorums, admission, moment, index);
+        }
+    }
+
+    /// Takes what the connection at a place has sent.
+    #[tactic(auto, using(crate::proofs::Serving::executed, crate::proofs::Serving::lost_at))]
+    fn serve_at<S: Storage, Q: Quorums>(
+        &mut self,
+        alloc: Global,
+        host: &mut ReplicaHost<S>,
+        quorums: &Q,
+        admission: &mut Admission,
+        moment: Moment,
+        index: usize,
+    )
+        requires written { host.old.tree.news ≡ [] }
+        requires within { index < length self.old.connections.items }
+        ensures serves { ServesPlace (profile_by (Q.passes quorums.now)).setting moment index
+            (server host.old self.old.hub self.old.connections.items admission.old)
+            (server host.new self.new.hub self.new.connections.items admission.new) }
+        ensures written { host.new.tree.news ≡ [] }
+        ensures count { length self.new.connections.items ≡ length self.old.connections.items }
+    {
+        let connection = &mut self.connections[index];
+        let hub = &mut self.hub;
+        match serve(alloc, host, quorums, hub, connection, admission, moment) {
+            Ok(()) => (),
+            Err(_) => {
                 connection.cut_off();
                 self.cut_off_if_lost();
             }
@@ -215,7 +255,7 @@ impl ClientPort {
     /// Cuts off all connections if there are no outstanding requests: a failed allocation may have
     /// lost those of all, whose replies would never come.
     fn cut_off_if_lost(&mut self)
-        ensures connections { self.new.connections.items ≡ (if nat_eq (length self.old.hub) 0 then map (cut_off_if selections.All) self.old.connections.items else self.old.connections.items) }
+        ensures connections { self.new.connections.items ≡ cut_off_with self.old.hub self.old.connections.items }
         ensures hub { self.new.hub ≡ self.old.hub }
     {
         if self.hub.len() == 0 {
@@ -329,7 +369,9 @@ fn numbers_over(alloc: Global, connections: &[Connection]) -> Result<Vec<u64>, N
 }
 
 /// Completed syncs, as a hub takes them.
-fn news_of(alloc: Global, caught: &CaughtSyncs) -> Result<Vec<News<Fired, Outcome>>, NoMemory> {
+fn news_of(alloc: Global, caught: &CaughtSyncs) -> Result<Vec<News<Fired, Outcome>>, NoMemory>
+    ensures { IfOk result (λ it. it.items ≡ map synced caught.now) }
+{
     let mut news = Vec::new(alloc);
     for one in caught.as_slice() {
         news.push(News::Outcome {

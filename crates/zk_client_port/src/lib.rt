@@ -8,18 +8,18 @@
 mod admission;
 mod client_port;
 mod demand;
+mod execution;
 mod expected;
 pub mod laws;
 mod listing;
 mod outputs;
-mod reading;
 mod result;
-mod serve;
+mod turn;
 
 pub use admission::Admission;
 pub use client_port::{ClientPort, Selection, Turned};
 pub use demand::{Demand, demand_of};
+pub use execution::Moment;
 pub use expected::{Expected, Opening};
 pub use outputs::{PortOutput, write_outputs};
 pub use result::{Attachment, write_outcome};
-pub use serve::Moment;

@@ -1,7 +1,10 @@
 //! The replies to the four-letter words that ask for lists.
 
-ghost use Rattle.std.specs.Prelude.{◌≡◌, map, OnOk};
-ghost use Rattle.zk_client_port.specs.Listings.{listed};
+ghost use Rattle.std.specs.Prelude.{◌≡◌, ◌++◌, map, IfOk, OnErr, OnOk};
+ghost use Rattle.std.specs.Int.{w64, cast_signed};
+ghost use Rattle.std.specs.List.{list_any};
+ghost use Rattle.zk_client_port.specs.Listings.{awaits, listed, owned_if, owned_in, pair_of, sessions_in, ListsTo, WritesLists};
+ghost use Rattle.zk_table.specs.States.{owned_by};
 
 use crate::client_port::ClientPort;
 use std::alloc::Global;
@@ -18,15 +21,15 @@ impl ClientPort {
         &mut self,
         alloc: Global,
         host: &ReplicaHost<S>,
-    ) -> Result<(), NoMemory> {
-        if !self.connections.iter().any(|it| it.listing().is_some()) {
+    ) -> Result<(), NoMemory>
+        ensures lists { ListsTo host.now.tree.tree self.old.connections.items self.new.connections.items result }
+        ensures hub { self.new.hub ≡ self.old.hub }
+    {
+        if !awaits_any(&self.connections) {
             return Ok(());
         }
-        let sessions = match host.as_machine() {
-            Some(machine) => machine.sessions().unwrap_or(&[]),
-            None => &[],
-        };
-        let owned = owned_nodes(alloc, host.tree(), sessions)?;
+        let sessions = sessions_of(host);
+        let owned = owned_at(alloc, host, sessions)?;
         let connections = connections_text(alloc, &self.connections)?;
         let sessions = sessions_text(alloc, &self.connections, sessions, &owned)?;
         write_listings(
@@ -37,12 +40,33 @@ impl ClientPort {
     }
 }
 
+/// Whether a list is awaited.
+fn awaits_any(connections: &[Connection]) -> bool
+    ensures { result ≡ list_any awaits connections.now }
+{
+    connections.iter().any(|it| it.listing().is_some())
+}
+
+/// The sessions of a host's tree, and their timeouts.
+#[tactic(auto, using(crate::proofs::Lists::no_sessions))]
+fn sessions_of<S: Storage>(host: &ReplicaHost<S>) -> &[(u64, i32)]
+    ensures { result.now ≡ sessions_in host.now.tree.tree }
+{
+    let Some(machine) = host.as_machine() else {
+        return &[];
+    };
+    match machine.sessions() {
+        Ok(sessions) => sessions,
+        Err(_) => unreachable!(),
+    }
+}
+
 fn write_listings(
     connections: &mut Vec<Connection>,
     connections_text: &str,
     sessions_text: &str,
 ) -> Result<(), NoMemory>
-    ensures { OnOk result (connections.new.items ≡ map (listed connections_text.now sessions_text.now) connections.old.items) }
+    ensures { WritesLists connections_text.now sessions_text.now connections.old.items connections.new.items result }
 {
     for index in 0..connections.len() {
         write_listing(&mut connections[index], connections_text, sessions_text)?;
@@ -55,7 +79,8 @@ fn write_listing(
     connections_text: &str,
     sessions_text: &str,
 ) -> Result<(), NoMemory>
-    ensures { OnOk result (connection.new ≡ listed connections_text.now sessions_text.now connection.old) }
+    ensures written { OnOk result (connection.new ≡ listed connections_text.now sessions_text.now connection.old) }
+    ensures unchanged { OnErr result (connection.new ≡ connection.old) }
 {
     match connection.listing() {
         Some(Word::Cons) => connection.write_text(connections_text),
@@ -64,22 +89,41 @@ fn write_listing(
     }
 }
 
-/// The ephemeral nodes of each of these sessions that has any.
+/// The ephemeral nodes of each of these sessions that has any, in a host's tree.
+fn owned_at<S: Storage>(
+    alloc: Global,
+    host: &ReplicaHost<S>,
+    sessions: &[(u64, i32)],
+) -> Result<Vec<OwnedNodes>, NoMemory>
+    ensures { IfOk result (λ it. map pair_of it.items ≡ owned_in host.now.tree.tree.nodes sessions.now) }
+{
+    match host.tree() {
+        Some(tree) => owned_nodes(alloc, tree, sessions),
+        None => owned_nodes(alloc, &Tree::new(alloc)?, sessions),
+    }
+}
+
 fn owned_nodes(
     alloc: Global,
-    tree: Option<&Tree>,
+    tree: &Tree,
     sessions: &[(u64, i32)],
-) -> Result<Vec<OwnedNodes>, NoMemory> {
+) -> Result<Vec<OwnedNodes>, NoMemory>
+    ensures { IfOk result (λ it. map pair_of it.items ≡ owned_in tree.now sessions.now) }
+{
     let mut owned = Vec::new(alloc);
-    let Some(tree) = tree else {
-        return Ok(owned);
-    };
-    for (session, _) in sessions {
-        let session = *session;
-        let paths = tree.owned_by(session.cast_signed())?;
-        if !paths.is_empty() {
-            owned.push(OwnedNodes { session, paths })?;
-        }
+    for session in sessions {
+        push_owned(&mut owned, tree, session.0)?;
     }
     Ok(owned)
+}
+
+/// Appends the ephemeral nodes of a session, if it has any.
+fn push_owned(owned: &mut Vec<OwnedNodes>, tree: &Tree, session: u64) -> Result<(), NoMemory>
+    ensures { OnOk result (map pair_of owned.new.items ≡ map pair_of owned.old.items ++ owned_if session (owned_by tree.now (cast_signed w64 session))) }
+{
+    let paths = tree.owned_by(session.cast_signed())?;
+    if !paths.is_empty() {
+        owned.push(OwnedNodes { session, paths })?;
+    }
+    Ok(())
 }

@@ -61,3 +61,8 @@ pub const CLOSE: &[u8] = b"\0\0\0\x08\0\0\0\x05\xff\xff\xff\xf5";
 
 /// The reply is the last.
 pub const CLOSED: &[u8] = b"\0\0\0\x10\0\0\0\x05\0\0\0\x01\0\0\0\x04\0\0\0\0";
+
+/// What a 3.8 follower replies to `dump`, without the times at which connections expire.
+pub const DUMPED: &[u8] = b"SessionTracker dump:\nGlobal Sessions(1):\n0x100000001\t6000ms\n\
+    ephemeral nodes dump:\nSessions with Ephemerals (0):\nConnections dump:\n\
+    \tip: /127.0.0.1:45576 sessionId: 0x100000001\n\tip: /127.0.0.1:45578 sessionId: 0x0\n";

@@ -11,3 +11,5 @@ mod outcome_tests;
 mod pairs;
 #[cfg(test)]
 mod session_tests;
+#[cfg(test)]
+mod turn_tests;

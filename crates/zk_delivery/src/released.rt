@@ -94,6 +94,8 @@ pub fn release<S: Storage, E: Drop>(
     ensures closed { IfOk result (λ it. it.closed.items ≡ closed_in (drop host.old.shown (delivered_in host.new.host.state))) }
     ensures tree { OnOk result (host.new.tree ≡ record (after_entries host.old.tree (drop host.old.shown (delivered_in host.new.host.state))) { news = [] }) }
     ensures shown { OnOk result (host.new.shown ≡ length (delivered_in host.new.host.state)) }
+    ensures sent { OnOk result (host.new.host.outbox ≡ []) }
+    ensures tags { host.new.tags ≡ host.old.tags }
     ensures crash { (found : Stable) → S.may_recover host.new.host.storage found
         → S.may_recover host.old.host.storage found
         ⊎ IsPartialStore (S.may_recover host.old.host.storage) host.old.host.state.peer.stable found }

@@ -1,0 +1,11 @@
+use Rattle.std.proofs.Common.{rules}
+use Rattle.zk_client_port.proofs.Frames.{on_ok}
+use Rattle.zk_client_port.specs.Execution.{served}
+use Rattle.zk_client_port.proofs.turn.serve.Goals as goal
+
+pub returns-clause-serves : goal.returns-clause-serves
+returns-clause-serves g c = on_ok c.serve_frames.result c.serve_frames.ensures.serves (λ serves. record {
+  first = served c.flush_if.new.host c.flush_if.new.hub c.flush_if.new.connection;
+  flushes = search rules;
+  serves = serves;
+})
