@@ -75,7 +75,7 @@ def letters(perms):
 def lines_of(line):
     """The script's lines for a node of the directory, whose paths and lists have neither spaces nor quotation marks."""
     fields = line.split(" ")
-    path, content, number = fields[0].strip('"'), bytes.fromhex(fields[1][1:]).decode(), int(fields[2])
+    path, content, number = fields[0].strip('"'), fields[1], int(fields[2])
     entries = [fields[3 + 3 * place : 6 + 3 * place] for place in range(number)]
     acl = ",".join(f'{scheme[1:-1]}:{who[1:-1]}:{letters(int(perms))}' for perms, scheme, who in entries)
     owner = fields[3 + 3 * number + 7]
@@ -83,9 +83,12 @@ def lines_of(line):
         return f'# "{path}": each server has it; the node is left out\n'
     if int(owner, 16):
         return f'# "{path}": ephemeral, of the session {owner}; the node is left out\n'
+    if content == "-":
+        return f'create -- "{path}"\nsetAcl -- "{path}" "{acl}"\n'
+    text = bytes.fromhex(content[1:]).decode()
     if path == "/":
-        return f'set -- "/" "{content}"\nsetAcl -- "/" "{acl}"\n'
-    return f'create -- "{path}" "{content}" "{acl}"\n'
+        return f'set -- "/" "{text}"\nsetAcl -- "/" "{acl}"\n'
+    return f'create -- "{path}" "{text}" "{acl}"\n'
 
 
 def script(zxid, root):
@@ -148,7 +151,8 @@ def played(server, port, directory, text):
             waits_for(port)
             words = ["bash", CLIENT, "-server", f"127.0.0.1:{port}"]
             locale = {**os.environ, "LC_ALL": "C.UTF-8"}
-            subprocess.run(words, input=text.encode(), env=locale, capture_output=True, check=True, timeout=100)
+            # its status is that of the last line, which may be a comment
+            subprocess.run(words, input=text.encode(), env=locale, capture_output=True, check=False, timeout=100)
         finally:
             running.terminate()
     return bodies(run("restore", directory, "/"))
