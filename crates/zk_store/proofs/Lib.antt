@@ -1,8 +1,10 @@
 mod Prefixes
 mod Creations
 mod Extended
+mod Failures
 mod Fronts
 mod Joined
+mod Lacking
 mod Lists
 mod Readings
 pub mod Recoveries
