@@ -9,3 +9,4 @@ abbrev pub fault_of : ℕ → OpenFault → DataFault
 fault_of server open_faults.NoMemory = faults.NoMemory
 fault_of server open_faults.Disk = faults.Store server
 fault_of server open_faults.NoBook = faults.NoBook server
+fault_of server open_faults.Damaged = faults.Log server

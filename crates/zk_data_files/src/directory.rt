@@ -143,6 +143,7 @@ fn fault_of(server: usize, fault: OpenFault) -> DataFault
         OpenFault::NoMemory => DataFault::NoMemory,
         OpenFault::Disk => DataFault::Store(server),
         OpenFault::NoBook => DataFault::NoBook(server),
+        OpenFault::Damaged => DataFault::Log(server),
     }
 }
 

@@ -15,9 +15,12 @@ pub enum DataFault {
     /// Its file `ensemble` is damaged.
     #[error("its file `ensemble` is damaged")]
     Damaged,
-    /// A call of a server's files failed, or they are damaged.
+    /// A call of a server's files failed.
     #[error("the files of server {0} have failed")]
     Store(usize),
+    /// A server's log does not have the entries that its book counts.
+    #[error("the log of server {0} is damaged")]
+    Log(usize),
     /// The book of a server's store is missing, though its log has entries.
     #[error("the book of server {0} is missing")]
     NoBook(usize),

@@ -1,1 +1,2 @@
 mod Durables
+mod Openings

@@ -20,6 +20,9 @@ pub enum OpenFault {
     /// The files have no book, but the log has entries. They are unchanged.
     #[error("the book of the store is missing")]
     NoBook,
+    /// The files do not have the entries that the book counts. They are unchanged.
+    #[error("the log of the store is damaged")]
+    Damaged,
 }
 
 impl From<io::Error> for OpenFault {
@@ -39,8 +42,8 @@ impl From<FilesFault> for OpenFault {
         match fault {
             FilesFault::NoMemory => OpenFault::NoMemory,
             FilesFault::Disk(_) => OpenFault::Disk,
-            FilesFault::Damaged => OpenFault::Disk,
-            FilesFault::Full => OpenFault::Disk,
+            // No file has the entries of a book that counts 2^60.
+            FilesFault::Damaged | FilesFault::Full => OpenFault::Damaged,
         }
     }
 }

@@ -82,6 +82,21 @@ fn needs_its_book(alloc: Global) -> bool {
     )
 }
 
+/// Whether files are damaged if the log is cut off.
+fn needs_its_log(alloc: Global) -> Result<bool, Unopened<Memory>> {
+    let mut files = FileStore::open(alloc, new_files(alloc))?.into_files();
+    if !files.log.may_be_used() || files.log.set_len(0).is_err() {
+        return Ok(false);
+    }
+    Ok(matches!(
+        FileStore::open(alloc, files),
+        Err(Unopened {
+            fault: OpenFault::Damaged,
+            ..
+        })
+    ))
+}
+
 fn fused(alloc: Global, calls: u64) -> Fuse<Memory> {
     Fuse::new(Memory::new(alloc), calls)
 }
@@ -146,4 +161,9 @@ fn a_store_is_loaded_first(rt: HostRuntime) {
 #[test]
 fn entries_without_a_book_are_rejected(rt: HostRuntime) {
     assert!(rt; needs_its_book(rt.alloc()));
+}
+
+#[test]
+fn a_log_without_the_counted_entries_is_damaged(rt: HostRuntime) {
+    assert!(rt; matches!(needs_its_log(rt.alloc()), Ok(true)));
 }
