@@ -5,7 +5,8 @@ Each write, sync, read and change of length fails once, at the first start, on a
 server stops with one line, or the program ends with one; the client gets no reply to what was not stored. After a start in which all
 calls succeed, a client finds each node whose creation was acknowledged.
 
-usage: failing_files.py [KIND ..]     the kinds of calls that fail: write, sync, read, length; all of them if none is named
+usage: failing_files.py [--every N] [KIND ..]     the kinds of calls that fail: write, sync, read, length; all of them if none is
+                                                  named. Of each kind each Nth call fails, from the first one on; each if N is not given
 """
 import errno
 import os
@@ -15,6 +16,7 @@ import shutil
 import subprocess
 import sys
 import tempfile
+import threading
 import time
 from concurrent.futures import ThreadPoolExecutor
 from pathlib import Path
@@ -38,10 +40,12 @@ KINDS = {"write": errno.ENOSPC, "sync": errno.EIO, "read": errno.EIO, "length": 
 NODES = 3
 # More calls of one kind than a run makes.
 ENOUGH = 10_000
-# The number of runs side by side: most of the time they wait.
+# The number of runs side by side.
 LANES = 8
-# Seconds in which the program serves or ends, and in which a client connects.
+# Seconds in which the program serves or ends, and in which a client gets a reply.
 PATIENCE = 30
+# Seconds in which a reply that is on its way arrives, after the server has stopped.
+GRACE = 1
 
 # What the program may print on a failure: a server has stopped, or the directory is not opened.
 STOPS = re.compile(
@@ -64,16 +68,38 @@ class Server:
         words = [PROGRAM, "ensemble", str(self.port), "1", "--data", str(directory), "--until-eof"]
         pipe = subprocess.PIPE
         self.running = subprocess.Popen(words, env={**os.environ, **env}, stdin=pipe, stdout=pipe, stderr=pipe, text=True)
+        self.told = ""
+        self.has_stopped = threading.Event()
+        self.listener = threading.Thread(target=self.listen, daemon=True)
+        self.listener.start()
         self.serves = self.running.stdout.readline().startswith("serving")
+
+    def listen(self):
+        """Reads standard error. A line on it, or its end, says that the server has stopped."""
+        for line in self.running.stderr:
+            self.told += line
+            self.has_stopped.set()
+        self.has_stopped.set()
 
     def end(self) -> tuple[str, int]:
         """What it printed to standard error, and its status."""
+        self.running.stdin.close()
         try:
-            _, told = self.running.communicate(timeout=PATIENCE)
+            self.running.wait(PATIENCE)
         except subprocess.TimeoutExpired:
             self.running.kill()
             raise Wrong("the program does not end") from None
-        return told, self.running.returncode
+        self.listener.join(PATIENCE)
+        self.running.stdout.close()
+        return self.told, self.running.returncode
+
+    def comes(self, event) -> bool:
+        """Whether an event comes, before the server has stopped or soon after that."""
+        end = time.time() + PATIENCE
+        while time.time() < end and not self.has_stopped.is_set():
+            if event.wait(0.01):
+                return True
+        return event.wait(GRACE)
 
 
 def start(directory: Path, env: dict[str, str]) -> Server:
@@ -82,8 +108,7 @@ def start(directory: Path, env: dict[str, str]) -> Server:
         server = Server(directory, env)
         if server.serves:
             return server
-        told, status = server.end()
-        server.told, server.status = told, status
+        told, server.status = server.end()
         if "listen" not in told:
             return server
 
@@ -98,9 +123,13 @@ def write(server: Server, first: int) -> list[str]:
     created = []
     zk = client_of(server)
     try:
-        zk.start(PATIENCE)
+        if not server.comes(zk.start_async()):
+            return created
         for number in range(first, first + NODES):
-            created.append(zk.create(f"/node{number}", str(number).encode()))
+            reply = zk.create_async(f"/node{number}", str(number).encode())
+            if not server.comes(reply):
+                return created
+            created.append(reply.get())
     except (KazooException, KazooTimeoutError):
         pass
     finally:
@@ -157,20 +186,35 @@ def run(kind: str, at: int, base: Path | None, before: list[str], room: Path, li
     return has_failed
 
 
-def run_all(kind: str, base: Path | None, before: list[str], room: Path, library: Path) -> int:
+def run_all(kind: str, every: int, base: Path | None, before: list[str], room: Path, library: Path) -> int:
     """The number of calls of a kind that failed in turn."""
     failed = 0
     with ThreadPoolExecutor(max_workers=LANES) as lanes:
-        for first in range(1, ENOUGH, LANES):
-            results = list(lanes.map(lambda at: run(kind, at, base, before, room, library), range(first, first + LANES)))
+        for first in range(1, ENOUGH, LANES * every):
+            group = range(first, first + LANES * every, every)
+            results = list(lanes.map(lambda at: run(kind, at, base, before, room, library), group))
             failed += sum(results)
             if not all(results):
                 return failed
     raise Wrong(f"more than {ENOUGH} calls of the kind {kind}")
 
 
+def check_damage(base: Path, room: Path) -> None:
+    """A log without the entries that are stored is no failure of the disk."""
+    directory = room / "damaged"
+    shutil.copytree(base, directory)
+    os.truncate(directory / "1" / "version-2" / "log.1", 20)
+    server = start(directory, {})
+    told, status = server.end() if server.serves else (server.told, server.status)
+    if (told, status) != ("zk: data: the log of server 1 is damaged\n", 1):
+        raise Wrong(f"a damaged log: it prints {told!r} and ends with {status}")
+
+
 def main() -> int:
-    kinds = sys.argv[1:] or list(KINDS)
+    words, every = sys.argv[1:], 1
+    if words[:1] == ["--every"]:
+        every, words = int(words[1]), words[2:]
+    kinds = words or list(KINDS)
     began = time.time()
     with tempfile.TemporaryDirectory() as work:
         room = Path(work).resolve()
@@ -181,9 +225,10 @@ def main() -> int:
         before = write(server, 0)
         if len(before) != NODES or server.end() != ("", 0):
             raise Wrong("a directory with data is not written")
+        check_damage(base, room)
         for kind in kinds:
-            fresh = run_all(kind, None, [], room, library)
-            old = run_all(kind, base, before, room, library)
+            fresh = run_all(kind, every, None, [], room, library)
+            old = run_all(kind, every, base, before, room, library)
             print(f"failing_files: {fresh} calls of the kind {kind} failed in turn on a new directory, and {old} on one with data")
         if not (base / "1" / "version-2" / "acceptedEpoch").read_text().isdecimal():
             raise Wrong("acceptedEpoch is no decimal")
