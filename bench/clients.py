@@ -7,6 +7,9 @@ usage: bench/clients.py [stock]      in a checkout where `rt ci` has left the pr
        bench/clients.py HOST:PORT,.. measures servers that run
        bench/clients.py steady [SECONDS]  a thousand writes a second, for SECONDS, 600 if left out: the latencies
        bench/clients.py memory       resident memory after 1,000 and after 1,000,000 writes of 100 bytes to one node, and reads of it
+       bench/clients.py durable [SERVERS] [WRITES]  on a new directory of the disk on which TMPDIR lies: writes a second with 100 in flight,
+                                     resident memory after WRITES of them (1,000,000 if left out), and how long a start takes on them
+                                     after kill -9, beside `zk show`
 
 The clients are processes of this script, over raw sockets of the loopback: 8 connections, one after the other to the servers, with 16
 requests in flight on each. Requests are packed before the clock starts. A write is a setData of 100 bytes to a node of the
@@ -16,6 +19,7 @@ their data in /dev/shm, so that neither side waits for a disk.
 """
 import multiprocessing
 import os
+import resource
 import shutil
 import socket
 import struct
@@ -167,10 +171,13 @@ def until_serving(addresses):
 class Ours:
     name = "zk ensemble"
 
+    def __init__(self, servers=3, directory=None):
+        self.servers, self.words = servers, ["--data", directory] if directory else []
+
     def __enter__(self):
-        first = free_ports(3)
-        self.child = subprocess.Popen([ZK, "ensemble", str(first), "3"], stdin=subprocess.PIPE, stdout=subprocess.DEVNULL)
-        self.addresses = ["127.0.0.1:%d" % (first + it) for it in range(3)]
+        first = free_ports(self.servers)
+        self.child = subprocess.Popen([ZK, "ensemble", str(first), str(self.servers), *self.words], stdin=subprocess.PIPE, stdout=subprocess.PIPE)
+        self.addresses = ["127.0.0.1:%d" % (first + it) for it in range(self.servers)]
         until_serving(self.addresses)
         return self
 
@@ -257,8 +264,50 @@ def memory():
             print("1,000,000 %s: %d bytes more than after 1,000, %.0f each" % (word, grown, grown / 1e6))
 
 
+def start_seconds(servers, directory):
+    """The CPU seconds and the wall-clock seconds until a start has its data, and prints that it serves."""
+    begun = time.perf_counter()
+    service = Ours(servers, directory)
+    with subprocess.Popen([ZK, "ensemble", str(free_ports(servers)), str(servers), *service.words], stdin=subprocess.PIPE, stdout=subprocess.PIPE) as child:
+        child.stdout.readline()
+        wall = time.perf_counter() - begun
+        with open("/proc/%d/schedstat" % child.pid, encoding="utf-8") as it:
+            cpu = int(it.read().split()[0]) / 1e9
+        child.kill()
+    return cpu, wall
+
+
+def show_seconds(directory):
+    begun, before = time.perf_counter(), resource.getrusage(resource.RUSAGE_CHILDREN)
+    subprocess.run([ZK, "show", directory, "last"], stdout=subprocess.DEVNULL, check=True)
+    after = resource.getrusage(resource.RUSAGE_CHILDREN)
+    return after.ru_utime + after.ru_stime - before.ru_utime - before.ru_stime, time.perf_counter() - begun
+
+
+def durable(servers, writes):
+    """100 in flight, over ten connections, to one node."""
+    global CONNECTIONS, DEPTH
+    CONNECTIONS, DEPTH = 10, 10
+    with tempfile.TemporaryDirectory() as room:
+        directory = os.path.join(room, "data")
+        with Ours(servers, directory) as service:
+            seconds = min(seconds_of(service.addresses, SET_DATA, WRITES) for _ in range(TURNS))
+            print("%d servers: %.0f durable writes a second" % (servers, WRITES / seconds))
+            first = service.resident()
+            seconds_of(service.addresses, SET_DATA, writes)
+            print("resident after %d writes: %.0f MB, %.0f bytes a write" % (writes + TURNS * WRITES, service.resident() / 1e6, (service.resident() - first) / writes))
+        starts = [start_seconds(servers, directory) for _ in range(TURNS)]
+        shows = [show_seconds(os.path.join(directory, "1")) for _ in range(TURNS)]
+        cpu, wall = (min(it) for it in zip(*starts))
+        show_cpu, show_wall = (min(it) for it in zip(*shows))
+        print("a start: %.2f s of CPU, %.2f s; `zk show` of one server's directory: %.2f s of CPU, %.2f s: %.2f times, by server"
+              % (cpu, wall, show_cpu, show_wall, cpu / servers / show_cpu))
+
+
 def main():
     words = sys.argv[1:]
+    if words[:1] == ["durable"]:
+        return durable(int(words[1]) if words[1:] else 3, int(words[2]) if words[2:] else 1000000)
     if words[:1] == ["steady"]:
         return steady(int(words[1]) if words[1:] else 600)
     if words == ["memory"]:
