@@ -1,8 +1,11 @@
 pub mod Each
 pub mod Frames
+pub mod Kept
 pub mod Lists
+pub mod Ordering
 pub mod Owning
 pub mod Reading
 pub mod Requesting
 pub mod Serving
+pub mod Taking
 pub mod Turning

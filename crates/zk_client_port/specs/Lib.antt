@@ -1,6 +1,7 @@
 pub mod Demands
 pub mod Execution
 pub mod Flushing
+pub mod FrameLaws
 pub mod Laws
 pub mod Listings
 pub mod Outputs
