@@ -101,17 +101,17 @@ def check_all(hosts: str, writers: list) -> int:
     zk = KazooClient(hosts, timeout=10.0)
     zk.start(PATIENCE)
     try:
-        zk.sync("/")
+        zk.retry(zk.sync, "/")
         for writer, (created, version) in zip(writers, kept):
             home = f"/writer{writer.number}"
             if not created:
                 continue
-            children = set(zk.get_children(home))
+            children = set(zk.retry(zk.get_children, home))
             for path, _ in created:
                 assert path.rsplit("/", 1)[1] in children, f"lost: {path}"
             for path, content in random.sample(created, min(20, len(created))):
-                assert zk.get(path)[0] == content, path
-            assert zk.get(home)[1].version >= version, f"{home} is at an older version than {version}"
+                assert zk.retry(zk.get, path)[0] == content, path
+            assert zk.retry(zk.get, home)[1].version >= version, f"{home} is at an older version than {version}"
         return sum(len(created) for created, _ in kept)
     finally:
         zk.stop()
