@@ -2,6 +2,8 @@
 use Rattle.std.proofs.Common.{◌≡◌, ◌≤◌, ℕ, ℤ, suc, Bool, true, false, List, [], ◌∷◌, ◌++◌, Option, Some, None, Result, Ok, Err, OnOk, map, refl, sym, ap, ◌∙◌, subst, append-nil, arith}
 use Rattle.std.proofs.Math.Nat.{max-le}
 use Rattle.std.specs.Prelude.{codes, decimal, option_and_then}
+use Rattle.std.proofs.lemmas.Result.{on_ok_weaker}
+use Rattle.std.specs.Borrow.{Bor}
 use Rattle.std.specs.Str.{is_utf8}
 use Rattle.json.specs.Json.{Json, document, if_last, max_depth, number, string, value}
 use Rattle.json.specs.Lex.{tokens}
@@ -18,9 +20,14 @@ use Rattle.zk_txn.specs.declared.sub.Sub.TheVariants as subs
 use Rattle.zk_txn.specs.declared.txn.Op.{Op}
 use Rattle.zk_txn.specs.declared.txn.Op.TheVariants as ops
 use Rattle.zk_txn.specs.declared.txn.Txn.{Txn}
+use Rattle.zk_json.specs.Changes.{AppendsChange, AppendsChangeLine, IsChange, IsSide, change_of}
 use Rattle.zk_json.specs.Incidents.{count_of, history_of}
 use Rattle.zk_json.specs.Json.{AppendsLineOf, Fields, acl_entry_fields, acl_entry_of, acl_of, data_of, items_of, members_of, object_of, strings_of, text_by, text_of}
 use Rattle.zk_json.specs.Nodes.{node_fields, node_of}
+use Rattle.zk_json.specs.Objects.{field_of, value_of}
+use Rattle.zk_json.specs.declared.changes.Held.{Held}
+use Rattle.zk_json.specs.declared.objects.Value.{Value}
+use Rattle.zk_json.specs.declared.objects.Value.TheVariants as values
 use Rattle.zk_json.specs.Records.{create_fields, create_old_fields, op_fields, part_fields, part_of, record_fields, record_of, set_acl_fields}
 
 -- ---- depths
@@ -100,13 +107,39 @@ history_depth time paths txn =
     let first : depth (strings_of paths) ≤ 6 = (let one = strings_depth paths in omega arith) in
     let inner = shallow_object 6 ((codes "paths", strings_of paths) ∷ record_fields time txn) (first, record_shallow time txn) in omega arith
 
+pub held_depth : (ctime mtime path : List ℕ) (node : Node) (stat : Stat) → depth (node_of ctime mtime path node stat) ≤ 5
+held_depth ctime mtime path node stat =
+    shallow_object 4 (node_fields ctime mtime path node stat) (zero_le 4, (data_depth node.content, (text_depth node.content, (acl_depth node.acl, (zero_le 4, (zero_le 4, (zero_le 4, (zero_le 4, (zero_le 4, (zero_le 4, (zero_le 4, (zero_le 4, (zero_le 4, tt)))))))))))))
+
 pub node_depth : (ctime mtime path : List ℕ) (node : Node) (stat : Stat) → depth (node_of ctime mtime path node stat) ≤ max_depth
-node_depth ctime mtime path node stat =
-    let inner = shallow_object 4 (node_fields ctime mtime path node stat) (zero_le 4, (data_depth node.content, (text_depth node.content, (acl_depth node.acl, (zero_le 4, (zero_le 4, (zero_le 4, (zero_le 4, (zero_le 4, (zero_le 4, (zero_le 4, (zero_le 4, (zero_le 4, tt))))))))))))) in
-    omega arith
+node_depth ctime mtime path node stat = let inner = held_depth ctime mtime path node stat in omega arith
 
 pub count_depth : (name text : List ℕ) (count : ℕ) → depth (count_of name text count) ≤ max_depth
 count_depth name text count = let inner = shallow_object 0 ((codes "writes", number (decimal count)) ∷ (name, string text) ∷ []) (zero_le 0, (zero_le 0, tt)) in omega arith
+
+value_depth : (value : Value) → depth (value_of value) ≤ 0
+value_depth values.Null = zero_le 0
+value_depth (values.Text text) = zero_le 0
+value_depth (values.Count count) = zero_le 0
+value_depth (values.Id id) = zero_le 0
+value_depth (values.Flag flag) = zero_le 0
+
+flat_shallow : (fields : List (Bor (List ℕ) × Value)) → AreShallow 0 (map field_of fields)
+flat_shallow [] = tt
+flat_shallow (field ∷ fields) = (value_depth field.1, flat_shallow fields)
+
+pub flat_depth : (fields : List (Bor (List ℕ) × Value)) → depth (object_of (map field_of fields)) ≤ max_depth
+flat_depth fields = let inner = shallow_object 0 (map field_of fields) (flat_shallow fields) in omega arith
+
+side_depth : (path : List ℕ) (held : Option Held) (json : Json) → IsSide path held json → depth json ≤ 5
+side_depth path None json h = rw h (zero_le 5)
+side_depth path (Some held) json h = rw h.4 (held_depth h.0 h.1 path held.node.now held.stat.now)
+
+change_depth : (path : List ℕ) (before after : Option Held) (json : Json) → IsChange path before after json → depth json ≤ max_depth
+change_depth path before after json h =
+    let inner = shallow_object 5 ((codes "path", string path) ∷ (codes "before", h.0) ∷ (codes "after", h.1) ∷ []) (zero_le 5, (side_depth path before h.0 h.2, (side_depth path after h.1 h.3, tt))) in
+    let short : depth (change_of path h.0 h.1) ≤ max_depth = omega arith in
+    subst (λ (j : Json). depth j ≤ max_depth) (sym h.4) short
 
 -- ---- texts
 
@@ -122,3 +155,8 @@ finished (Ok done) json start written old new h none are read is =
     let all : written ≡ json_tokens json = are ∙ ap (λ (ts : List Token). ts ++ json_tokens json) none in
     (print (json_tokens json) ++ 10 ∷ [], record { is = refl; read = read_back json written all read h }, is ∙ ap (λ (ts : List Token). old ++ (print ts ++ 10 ∷ [])) all)
 finished (Err refused) json start written old new h none are read is = tt
+
+pub changed : (r : Result (Unit {0}) NoMemory) (path : List ℕ) (before after : Option Held) (start written : List Token) (old new : List ℕ)
+    → start ≡ [] → AppendsChange path before after start written → tokens (print written) ≡ written → OnOk r (new ≡ old ++ (print written ++ 10 ∷ [])) → OnOk r (AppendsChangeLine path before after old new)
+changed r path before after start written old new none h read is =
+    on_ok_weaker r (λ a. (a.0, (h.0, h.1, a.1), a.2)) (finished r h.0 start written old new (change_depth path before after h.0 h.1) none h.2 read is)

@@ -1,6 +1,7 @@
 -- The tokens of objects and arrays.
-use Rattle.std.proofs.Common.{◌≡◌, ℕ, ℤ, Bool, true, false, List, [], ◌∷◌, ◌++◌, Result, Ok, Err, OnOk, map, refl, sym, ap, ◌∙◌, subst, append_assoc, append-nil}
+use Rattle.std.proofs.Common.{◌≡◌, ℕ, ℤ, Bool, true, false, List, [], ◌∷◌, ◌++◌, Option, Result, Ok, Err, OnOk, map, refl, sym, ap, ◌∙◌, subst, append_assoc, append-nil}
 use Rattle.std.specs.List.{flat_map}
+use Rattle.std.specs.Prelude.{codes}
 use Rattle.std.specs.Str.{IsUtf8, is_utf8}
 use Rattle.std.proofs.lemmas.Str.{IsUtf8-from_is_utf8, is_utf8-from_IsUtf8}
 use Rattle.json.specs.Json.{Json, null, string}
@@ -8,6 +9,8 @@ use Rattle.json.specs.Token.{Token, begin_array, begin_object, end_array, end_ob
 use Rattle.json.specs.Tree.{json_tokens, items_tokens, members_tokens}
 use Rattle.zk_path.specs.declared.memory.NoMemory.{NoMemory}
 use Rattle.zk_times.specs.Times.{AppendsTime, IsTimeText}
+use Rattle.zk_json.specs.Changes.{AppendsChange, AppendsSide, change_of}
+use Rattle.zk_json.specs.declared.changes.Held.{Held}
 use Rattle.zk_json.specs.Json.{Fields, array_of, fields_tokens, items_of, members_of, object_of, text_by}
 
 -- ---- objects
@@ -74,3 +77,22 @@ array_added of (Err refused) old one two three new name xs e f g h = tt
 
 pub timed : (time : ℤ) (old new : List ℕ) → old ≡ [] → AppendsTime old time new → IsTimeText time new
 timed time old new none h = subst (λ (l : List ℕ). IsTimeText time l) (sym (h.2 ∙ ap (λ l. l ++ h.0) none)) h.1
+
+-- ---- changes
+
+-- a field, by the tokens of its value
+field_added : (old one two : List Token) (name : List ℕ) (json : Json) → one ≡ old ++ key name ∷ [] → two ≡ one ++ json_tokens json → two ≡ old ++ fields_tokens ((name, json) ∷ [])
+field_added old one two name json e f = then old one two (key name ∷ []) (json_tokens json) e f ∙ ap (λ (l : List Token). old ++ key name ∷ l) (sym (append-nil (json_tokens json)))
+
+pub changed_tokens : (r : Result (Unit {0}) NoMemory) (path : List ℕ) (before after : Option Held) (old brace placed named sided named' sided' new : List Token)
+    → brace ≡ old ++ begin_object ∷ [] → placed ≡ brace ++ fields_tokens ((codes "path", string path) ∷ [])
+    → named ≡ placed ++ key (codes "before") ∷ [] → AppendsSide path before named sided
+    → named' ≡ sided ++ key (codes "after") ∷ [] → AppendsSide path after named' sided'
+    → OnOk r (new ≡ sided' ++ end_object ∷ []) → OnOk r (AppendsChange path before after old new)
+changed_tokens (Ok done) path before after old brace placed named sided named' sided' new e f g h g' h' i =
+    let one : sided ≡ placed ++ fields_tokens ((codes "before", h.0) ∷ []) = field_added placed named sided (codes "before") h.0 g h.2 in
+    let two : sided' ≡ sided ++ fields_tokens ((codes "after", h'.0) ∷ []) = field_added sided named' sided' (codes "after") h'.0 g' h'.2 in
+    let front = add brace placed sided ((codes "path", string path) ∷ []) ((codes "before", h.0) ∷ []) f one in
+    let all = add brace sided sided' ((codes "path", string path) ∷ (codes "before", h.0) ∷ []) ((codes "after", h'.0) ∷ []) front two in
+    (change_of path h.0 h'.0, (h.0, h'.0, h.1, h'.1, refl), wrapped (Ok done) old brace sided' new ((codes "path", string path) ∷ (codes "before", h.0) ∷ (codes "after", h'.0) ∷ []) e all i)
+changed_tokens (Err refused) path before after old brace placed named sided named' sided' new e f g h g' h' i = tt

@@ -2,4 +2,6 @@
 pub mod Json
 pub mod Records
 pub mod Nodes
+pub mod Objects
+pub mod Changes
 pub mod Incidents

@@ -50,7 +50,7 @@ pub(crate) fn push_boolean_field(
 
 /// The hexadecimal digits of a zxid or a session id.
 #[tactic(auto, unfolding(crate::specs::Json::id_text))]
-fn id_text(alloc: Global, id: i64) -> Result<String, NoMemory>
+pub(crate) fn id_text(alloc: Global, id: i64) -> Result<String, NoMemory>
     ensures { IfOk result (λ text. string_bytes text ≡ id_text id) }
 {
     let mut text = String::new(alloc);

@@ -2,14 +2,18 @@
 //! form of RFC 8259.
 #![tactic(auto)]
 
+mod changes;
 mod contents;
 mod fields;
 mod incidents;
 mod json_text;
 mod nodes;
+mod objects;
 mod operations;
 mod records;
 
+pub use changes::{Held, push_change_line};
 pub use incidents::{push_count_line, push_history_line};
 pub use nodes::push_node_line;
+pub use objects::{Value, push_object_line};
 pub use records::push_record_line;

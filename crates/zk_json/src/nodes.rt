@@ -49,7 +49,7 @@ fn push_held_fields(json: &mut JsonText, path: &Path, node: &Node) -> Result<(),
 }
 
 /// Appends a node, with the texts of the stat's times.
-fn push_node(
+pub(crate) fn push_node(
     json: &mut JsonText,
     ctime: &str,
     mtime: &str,

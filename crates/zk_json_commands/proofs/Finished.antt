@@ -10,27 +10,10 @@ use Rattle.zk_newer_records.specs.declared.newer_record.NewerRecord.{NewerRecord
 use Rattle.zk_record_folds.specs.Folds.{AllFollow}
 use Rattle.zk_txn.specs.declared.txn.Txn.{Txn}
 use Rattle.zk_json_commands.specs.Histories.{AppendsLineBy, Follows, IsHistoryFrom}
-use Rattle.zk_json_commands.specs.Lines.{AreLines}
-use Rattle.zk_json_commands.specs.Records.{AppendsRecord, IsLine}
 use Rattle.zk_json_commands.specs.declared.history_lines.HistoryLines.{HistoryLines}
-use Rattle.zk_json_commands.specs.declared.record_lines.RecordLines.{RecordLines}
 
 abbrev texts_of : List (Bor (List ℕ)) → List (List ℕ)
 texts_of paths = map (λ (path : Bor (List ℕ)). path.now) paths
-
--- ---- records
-
-lines_from : (start new : RecordLines) (records : List NewerRecord) → AllFollow AppendsRecord start records new → (text : List ℕ) × AreLines IsLine records text × (string_bytes new.text ≡ string_bytes start.text ++ text)
-lines_from start new [] e = ([], refl, ap (λ (l : RecordLines). string_bytes l.text) e ∙ sym (append-nil (string_bytes start.text)))
-lines_from start new (newer ∷ records) f =
-    let more = lines_from f.0 new records f.2 in
-    let line = f.1 in
-    (line.0 ++ more.0, (line.0, more.0, line.1, more.1, refl), more.2 ∙ ap (λ l. l ++ more.0) line.2 ∙ append_assoc (string_bytes start.text) line.0 more.0)
-
-pub records_told : (start new : RecordLines) (records : List NewerRecord) → string_bytes start.text ≡ [] → AllFollow AppendsRecord start records new → AreLines IsLine records (string_bytes new.text)
-records_told start new records none f =
-    let told = lines_from start new records f in
-    subst (λ (l : List ℕ). AreLines IsLine records l) (sym (told.2 ∙ ap (λ l. l ++ told.0) none)) told.1
 
 -- ---- a history
 

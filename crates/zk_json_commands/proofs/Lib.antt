@@ -1,3 +1,4 @@
 pub mod Finished
 pub mod Written
 pub mod Rows
+pub mod Loaded

@@ -1,6 +1,6 @@
 -- What the contracts of this crate cite.
 pub mod Lines
-pub mod Records
 pub mod Histories
+pub mod Logs
 pub mod Nodes
 pub mod Tops

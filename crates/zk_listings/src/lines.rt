@@ -1,26 +1,30 @@
-//! The lines of transactions.
+//! The lines of a directory's transactions.
 ghost use Rattle.std.specs.Prelude.{◌≡◌, []};
 ghost use Rattle.std.specs.String.{string_bytes};
-ghost use Rattle.zk_json_commands.specs.Records.{AppendsRecord};
+ghost use Rattle.zk_listings.specs.Listings.{AppendsRecord};
 
 use std::alloc::Global;
-use zk_json::push_record_line;
+use zk_form_args::Form;
 use zk_newer_records::NewerRecord;
 use zk_path::NoMemory;
 use zk_record_folds::RecordFold;
+use zk_txn_lines::push_txn_line;
 
 /// A line for each record so far.
 #[derive(Drop)]
 pub(crate) struct RecordLines {
+    form: Form,
     pub(crate) text: String,
 }
 
 impl RecordLines {
     /// No record yet.
-    pub(crate) fn new(alloc: Global) -> RecordLines
-        ensures { string_bytes result.text ≡ [] }
+    pub(crate) fn new(alloc: Global, form: Form) -> RecordLines
+        ensures form { result.form ≡ form }
+        ensures text { string_bytes result.text ≡ [] }
     {
         RecordLines {
+            form,
             text: String::new(alloc),
         }
     }
@@ -30,6 +34,6 @@ impl RecordFold for RecordLines {
     ghost follows = { AppendsRecord };
 
     fn take(&mut self, newer: &NewerRecord) -> Result<(), NoMemory> {
-        push_record_line(&mut self.text, &newer.txn)
+        push_txn_line(&mut self.text, self.form, &newer.txn)
     }
 }

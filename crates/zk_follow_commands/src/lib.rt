@@ -1,0 +1,12 @@
+//! `zk list --follow` of a data directory, over any logs and any writers.
+#![tactic(auto)]
+
+mod fault;
+mod follower;
+mod logs;
+mod polling;
+
+pub use fault::FollowFault;
+pub use follower::Follower;
+pub use logs::GrowingLogs;
+pub use polling::follow;

@@ -1,0 +1,61 @@
+//! The loop of `zk list --follow`.
+ghost use Rattle.std.specs.Prelude.{◌≡◌, ◌-◌, ◌<◌, ◌^◌};
+ghost use Rattle.zk_records.specs.Sinks.{write_failures_of};
+
+use crate::fault::FollowFault;
+use crate::follower::Follower;
+use crate::logs::GrowingLogs;
+use std::alloc::Global;
+use std::io::Write;
+use std::sync::Wait;
+use std::thread;
+use std::time::{Clock, Duration};
+use zk_folder_commands::tell_fault;
+use zk_form_args::Form;
+use zk_log::Sink;
+use zk_log_commands::tell;
+use zk_path::NoMemory;
+
+/// The time between two looks, in milliseconds.
+const PAUSE: u64 = 100;
+
+/// Writes a line for each transaction of a directory's logs as soon as it stands whole, each once,
+/// until the logs are broken or the output cannot be written. Returns the exit status, 1.
+pub fn follow<R: Wait + Clock, G: GrowingLogs, O: Write, E: Write>(
+    rt: &R,
+    alloc: Global,
+    form: Form,
+    logs: &G,
+    output: &mut Sink<O>,
+    faults: &mut Sink<E>,
+) -> Result<u8, NoMemory>
+    requires output { write_failures_of output.old < 2 ^ 64 - 1 }
+    requires faults { write_failures_of faults.old < 2 ^ 64 - 1 }
+{
+    let mut follower = Follower::new(form);
+    'looks: for _ in rt.forever() {
+        match follower.poll(alloc, logs, output) {
+            Ok(()) => thread::sleep(rt, Duration::from_millis(PAUSE)),
+            Err(fault) => return tell_end(alloc, fault, faults),
+        }
+    }
+    unreachable!()
+}
+
+/// Writes the line for why a follower stops. Returns the exit status.
+fn tell_end<E: Write>(
+    alloc: Global,
+    fault: FollowFault,
+    faults: &mut Sink<E>,
+) -> Result<u8, NoMemory>
+    requires { write_failures_of faults.old < 2 ^ 64 - 1 }
+{
+    match fault {
+        FollowFault::Write => {
+            tell(faults, "zk: write\n");
+            Ok(1)
+        }
+        FollowFault::History(history) => tell_fault(alloc, &history, faults),
+        FollowFault::NoMemory => Err(NoMemory),
+    }
+}

@@ -1,0 +1,16 @@
+use Rattle.std.proofs.Common.{◌≡◌, ℤ, w64, refl, rules, subst}
+use Rattle.std.proofs.lemmas.Int.{to_z-of_z}
+use Rattle.std.proofs.lemmas.Result.{on_ok_weaker}
+use Rattle.zk_json.specs.Nodes.{node_of}
+use Rattle.zk_times.specs.Times.{IsTimeText}
+use Rattle.zk_json.proofs.changes.push_held.Goals as goal
+
+pub returns : goal.returns
+returns c =
+    let held = c.args.held in
+    let stat = held.stat.now in
+    let ctime = c.as_str.result.now in
+    let mtime = c.as_str-2.result.now in
+    let first : IsTimeText stat.ctime ctime = subst (λ (t : ℤ). IsTimeText t ctime) (to_z-of_z w64 stat.ctime (search rules)) (search rules) in
+    let second : IsTimeText stat.mtime mtime = subst (λ (t : ℤ). IsTimeText t mtime) (to_z-of_z w64 stat.mtime (search rules)) (search rules) in
+    on_ok_weaker c.push_node.result (λ e. (node_of ctime mtime c.args.path.now held.node.now stat, (ctime, mtime, first, second, refl), e)) c.push_node.ensures
