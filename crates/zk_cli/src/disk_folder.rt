@@ -1,8 +1,13 @@
 //! A data directory on the disk.
 
 use std::alloc::{AllocError, Global};
+use std::io::{Read, Seek, SeekFrom};
 use std::{fs, io};
-use zk_folder::{Folder, FolderFault};
+use zk_directory::FileName;
+use zk_directory_commands::logs_in;
+use zk_folder::{Folder, FolderFault, push_log_name};
+use zk_folder_commands::HistoryFault;
+use zk_follow_commands::GrowingLogs;
 
 /// The name of the directory that servers create in a data directory.
 const VERSION: &str = "version-2";
@@ -60,6 +65,48 @@ impl Folder for DiskFolder<'_> {
             Err(error) => Err(fault_of(&error)),
         }
     }
+}
+
+impl GrowingLogs for DiskFolder<'_> {
+    fn zxids(&self, alloc: Global) -> Result<Vec<i64>, HistoryFault> {
+        logs_in(alloc, self)
+    }
+
+    fn read(
+        &self,
+        alloc: Global,
+        zxid: i64,
+        at: u64,
+        count: usize,
+    ) -> Result<Vec<u8>, HistoryFault> {
+        let mut name = String::new(alloc);
+        push_log_name(&mut name, zxid)?;
+        let path = join(alloc, self.path.as_str(), name.as_str())?;
+        match read_part(self.rt, path.as_str(), at, count) {
+            Ok(bytes) => Ok(bytes),
+            Err(error) if error.kind() == io::ErrorKind::OutOfMemory => {
+                Err(HistoryFault::NoMemory)
+            }
+            Err(_) => Err(HistoryFault::Unreadable(FileName::Log { zxid })),
+        }
+    }
+}
+
+/// The bytes of a file from an offset on, as many as asked for or to its end.
+fn read_part(rt: &HostRuntime, path: &str, at: u64, count: usize) -> io::Result<Vec<u8>> {
+    let mut file = fs::open(rt, path)?;
+    file.seek(SeekFrom::Start(at))?;
+    let mut bytes = vec![in rt.alloc(); 0; count]?;
+    let mut held = 0;
+    while held < count {
+        let read = file.read(&mut bytes[held..])?;
+        if read == 0 {
+            break;
+        }
+        held += read;
+    }
+    bytes.truncate(held);
+    Ok(bytes)
 }
 
 /// Whether a path leads to a directory.

@@ -1,76 +1,81 @@
 //! The commands that write JSON.
 
-use crate::disk_folder::{DiskFolder, is_directory};
-use crate::faults::faults;
+use crate::disk_folder::DiskFolder;
+use crate::faults::{faults, refuse};
+use crate::forms::{Target, list_in_form, target_of};
 use crate::incidents::{bound_of, key_of};
 use crate::looking::upto_of;
-use std::io;
-use zk_cli_args::{
-    Command, CommandFault, FolderJob, FolderOrder, HistoryJob, TopJob, folder_job_from, history_of,
-    read_command_line, top_of,
-};
-use zk_form_args::{Form, form_of};
+use std::io::Read;
+use std::{fs, io};
+use zk_cli_args::{FolderJob, FolderOrder, HistoryJob, Job, Order, TopJob, history_of, top_of};
+use zk_directory_commands::Upto;
+use zk_form_args::Form;
 use zk_incidents::Range;
-use zk_json_commands::{history_json, list_json, show_json, top_json};
-use zk_log::Sink;
+use zk_json_commands::{history_json, show_json, show_log_json, top_json};
+use zk_log::{Sink, Source};
 use zk_path::NoMemory;
 
-/// Runs the command that words name, if they ask for JSON. Returns its exit status; `None` if they
-/// do not, or if the command has no such form.
+/// Runs the command that words name as JSON. Returns its exit status; `None` if the command has no
+/// such form.
 pub(crate) fn run_json(rt: &HostRuntime, words: &[&str]) -> Result<Option<u8>, NoMemory> {
-    let asked = form_of(rt.alloc(), words)?;
-    if asked.form != Form::Json {
-        return Ok(None);
-    }
-    let others = asked.others.as_slice();
-    if let Some(job) = history_of(rt.alloc(), others)? {
+    if let Some(job) = history_of(rt.alloc(), words)? {
         return Ok(Some(tell_history(rt, &job)?));
     }
-    if let Some(job) = top_of(rt.alloc(), others)? {
+    if let Some(job) = top_of(rt.alloc(), words)? {
         return Ok(Some(tell_top(rt, &job)?));
     }
-    match directory_job(rt, others)? {
-        Some(job) => look(rt, &job),
+    match target_of(rt, words)? {
+        Some(target) => list_or_show(rt, &target),
         None => Ok(None),
     }
 }
 
-/// The job on a directory that words name.
-fn directory_job<'a>(
-    rt: &HostRuntime,
-    words: &'a [&'a str],
-) -> Result<Option<FolderJob<'a>>, NoMemory> {
-    match read_command_line(rt.alloc(), words) {
-        Ok(Command::Look(job)) => Ok(Some(job)),
-        Ok(Command::Act(job)) => match folder_job_from(&job) {
-            Some(folder_job) if is_directory(rt, job.input) => Ok(Some(folder_job)),
-            _ => Ok(None),
+/// Lists or shows a directory or a log.
+fn list_or_show(rt: &HostRuntime, target: &Target) -> Result<Option<u8>, NoMemory> {
+    match target {
+        Target::Directory(job) => match job.order {
+            FolderOrder::Show { until } => Ok(Some(show_directory(rt, upto_of(until), job)?)),
+            _ => list_in_form(rt, Form::Json, target),
         },
-        Ok(Command::Serve(_)) => Ok(None),
-        Err(CommandFault::Refused(_)) => Ok(None),
-        Err(CommandFault::NoMemory) => Err(NoMemory),
+        Target::Log(job) => match job.order {
+            Order::Show { upto } => Ok(Some(show_input(rt, upto, job)?)),
+            _ => list_in_form(rt, Form::Json, target),
+        },
     }
 }
 
-/// Lists or shows a directory.
-fn look(rt: &HostRuntime, job: &FolderJob) -> Result<Option<u8>, NoMemory> {
+/// Shows a directory. Returns the exit status.
+fn show_directory(rt: &HostRuntime, upto: Upto, job: &FolderJob) -> Result<u8, NoMemory> {
     let snapshots = DiskFolder::at(rt, job.folder)?;
     let logs = DiskFolder::at(rt, job.logs.unwrap_or(job.folder))?;
     let mut output = Sink::new(io::writer(rt));
     let mut faults = faults(rt);
-    let status = match job.order {
-        FolderOrder::Files => return Ok(None),
-        FolderOrder::List => { list_json(rt.alloc(), &snapshots, &logs, &mut output, &mut faults)? }
-        FolderOrder::Show { until } => show_json(
-            rt.alloc(),
-            &snapshots,
-            &logs,
-            upto_of(until),
-            &mut output,
-            &mut faults,
-        )?,
-    };
-    Ok(Some(status))
+    show_json(
+        rt.alloc(),
+        &snapshots,
+        &logs,
+        upto,
+        &mut output,
+        &mut faults,
+    )
+}
+
+/// Shows a log. Returns the exit status.
+fn show_input(rt: &HostRuntime, upto: Option<i64>, job: &Job) -> Result<u8, NoMemory> {
+    if job.input == "@" {
+        return show_file(rt, upto, rt.reader());
+    }
+    match fs::open(rt, job.input) {
+        Ok(file) => show_file(rt, upto, file),
+        Err(_) => Ok(refuse(rt, "read")),
+    }
+}
+
+fn show_file<F: Read + Drop>(rt: &HostRuntime, upto: Option<i64>, file: F) -> Result<u8, NoMemory> {
+    let mut file = Source::new(file);
+    let mut output = Sink::new(io::writer(rt));
+    let mut faults = faults(rt);
+    show_log_json(rt.alloc(), upto, &mut file, &mut output, &mut faults)
 }
 
 /// Writes the history of a node. Returns the exit status.

@@ -8,6 +8,7 @@ mod debugging;
 mod disk_folder;
 mod ensemble;
 mod faults;
+mod forms;
 mod incidents;
 mod json;
 mod listening;
@@ -18,8 +19,8 @@ use debugging::{debug_directory, debugs_directory};
 use disk_folder::is_directory;
 use ensemble::run_ensemble;
 use faults::{faults, refuse};
+use forms::run_formed;
 use incidents::run_named;
-use json::run_json;
 use listening::listen;
 use looking::look;
 use std::io::{IsTerminal, Read, Write};
@@ -73,7 +74,7 @@ fn run<R: Threads + Wait + Net<Listener = TcpListener, Stream = TcpStream> + tim
     if let Some(ensemble) = ensemble_of(rt.alloc(), texts.as_slice())? {
         return run_ensemble(rt, threads, &ensemble);
     }
-    if let Some(status) = run_json(rt, texts.as_slice())? {
+    if let Some(status) = run_formed(rt, threads, texts.as_slice())? {
         return Ok(status);
     }
     if let Some(status) = run_named(rt, texts.as_slice())? {

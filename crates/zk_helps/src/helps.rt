@@ -421,7 +421,8 @@ Of a directory these have the file's NAME before AT, and there are more:
               this snapshot is unusable, and no log has a record
 and `read` and `write` if a file or directory cannot be opened or written, and `memory`.
 
-Of a directory, --json prints an object of JSON for each line.
+With --json a line is an object of JSON. `zk list` also takes --time iso, for times in UTC, and of a
+directory --follow: it goes on as the server writes, until it is stopped or its output is closed.
 
 In the source repository, docs/ERRORS.md has what helps."#;
 
