@@ -12,6 +12,7 @@ import socket
 import struct
 import subprocess
 import sys
+import threading
 import time
 from contextlib import contextmanager
 from pathlib import Path
@@ -298,6 +299,52 @@ def two_hundred_connections_at_each_server():
         for connection in clients:
             connection.close()
         until(lambda: connections(it) == [0, 0, 0], "the end of the connections")
+
+
+@check
+def a_client_that_moves_reads_nothing_older():
+    """Its session moves a hundred times to another server while another client writes."""
+    with ensemble() as it, client(it.hosts(1)) as writer:
+        writer.create("/a", b"")
+        goes_on = threading.Event()
+        goes_on.set()
+
+        def write():
+            while goes_on.is_set():
+                writer.set("/a", b"")
+
+        others = threading.Thread(target=write)
+        others.start()
+        try:
+            session, password, seen, version, refused = 0, bytes(16), 0, -1, 0
+            for move in range(100):
+                while True:
+                    # a server that has not seen as much as the client closes without a reply
+                    with socket.create_connection(("127.0.0.1", it.port + move % 3), PATIENCE) as connection:
+                        connection.sendall(text(struct.pack(">iqiq", 0, seen, 30000, session) + text(password) + b"\0"))
+                        try:
+                            greeting = received(connection, 41)
+                        except (AssertionError, ConnectionResetError):
+                            refused += 1
+                            assert refused < 1000
+                            continue
+                        owner = struct.unpack(">q", greeting[12:20])[0]
+                        assert owner != 0 and session in (0, owner), (session, owner)
+                        session, password = owner, greeting[24:40]
+                        # getData "/a": a header of 16 bytes, no content, a stat of 68
+                        for xid in range(1, 4):
+                            connection.sendall(text(struct.pack(">ii", xid, 4) + text(b"/a") + b"\0"))
+                            reply = received(connection, 4 + 16 + 4 + 68)
+                            _, answered, zxid, error = struct.unpack(">iiqi", reply[:20])
+                            assert (answered, error) == (xid, 0), (answered, error)
+                            now = struct.unpack(">i", reply[24 + 32:24 + 36])[0]
+                            assert now >= version and zxid >= seen, (now, version, zxid, seen)
+                            version, seen = now, zxid
+                    break
+            assert version > 0
+        finally:
+            goes_on.clear()
+            others.join()
 
 
 @check
