@@ -34,8 +34,9 @@ pub(crate) fn run_formed<R: Wait + time::Clock>(
         return run_following(rt, waiting, others.as_slice());
     }
     let asked = form_of(rt.alloc(), words)?;
+    let form = asked.form;
     let others = asked.others.as_slice();
-    match asked.form {
+    match form {
         Form::Lines => Ok(None),
         Form::Json => run_json(rt, others),
         Form::Times => match target_of(rt, others)? {
@@ -52,8 +53,9 @@ fn run_following<R: Wait + time::Clock>(
     words: &[&str],
 ) -> Result<Option<u8>, NoMemory> {
     let asked = form_of(rt.alloc(), words)?;
+    let form = asked.form;
     match target_of(rt, asked.others.as_slice())? {
-        Some(Target::Directory(job)) => follow_directory(rt, waiting, asked.form, &job),
+        Some(Target::Directory(job)) => follow_directory(rt, waiting, form, &job),
         _ => Ok(None),
     }
 }
