@@ -6,6 +6,7 @@ use std::alloc::AllocError;
 use thiserror::Error;
 use zk_folder_commands::HistoryFault;
 use zk_log::WriteFault;
+use zk_log_files::LogFileFault;
 use zk_path::NoMemory;
 
 /// Why a follower stops.
@@ -14,9 +15,15 @@ pub enum FollowFault {
     /// The output cannot be written.
     #[error("write")]
     Write,
-    /// The logs are broken, or cannot be read.
-    #[error("history")]
-    History(HistoryFault),
+    /// The entry at an offset of this log is broken.
+    #[error("log")]
+    Log { log: i64, fault: LogFileFault },
+    /// The transactions between these two are missing.
+    #[error("gap")]
+    Gap { from: i64, to: i64 },
+    /// The logs cannot be read.
+    #[error("read")]
+    Unread(HistoryFault),
     /// An allocation failed.
     #[error("memory")]
     NoMemory,
@@ -31,10 +38,10 @@ impl From<WriteFault> for FollowFault {
 }
 
 impl From<HistoryFault> for FollowFault {
-    ghost from_gives = { λ history fault. fault ≡ faults.History history };
+    ghost from_gives = { λ history fault. fault ≡ faults.Unread history };
 
     fn from(history: HistoryFault) -> FollowFault {
-        FollowFault::History(history)
+        FollowFault::Unread(history)
     }
 }
 

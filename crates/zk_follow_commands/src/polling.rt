@@ -1,5 +1,6 @@
 //! The loop of `zk list --follow`.
-ghost use Rattle.std.specs.Prelude.{◌≡◌, ◌-◌, ◌<◌, ◌^◌};
+ghost use Rattle.std.specs.Prelude.{◌-◌, ◌<◌, ◌^◌};
+ghost use Rattle.zk_follow_commands.specs.Followings.{EndsFollowing, TellsEnd};
 ghost use Rattle.zk_records.specs.Sinks.{write_failures_of};
 
 use crate::fault::FollowFault;
@@ -10,7 +11,7 @@ use std::io::Write;
 use std::sync::Wait;
 use std::thread;
 use std::time::{Clock, Duration};
-use zk_folder_commands::tell_fault;
+use zk_folder_commands::{HistoryFault, tell_fault};
 use zk_form_args::Form;
 use zk_log::Sink;
 use zk_log_commands::tell;
@@ -31,6 +32,7 @@ pub fn follow<R: Wait + Clock, G: GrowingLogs, O: Write, E: Write>(
 ) -> Result<u8, NoMemory>
     requires output { write_failures_of output.old < 2 ^ 64 - 1 }
     requires faults { write_failures_of faults.old < 2 ^ 64 - 1 }
+    ensures { EndsFollowing O.contents E.contents (G.gives logs.now) form output.old output.new faults.old faults.new result }
 {
     let mut follower = Follower::new(form);
     'looks: for _ in rt.forever() {
@@ -49,13 +51,20 @@ fn tell_end<E: Write>(
     faults: &mut Sink<E>,
 ) -> Result<u8, NoMemory>
     requires { write_failures_of faults.old < 2 ^ 64 - 1 }
+    ensures { TellsEnd E.contents fault faults.old faults.new result }
 {
     match fault {
         FollowFault::Write => {
             tell(faults, "zk: write\n");
             Ok(1)
         }
-        FollowFault::History(history) => tell_fault(alloc, &history, faults),
+        FollowFault::Log { log, fault } => {
+            tell_fault(alloc, &HistoryFault::Log { log, fault }, faults)
+        }
+        FollowFault::Gap { from, to } => {
+            tell_fault(alloc, &HistoryFault::Gap { from, to }, faults)
+        }
+        FollowFault::Unread(history) => tell_fault(alloc, &history, faults),
         FollowFault::NoMemory => Err(NoMemory),
     }
 }

@@ -8,5 +8,5 @@ mod sight;
 mod tail;
 
 pub use laws::prints_what_was_read;
-pub use sight::is_written_after;
+pub use sight::{is_written, is_written_after, window_of};
 pub use tail::{Fed, LogTail, Stop};
