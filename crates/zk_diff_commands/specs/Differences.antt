@@ -4,6 +4,7 @@ use Rattle.std.specs.Borrow.{Bor}
 use Rattle.std.specs.Global.{Global}
 use Rattle.std.specs.List.{flat_map}
 use Rattle.std.specs.String.{string_bytes}
+use Rattle.zk_diff_commands.specs.declared.compared.Compared.{Compared}
 use Rattle.zk_differences.specs.Changes.{Track, followed_all, stamp_at, start_track}
 use Rattle.zk_differences.specs.Differences.{differences}
 use Rattle.zk_differences.specs.Texts.{AreLines}
@@ -46,26 +47,42 @@ pub record AreLogged (logs : Option (List (List ℕ))) (log_bytes : List ℕ →
 abbrev pub track_between : State → State → Track
 track_between old new = if int_le old.last new.last then start_track old.nodes old.last new.last else start_track new.nodes new.last old.last
 
+-- ---- two states
+
+-- the states up to two transactions, as `zk show` prints them, and the last transactions between them
+pub record AreCompared (snapshots : Option (List (List ℕ))) (snapshot_bytes : List ℕ → Option (List ℕ)) (logs : Option (List (List ℕ))) (log_bytes : List ℕ → Option (List ℕ)) (from to : Upto) (old new : State) (changes : Track) : Type 0 where
+  pub shown_old : Shown
+  pub shown_new : Shown
+  pub holds_old : Holds snapshots snapshot_bytes logs log_bytes from (Ok shown_old)
+  pub holds_new : Holds snapshots snapshot_bytes logs log_bytes to (Ok shown_new)
+  pub is_old : old ≡ shown_old.restored.table.state
+  pub is_new : new ≡ shown_new.restored.table.state
+  pub records : List NewerRecord
+  pub logged : AreLogged logs log_bytes records
+  pub are_changes : changes ≡ followed_all (track_between old new) records
+
+-- unless a file could not be read, the fault of the first state that there is not
+abbrev pub AreNotCompared : Option (List (List ℕ)) → (List ℕ → Option (List ℕ)) → Option (List (List ℕ)) → (List ℕ → Option (List ℕ)) → Upto → Upto → HistoryFault → Type 0
+AreNotCompared snapshots snapshot_bytes logs log_bytes from to fault = IsUnread fault ⊎ (Holds snapshots snapshot_bytes logs log_bytes from (Err fault) ⊎ Holds snapshots snapshot_bytes logs log_bytes to (Err fault))
+
+-- machines in both states
+abbrev pub FindsCompared : Option (List (List ℕ)) → (List ℕ → Option (List ℕ)) → Option (List (List ℕ)) → (List ℕ → Option (List ℕ)) → Upto → Upto → Result Compared HistoryFault → Type 0
+FindsCompared snapshots snapshot_bytes logs log_bytes from to (Ok compared) = AreCompared snapshots snapshot_bytes logs log_bytes from to compared.old.state compared.new.state compared.changes × (compared.old.failed ≡ false) × (compared.new.failed ≡ false)
+FindsCompared snapshots snapshot_bytes logs log_bytes from to (Err fault) = AreNotCompared snapshots snapshot_bytes logs log_bytes from to fault
+
 -- ---- the difference
 
 -- at a path and below, each node with the last transaction between them that changed it
-abbrev pub IsDifferenceOf : List ℕ → State → State → List NewerRecord → List ℕ → Type 0
-IsDifferenceOf path old new records text = AreLines (stamp_at (followed_all (track_between old new) records)) (differences path true old.nodes new.nodes) text
-
--- of the states up to two transactions, as `zk show` prints them
 pub record IsDifference (snapshots : Option (List (List ℕ))) (snapshot_bytes : List ℕ → Option (List ℕ)) (logs : Option (List (List ℕ))) (log_bytes : List ℕ → Option (List ℕ)) (from to : Upto) (path text : List ℕ) : Type 0 where
-  pub old : Shown
-  pub new : Shown
-  pub holds_old : Holds snapshots snapshot_bytes logs log_bytes from (Ok old)
-  pub holds_new : Holds snapshots snapshot_bytes logs log_bytes to (Ok new)
-  pub records : List NewerRecord
-  pub logged : AreLogged logs log_bytes records
-  pub is : IsDifferenceOf path old.restored.table.state new.restored.table.state records text
+  pub old : State
+  pub new : State
+  pub changes : Track
+  pub compared : AreCompared snapshots snapshot_bytes logs log_bytes from to old new changes
+  pub are : AreLines (stamp_at changes) (differences path true old.nodes new.nodes) text
 
--- unless a file could not be read, the fault of the first state that there is not
 abbrev pub FindsDifference : Option (List (List ℕ)) → (List ℕ → Option (List ℕ)) → Option (List (List ℕ)) → (List ℕ → Option (List ℕ)) → Upto → Upto → List ℕ → Result (String Global) HistoryFault → Type 0
 FindsDifference snapshots snapshot_bytes logs log_bytes from to path (Ok text) = IsDifference snapshots snapshot_bytes logs log_bytes from to path (string_bytes text)
-FindsDifference snapshots snapshot_bytes logs log_bytes from to path (Err fault) = IsUnread fault ⊎ (Holds snapshots snapshot_bytes logs log_bytes from (Err fault) ⊎ Holds snapshots snapshot_bytes logs log_bytes to (Err fault))
+FindsDifference snapshots snapshot_bytes logs log_bytes from to path (Err fault) = AreNotCompared snapshots snapshot_bytes logs log_bytes from to fault
 
 abbrev pub OutputsDifference : {O E : Type 0} → (O → Option (List ℕ)) → (E → Option (List ℕ)) → Result (String Global) HistoryFault → Sink O → Sink O → Sink E → Sink E → Result ℕ NoMemory → Type 0
 OutputsDifference written told (Ok text) output output' faults faults' result = Outputs written told (string_bytes text) output output' faults faults' result

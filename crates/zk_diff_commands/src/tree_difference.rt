@@ -1,86 +1,44 @@
 //! `zk diff`.
 ghost use Rattle.std.specs.Prelude.{◌≡◌, ◌-◌, ◌<◌, ◌^◌, IfOk, false, true};
 ghost use Rattle.std.specs.String.{string_bytes};
-ghost use Rattle.zk_diff_commands.specs.Differences.{FindsDifference, FindsMachine, TellsDifference, track_between};
+ghost use Rattle.zk_diff_commands.specs.Differences.{FindsDifference, TellsDifference};
 ghost use Rattle.zk_differences.specs.Changes.{stamp_at};
 ghost use Rattle.zk_differences.specs.Differences.{differences};
 ghost use Rattle.zk_differences.specs.Texts.{AreLines};
 ghost use Rattle.zk_records.specs.Sinks.{write_failures_of};
 
-use crate::logged::follow_logged;
+use crate::compared::{Compared, compare, tree_of};
 use std::alloc::Global;
 use std::io::Write;
-use zk_differences::{LastChanges, push_differences};
-use zk_directory_commands::{Upto, shown_of};
+use zk_differences::push_differences;
+use zk_directory_commands::Upto;
 use zk_folder::Folder;
 use zk_folder_commands::{HistoryFault, put_text, tell_fault};
 use zk_incidents::Scope;
 use zk_log::Sink;
-use zk_machine::Machine;
 use zk_path::NoMemory;
-use zk_tree::Tree;
 
-/// The state of a directory up to a transaction.
-#[tactic(auto, using(crate::proofs::Found::machine_found, crate::proofs::Found::no_machine))]
-fn machine_of<S: Folder, L: Folder>(
-    alloc: Global,
-    snapshots: &S,
-    logs: &L,
-    upto: Upto,
-) -> Result<Machine, HistoryFault>
-    ensures { FindsMachine (S.names_in snapshots.now) (S.bytes_in snapshots.now) (L.names_in logs.now) (L.bytes_in logs.now) upto result }
-{
-    let shown = shown_of(alloc, snapshots, logs, upto)?;
-    Ok(shown.restored.table.machine()?)
-}
-
-/// No record yet, from the earlier of two states to the later.
-fn changes_between(alloc: Global, old: &Machine, new: &Machine) -> Result<LastChanges, NoMemory>
-    requires old { old.now.failed ≡ false }
-    requires new { new.now.failed ≡ false }
-    ensures { IfOk result (λ changes. changes ≡ track_between old.now.state new.now.state) }
-{
-    let Ok(first) = old.last() else {
-        unreachable!()
-    };
-    let Ok(last) = new.last() else { unreachable!() };
-    if first <= last {
-        LastChanges::new(alloc, tree_of(old), first, last)
-    } else {
-        LastChanges::new(alloc, tree_of(new), last, first)
-    }
-}
-
-fn tree_of(machine: &Machine) -> &Tree
-    requires { machine.now.failed ≡ false }
-    ensures { result.now ≡ machine.now.state.nodes }
-{
-    let Ok(tree) = machine.tree() else {
-        unreachable!()
-    };
-    tree
-}
-
-/// The lines of what differs between the trees of two machines, at a path and below it.
-fn difference_text(
-    alloc: Global,
-    path: &str,
-    changes: &LastChanges,
-    old: &Machine,
-    new: &Machine,
-) -> Result<String, NoMemory>
-    requires old { old.now.failed ≡ false }
-    requires new { new.now.failed ≡ false }
-    ensures { IfOk result (λ text. AreLines (stamp_at changes.now) (differences path.now true old.now.state.nodes new.now.state.nodes) (string_bytes text)) }
+/// The lines of what differs between two states, at a path and below it.
+fn difference_text(alloc: Global, path: &str, compared: &Compared) -> Result<String, NoMemory>
+    requires old { compared.now.old.failed ≡ false }
+    requires new { compared.now.new.failed ≡ false }
+    ensures { IfOk result (λ text. AreLines (stamp_at compared.now.changes)
+        (differences path.now true compared.now.old.state.nodes compared.now.new.state.nodes) (string_bytes text)) }
 {
     let scope = Scope::new(alloc, path, true)?;
     let mut text = String::new(alloc);
-    push_differences(&mut text, &scope, changes, tree_of(old), tree_of(new))?;
+    push_differences(
+        &mut text,
+        &scope,
+        &compared.changes,
+        tree_of(&compared.old),
+        tree_of(&compared.new),
+    )?;
     Ok(text)
 }
 
 /// What differs between the states of a directory up to two transactions.
-#[tactic(auto, using(crate::proofs::Found::difference_found, crate::proofs::Found::no_old, crate::proofs::Found::no_new))]
+#[tactic(auto, using(crate::proofs::Found::difference_found))]
 fn difference_of<S: Folder, L: Folder>(
     alloc: Global,
     snapshots: &S,
@@ -91,11 +49,8 @@ fn difference_of<S: Folder, L: Folder>(
 ) -> Result<String, HistoryFault>
     ensures { FindsDifference (S.names_in snapshots.now) (S.bytes_in snapshots.now) (L.names_in logs.now) (L.bytes_in logs.now) from to path.now result }
 {
-    let old = machine_of(alloc, snapshots, logs, from)?;
-    let new = machine_of(alloc, snapshots, logs, to)?;
-    let mut changes = changes_between(alloc, &old, &new)?;
-    follow_logged(alloc, logs, &mut changes)?;
-    Ok(difference_text(alloc, path, &changes, &old, &new)?)
+    let compared = compare(alloc, snapshots, logs, from, to)?;
+    Ok(difference_text(alloc, path, &compared)?)
 }
 
 /// Writes what differs between the trees that a data directory holds up to two transactions, at a

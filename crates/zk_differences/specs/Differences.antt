@@ -1,6 +1,6 @@
 -- What differs between two trees, path by path: the lines of nodes that were created, deleted or
 -- changed. A definition of this project; the line of a node is that of a report.
-use Rattle.std.specs.Prelude.{ℕ, Bool, List, [], ◌∷◌, map, Option, Some, None, option_map, if◌then◌else◌}
+use Rattle.std.specs.Prelude.{ℕ, Bool, true, false, not, ◌&&◌, List, [], ◌∷◌, map, Option, Some, None, option_map, if◌then◌else◌}
 use Rattle.std.specs.BTreeMap.{insert_entry}
 use Rattle.std.specs.FinMap.{get, keys}
 use Rattle.std.specs.List.{filter, flat_map}
@@ -68,3 +68,22 @@ texts_of paths = map (λ entry. entry.0) paths
 -- at each path at or below a root, in order
 unfoldable pub differences : List ℕ → Bool → NodeMap → NodeMap → List Line
 differences root below old new = flat_map (lines_at old new) (filter (is_within root below) (texts_of (paths_of old new)))
+
+-- ---- the paths of what differs
+
+abbrev pub differ_by : Option (List ℕ) → Option (List ℕ) → Bool
+differ_by None None = false
+differ_by (Some before) None = true
+differ_by None (Some after) = true
+differ_by (Some before) (Some after) = not (bytes_eq before after)
+
+-- one tree alone has a node there, or their nodes have different lines
+unfoldable pub differ_at : NodeMap → NodeMap → List ℕ → Bool
+differ_at old new path = differ_by (line_at old path) (line_at new path)
+
+abbrev pub differ_within : List ℕ → Bool → NodeMap → NodeMap → List ℕ → Bool
+differ_within root below old new path = is_within root below path && differ_at old new path
+
+-- at or below a root, in order
+unfoldable pub differing : List ℕ → Bool → NodeMap → NodeMap → List (List ℕ)
+differing root below old new = filter (differ_within root below old new) (texts_of (paths_of old new))

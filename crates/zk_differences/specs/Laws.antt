@@ -1,7 +1,8 @@
 -- What the differences of two trees mean.
-use Rattle.std.specs.Prelude.{◌≡◌, ℕ, Bool, true, List, [], ◌∷◌, Option, Some, None, if◌then◌else◌}
+use Rattle.std.specs.Prelude.{◌≡◌, ◌≢◌, ℕ, Bool, true, List, [], ◌∷◌, Option, Some, None, if◌then◌else◌}
+use Rattle.std.specs.List.{flat_map}
 use Rattle.std.specs.Str.{bytes_eq}
-use Rattle.zk_differences.specs.Differences.{Line, differences, line_at}
+use Rattle.zk_differences.specs.Differences.{Line, differ_at, differences, differing, line_at, lines_at}
 use Rattle.zk_differences.specs.declared.sign.Sign.{Sign}
 use Rattle.zk_differences.specs.declared.sign.Sign.TheVariants.{Removed, Added, Before, After}
 use Rattle.zk_incidents.specs.Within.{is_within}
@@ -14,6 +15,13 @@ AreSame root below old new = (path : List ℕ) → is_within root below path ≡
 -- there is no difference exactly where both are the same
 abbrev pub EmptyWhereSame : Type 0
 EmptyWhereSame = (root : List ℕ) (below : Bool) (old new : NodeMap) → (differences root below old new ≡ [] → AreSame root below old new) × (AreSame root below old new → differences root below old new ≡ [])
+
+-- there are lines exactly at the paths of what differs
+abbrev pub LinesWhereDiffering : Type 0
+LinesWhereDiffering = (root : List ℕ) (below : Bool) (old new : NodeMap) → differences root below old new ≡ flat_map (lines_at old new) (differing root below old new)
+
+abbrev pub LineWhereDiffer : Type 0
+LineWhereDiffer = (old new : NodeMap) (path : List ℕ) → differ_at old new path ≡ true → lines_at old new path ≢ []
 
 -- ---- applying lines
 

@@ -12,6 +12,7 @@ use crate::last_changes::LastChanges;
 use crate::paths::Paths;
 use crate::sign::Sign;
 use crate::stamps::Stamp;
+use std::alloc::Global;
 use zk_format::push_id;
 use zk_incidents::Scope;
 use zk_path::NoMemory;
@@ -91,8 +92,9 @@ fn push_change(
 ) -> Result<(), NoMemory>
     ensures { OnOk result (AppendsLines (stamp_at changes.now) (lines_at old.now new.now path.now) (string_bytes text.old) (string_bytes text.new)) }
 {
-    let before = line_at(text, old, path)?;
-    let after = line_at(text, new, path)?;
+    let alloc = *text.allocator();
+    let before = line_at(alloc, old, path)?;
+    let after = line_at(alloc, new, path)?;
     push_lines(text, changes, path, &before, &after)
 }
 
@@ -119,7 +121,7 @@ fn push_lines(
 }
 
 /// The line of the node at a path, if there is one.
-fn line_at(text: &String, tree: &Tree, path: &str) -> Result<Option<String>, NoMemory>
+pub(crate) fn line_at(alloc: Global, tree: &Tree, path: &str) -> Result<Option<String>, NoMemory>
     ensures { IfOk result (λ line. option_map string_bytes line ≡ line_at tree.now path.now) }
 {
     let Some((path, node)) = tree.entry_by_text(path) else {
@@ -130,7 +132,7 @@ fn line_at(text: &String, tree: &Tree, path: &str) -> Result<Option<String>, NoM
         node,
         child_count: tree.child_count(path),
     };
-    let mut line = String::new(*text.allocator());
+    let mut line = String::new(alloc);
     push_entry_line(&mut line, &entry)?;
     Ok(Some(line))
 }

@@ -79,7 +79,7 @@ impl LastChanges {
     }
 
     /// The last transaction that changed the line of the node at a path; `None` if it is not known.
-    pub(crate) fn stamp_at(&self, path: &str) -> Option<Stamp>
+    pub fn stamp_at(&self, path: &str) -> Option<Stamp>
         ensures { result ≡ stamp_at self.now path.now }
     {
         if self.upto <= self.position {

@@ -10,7 +10,7 @@ use zk_tree::Tree;
 
 /// Paths, each once, in order.
 #[derive(Drop)]
-pub(crate) struct Paths {
+pub struct Paths {
     alloc: Global,
     paths: BTreeMap<String, ()>,
 }
@@ -37,7 +37,7 @@ impl Paths {
     }
 
     /// The paths of two trees.
-    pub(crate) fn of(alloc: Global, old: &Tree, new: &Tree) -> Result<Paths, NoMemory>
+    pub fn of(alloc: Global, old: &Tree, new: &Tree) -> Result<Paths, NoMemory>
         ensures { IfOk result (λ paths. paths ≡ paths_of old.now new.now) }
     {
         let mut paths = Paths::new(alloc);
@@ -72,7 +72,7 @@ impl Paths {
     }
 
     /// The paths, in order.
-    pub(crate) fn texts(&self) -> Result<Vec<&str>, NoMemory>
+    pub fn texts(&self) -> Result<Vec<&str>, NoMemory>
         ensures { IfOk result (λ texts. map (λ text. text.now) texts.items ≡ texts_of self.now) }
     {
         let mut texts = Vec::new(self.alloc);

@@ -20,12 +20,12 @@ use Rattle.zk_txn.specs.declared.sub.Sub.TheVariants as subs
 use Rattle.zk_txn.specs.declared.txn.Op.{Op}
 use Rattle.zk_txn.specs.declared.txn.Op.TheVariants as ops
 use Rattle.zk_txn.specs.declared.txn.Txn.{Txn}
-use Rattle.zk_json.specs.Changes.{AppendsChange, AppendsChangeLine, IsChange, IsSide, change_of}
+use Rattle.zk_json.specs.Changes.{AppendsChange, AppendsChangeLine, IsChange, IsLast, IsSide, change_of, fields_of_change, last_fields, last_of}
 use Rattle.zk_json.specs.Incidents.{count_of, history_of}
 use Rattle.zk_json.specs.Json.{AppendsLineOf, Fields, acl_entry_fields, acl_entry_of, acl_of, data_of, items_of, members_of, object_of, strings_of, text_by, text_of}
 use Rattle.zk_json.specs.Nodes.{node_fields, node_of}
 use Rattle.zk_json.specs.Objects.{field_of, value_of}
-use Rattle.zk_json.specs.declared.changes.Held.{Held}
+use Rattle.zk_json.specs.declared.changes.LastChange.{LastChange}
 use Rattle.zk_json.specs.declared.objects.Value.{Value}
 use Rattle.zk_json.specs.declared.objects.Value.TheVariants as values
 use Rattle.zk_json.specs.Records.{create_fields, create_old_fields, op_fields, part_fields, part_of, record_fields, record_of, set_acl_fields}
@@ -131,15 +131,22 @@ flat_shallow (field ∷ fields) = (value_depth field.1, flat_shallow fields)
 pub flat_depth : (fields : List (Bor (List ℕ) × Value)) → depth (object_of (map field_of fields)) ≤ max_depth
 flat_depth fields = let inner = shallow_object 0 (map field_of fields) (flat_shallow fields) in omega arith
 
-side_depth : (path : List ℕ) (held : Option Held) (json : Json) → IsSide path held json → depth json ≤ 5
+side_depth : (path : List ℕ) (held : Option (Node × Stat)) (json : Json) → IsSide path held json → depth json ≤ 5
 side_depth path None json h = rw h (zero_le 5)
-side_depth path (Some held) json h = rw h.4 (held_depth h.0 h.1 path held.node.now held.stat.now)
+side_depth path (Some held) json h = rw h.4 (held_depth h.0 h.1 path held.0 held.1)
 
-change_depth : (path : List ℕ) (before after : Option Held) (json : Json) → IsChange path before after json → depth json ≤ max_depth
-change_depth path before after json h =
-    let inner = shallow_object 5 ((codes "path", string path) ∷ (codes "before", h.0) ∷ (codes "after", h.1) ∷ []) (zero_le 5, (side_depth path before h.0 h.2, (side_depth path after h.1 h.3, tt))) in
-    let short : depth (change_of path h.0 h.1) ≤ max_depth = omega arith in
-    subst (λ (j : Json). depth j ≤ max_depth) (sym h.4) short
+last_depth : (last : Option LastChange) (json : Json) → IsLast last json → depth json ≤ 5
+last_depth None json h = rw h (zero_le 5)
+last_depth (Some last) json h =
+    let inner : depth (last_of last.zxid h.0) ≤ 1 = shallow_object 0 (last_fields last.zxid h.0) (zero_le 0, (zero_le 0, tt)) in
+    let short : depth (last_of last.zxid h.0) ≤ 5 = omega arith in
+    subst (λ (j : Json). depth j ≤ 5) (sym h.2) short
+
+change_depth : (path : List ℕ) (last : Option LastChange) (before after : Option (Node × Stat)) (json : Json) → IsChange path last before after json → depth json ≤ max_depth
+change_depth path last before after json h =
+    let inner = shallow_object 5 (fields_of_change path h.stamp h.old h.new) (zero_le 5, (last_depth last h.stamp h.is_last, (side_depth path before h.old h.is_old, (side_depth path after h.new h.is_new, tt)))) in
+    let short : depth (change_of path h.stamp h.old h.new) ≤ max_depth = omega arith in
+    subst (λ (j : Json). depth j ≤ max_depth) (sym h.is) short
 
 -- ---- texts
 
@@ -156,7 +163,7 @@ finished (Ok done) json start written old new h none are read is =
     (print (json_tokens json) ++ 10 ∷ [], record { is = refl; read = read_back json written all read h }, is ∙ ap (λ (ts : List Token). old ++ (print ts ++ 10 ∷ [])) all)
 finished (Err refused) json start written old new h none are read is = tt
 
-pub changed : (r : Result (Unit {0}) NoMemory) (path : List ℕ) (before after : Option Held) (start written : List Token) (old new : List ℕ)
-    → start ≡ [] → AppendsChange path before after start written → tokens (print written) ≡ written → OnOk r (new ≡ old ++ (print written ++ 10 ∷ [])) → OnOk r (AppendsChangeLine path before after old new)
-changed r path before after start written old new none h read is =
-    on_ok_weaker r (λ a. (a.0, (h.0, h.1, a.1), a.2)) (finished r h.0 start written old new (change_depth path before after h.0 h.1) none h.2 read is)
+pub changed : (r : Result (Unit {0}) NoMemory) (path : List ℕ) (last : Option LastChange) (before after : Option (Node × Stat)) (start written : List Token) (old new : List ℕ)
+    → start ≡ [] → AppendsChange path last before after start written → tokens (print written) ≡ written → OnOk r (new ≡ old ++ (print written ++ 10 ∷ [])) → OnOk r (AppendsChangeLine path last before after old new)
+changed r path last before after start written old new none h read is =
+    on_ok_weaker r (λ a. (a.0, (h.0, h.1, a.1), a.2)) (finished r h.0 start written old new (change_depth path last before after h.0 h.1) none h.2 read is)

@@ -1,5 +1,5 @@
 -- The tokens of objects and arrays.
-use Rattle.std.proofs.Common.{◌≡◌, ℕ, ℤ, Bool, true, false, List, [], ◌∷◌, ◌++◌, Option, Result, Ok, Err, OnOk, map, refl, sym, ap, ◌∙◌, subst, append_assoc, append-nil}
+use Rattle.std.proofs.Common.{◌≡◌, ℕ, ℤ, Bool, true, false, List, [], ◌∷◌, ◌++◌, Option, Some, Result, Ok, Err, OnOk, map, refl, sym, ap, ◌∙◌, subst, append_assoc, append-nil}
 use Rattle.std.specs.List.{flat_map}
 use Rattle.std.specs.Prelude.{codes}
 use Rattle.std.specs.Str.{IsUtf8, is_utf8}
@@ -7,10 +7,12 @@ use Rattle.std.proofs.lemmas.Str.{IsUtf8-from_is_utf8, is_utf8-from_IsUtf8}
 use Rattle.json.specs.Json.{Json, null, string}
 use Rattle.json.specs.Token.{Token, begin_array, begin_object, end_array, end_object, key}
 use Rattle.json.specs.Tree.{json_tokens, items_tokens, members_tokens}
+use Rattle.zk_acl.specs.declared.stat.Stat.{Stat}
 use Rattle.zk_path.specs.declared.memory.NoMemory.{NoMemory}
 use Rattle.zk_times.specs.Times.{AppendsTime, IsTimeText}
-use Rattle.zk_json.specs.Changes.{AppendsChange, AppendsSide, change_of}
-use Rattle.zk_json.specs.declared.changes.Held.{Held}
+use Rattle.zk_txn.specs.declared.node.Node.{Node}
+use Rattle.zk_json.specs.Changes.{AppendsChange, AppendsLast, AppendsSide, change_of, fields_of_change, last_of}
+use Rattle.zk_json.specs.declared.changes.LastChange.{LastChange}
 use Rattle.zk_json.specs.Json.{Fields, array_of, fields_tokens, items_of, members_of, object_of, text_by}
 
 -- ---- objects
@@ -84,15 +86,23 @@ timed time old new none h = subst (λ (l : List ℕ). IsTimeText time l) (sym (h
 field_added : (old one two : List Token) (name : List ℕ) (json : Json) → one ≡ old ++ key name ∷ [] → two ≡ one ++ json_tokens json → two ≡ old ++ fields_tokens ((name, json) ∷ [])
 field_added old one two name json e f = then old one two (key name ∷ []) (json_tokens json) e f ∙ ap (λ (l : List Token). old ++ key name ∷ l) (sym (append-nil (json_tokens json)))
 
-pub changed_tokens : (r : Result (Unit {0}) NoMemory) (path : List ℕ) (before after : Option Held) (old brace placed named sided named' sided' new : List Token)
+pub last_written : (r : Result (Unit {0}) NoMemory) (last : LastChange) (zxid : ℤ) (time : List ℕ) (old new : List Token) → zxid ≡ last.zxid → IsTimeText last.time time → OnOk r (new ≡ old ++ json_tokens (last_of zxid time)) → OnOk r (AppendsLast (Some last) old new)
+last_written (Ok done) last zxid time old new is shown e = (last_of zxid time, (time, shown, ap (λ (z : ℤ). last_of z time) is), e)
+last_written (Err refused) last zxid time old new is shown e = tt
+
+-- an object of four fields
+pub changed_tokens : (r : Result (Unit {0}) NoMemory) (path : List ℕ) (last : Option LastChange) (before after : Option (Node × Stat)) (old brace placed named0 stamped named sided named' sided' new : List Token)
     → brace ≡ old ++ begin_object ∷ [] → placed ≡ brace ++ fields_tokens ((codes "path", string path) ∷ [])
-    → named ≡ placed ++ key (codes "before") ∷ [] → AppendsSide path before named sided
+    → named0 ≡ placed ++ key (codes "last") ∷ [] → AppendsLast last named0 stamped
+    → named ≡ stamped ++ key (codes "before") ∷ [] → AppendsSide path before named sided
     → named' ≡ sided ++ key (codes "after") ∷ [] → AppendsSide path after named' sided'
-    → OnOk r (new ≡ sided' ++ end_object ∷ []) → OnOk r (AppendsChange path before after old new)
-changed_tokens (Ok done) path before after old brace placed named sided named' sided' new e f g h g' h' i =
-    let one : sided ≡ placed ++ fields_tokens ((codes "before", h.0) ∷ []) = field_added placed named sided (codes "before") h.0 g h.2 in
+    → OnOk r (new ≡ sided' ++ end_object ∷ []) → OnOk r (AppendsChange path last before after old new)
+changed_tokens (Ok done) path last before after old brace placed named0 stamped named sided named' sided' new e f g0 h0 g h g' h' i =
+    let zero : stamped ≡ placed ++ fields_tokens ((codes "last", h0.0) ∷ []) = field_added placed named0 stamped (codes "last") h0.0 g0 h0.2 in
+    let one : sided ≡ stamped ++ fields_tokens ((codes "before", h.0) ∷ []) = field_added stamped named sided (codes "before") h.0 g h.2 in
     let two : sided' ≡ sided ++ fields_tokens ((codes "after", h'.0) ∷ []) = field_added sided named' sided' (codes "after") h'.0 g' h'.2 in
-    let front = add brace placed sided ((codes "path", string path) ∷ []) ((codes "before", h.0) ∷ []) f one in
-    let all = add brace sided sided' ((codes "path", string path) ∷ (codes "before", h.0) ∷ []) ((codes "after", h'.0) ∷ []) front two in
-    (change_of path h.0 h'.0, (h.0, h'.0, h.1, h'.1, refl), wrapped (Ok done) old brace sided' new ((codes "path", string path) ∷ (codes "before", h.0) ∷ (codes "after", h'.0) ∷ []) e all i)
-changed_tokens (Err refused) path before after old brace placed named sided named' sided' new e f g h g' h' i = tt
+    let start = add brace placed stamped ((codes "path", string path) ∷ []) ((codes "last", h0.0) ∷ []) f zero in
+    let front = add brace stamped sided ((codes "path", string path) ∷ (codes "last", h0.0) ∷ []) ((codes "before", h.0) ∷ []) start one in
+    let all = add brace sided sided' ((codes "path", string path) ∷ (codes "last", h0.0) ∷ (codes "before", h.0) ∷ []) ((codes "after", h'.0) ∷ []) front two in
+    (change_of path h0.0 h.0 h'.0, record { stamp = h0.0; old = h.0; new = h'.0; is_last = h0.1; is_old = h.1; is_new = h'.1; is = refl }, wrapped (Ok done) old brace sided' new (fields_of_change path h0.0 h.0 h'.0) e all i)
+changed_tokens (Err refused) path last before after old brace placed named0 stamped named sided named' sided' new e f g0 h0 g h g' h' i = tt

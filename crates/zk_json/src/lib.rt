@@ -12,7 +12,7 @@ mod objects;
 mod operations;
 mod records;
 
-pub use changes::{Held, push_change_line};
+pub use changes::{Held, LastChange, push_change_line};
 pub use incidents::{push_count_line, push_history_line};
 pub use nodes::push_node_line;
 pub use objects::{Value, push_object_line};

@@ -1,7 +1,8 @@
 //! Lines of transactions.
 use std::alloc::Global;
 use zk_json::{
-    Value, push_change_line, push_count_line, push_history_line, push_object_line, push_record_line,
+    LastChange, Value, push_change_line, push_count_line, push_history_line, push_object_line,
+    push_record_line,
 };
 use zk_listing::assemble;
 use zk_path::Path;
@@ -201,15 +202,30 @@ fn an_object_has_its_fields(rt: HostRuntime) {
     assert!(rt; line.as_deref() == Some(OBJECT));
 }
 
-fn change_line(alloc: Global) -> Option<String> {
+fn change_line(alloc: Global, last: Option<LastChange>) -> Option<String> {
     let path = Path::read(alloc, "/b").ok()?;
     let mut text = String::new(alloc);
-    push_change_line(&mut text, &path, None, None).ok()?;
+    push_change_line(&mut text, &path, last, None, None).ok()?;
     Some(text)
 }
 
 #[test]
 fn a_change_has_both_sides(rt: HostRuntime) {
-    let line = change_line(rt.alloc());
-    assert!(rt; line.as_deref() == Some("{\"path\":\"/b\",\"before\":null,\"after\":null}\n"));
+    let line = change_line(rt.alloc(), None);
+    assert!(rt;
+        line.as_deref() == Some("{\"path\":\"/b\",\"last\":null,\"before\":null,\"after\":null}\n")
+    );
+}
+
+const STAMPED: &str =
+    "{\"path\":\"/b\",\"last\":{\"zxid\":\"0x2a4\",\"time\":\"2026-11-27T14:53:34.997Z\"},\"before\":null,\"after\":null}\n";
+
+#[test]
+fn a_change_has_its_last_transaction(rt: HostRuntime) {
+    let last = LastChange {
+        zxid: 0x2a4,
+        time: 1_795_791_214_997,
+    };
+    let line = change_line(rt.alloc(), Some(last));
+    assert!(rt; line.as_deref() == Some(STAMPED));
 }

@@ -7,10 +7,9 @@ use Rattle.zk_json.proofs.changes.push_held.Goals as goal
 
 pub returns : goal.returns
 returns c =
-    let held = c.args.held in
-    let stat = held.stat.now in
+    let stat = c.args.stat.now in
     let ctime = c.as_str.result.now in
     let mtime = c.as_str-2.result.now in
     let first : IsTimeText stat.ctime ctime = subst (λ (t : ℤ). IsTimeText t ctime) (to_z-of_z w64 stat.ctime (search rules)) (search rules) in
     let second : IsTimeText stat.mtime mtime = subst (λ (t : ℤ). IsTimeText t mtime) (to_z-of_z w64 stat.mtime (search rules)) (search rules) in
-    on_ok_weaker c.push_node.result (λ e. (node_of ctime mtime c.args.path.now held.node.now stat, (ctime, mtime, first, second, refl), e)) c.push_node.ensures
+    on_ok_weaker c.push_node.result (λ e. (node_of ctime mtime c.args.path.now c.args.node.now stat, (ctime, mtime, first, second, refl), e)) c.push_node.ensures

@@ -1,5 +1,5 @@
 use Rattle.zk_diff_commands.proofs.Found.{machine_found}
-use Rattle.zk_diff_commands.proofs.tree_difference.machine_of.Goals as goal
+use Rattle.zk_diff_commands.proofs.compared.machine_of.Goals as goal
 
 pub returns : goal.returns
 returns g c =
