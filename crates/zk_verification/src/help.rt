@@ -27,7 +27,7 @@ pub enum Kind {
 }
 
 /// All kinds, in the order of their lines.
-pub(crate) const KINDS: [Kind; 8] = [
+pub const KINDS: [Kind; 8] = [
     Kind::Snapshot,
     Kind::Log,
     Kind::Purged,
@@ -86,14 +86,14 @@ fn is_of(kind: Kind, mark: &Mark) -> bool
 }
 
 /// Whether something of this kind is wrong.
-pub(crate) fn has_kind(kind: Kind, marks: &[Mark]) -> bool
+pub fn has_kind(kind: Kind, marks: &[Mark]) -> bool
     ensures { result ≡ has_kind kind marks.now }
 {
     marks.iter().any(|mark| is_of(kind, mark))
 }
 
 /// What helps against this kind.
-pub(crate) fn help_line(kind: Kind) -> &'static str
+pub fn help_line(kind: Kind) -> &'static str
     ensures { result.now ≡ help_line kind }
 {
     match kind {

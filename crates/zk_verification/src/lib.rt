@@ -10,7 +10,7 @@ mod mark;
 mod report;
 mod survey;
 
-pub use help::Kind;
+pub use help::{KINDS, Kind, has_kind, help_line};
 pub use log_bytes::LogBytes;
 pub use mark::Mark;
 pub use report::{count_wrong, report_text};

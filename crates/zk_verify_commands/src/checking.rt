@@ -129,7 +129,7 @@ fn reversed(alloc: Global, zxids: &[i64]) -> Result<Vec<i64>, NoMemory>
 /// Fails with
 /// - [`HistoryFault::Empty`] if there is no snapshot and no log;
 /// - [`HistoryFault::Read`] if a folder cannot be read.
-pub(crate) fn marks_of<S: Folder, L: Folder>(
+pub fn marks_of<S: Folder, L: Folder>(
     alloc: Global,
     snapshots: &S,
     logs: &L,

@@ -6,4 +6,5 @@ mod files;
 mod following;
 mod verification;
 
+pub use checking::marks_of;
 pub use verification::verify;

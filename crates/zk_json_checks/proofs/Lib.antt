@@ -1,0 +1,3 @@
+pub mod Differing
+pub mod Words
+pub mod Written
