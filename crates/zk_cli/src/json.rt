@@ -1,5 +1,6 @@
 //! The commands that write JSON.
 
+use crate::checking::run_json_checking;
 use crate::disk_folder::DiskFolder;
 use crate::faults::{faults, refuse};
 use crate::forms::{Target, list_in_form, target_of};
@@ -23,6 +24,9 @@ pub(crate) fn run_json(rt: &HostRuntime, words: &[&str]) -> Result<Option<u8>, N
     }
     if let Some(job) = top_of(rt.alloc(), words)? {
         return Ok(Some(tell_top(rt, &job)?));
+    }
+    if let Some(status) = run_json_checking(rt, words)? {
+        return Ok(Some(status));
     }
     match target_of(rt, words)? {
         Some(target) => list_or_show(rt, &target),
