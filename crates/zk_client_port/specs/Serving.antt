@@ -90,7 +90,7 @@ pub record Serves {S : Type 0} (setting : Setting Call) (moment : Moment) (old :
   pub flushes : FlushesIf (is_blocked old.connection.number old.hub) admission moment.server old first
   pub serves : ServesAll setting moment first admission new heard
 
--- whatever the result: what the server has delivered stays
+-- with any result: what the server has delivered stays
 pub record KeepsTree {S : Type 0} (old new : ReplicaHost S) : Type 0 where
   pub tree : new.tree.tree ≡ old.tree.tree
   pub news : new.tree.news ≡ []

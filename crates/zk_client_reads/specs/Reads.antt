@@ -38,7 +38,7 @@ after_look question it =
 
 -- ---- for each result
 
--- whatever the result: a read changes no node, and takes no input
+-- with any result: a read changes no node, and takes no input
 pub record KeepsNodes (old new : Reader) : Type 0 where
   pub tree : new.tree.tree ≡ old.tree.tree
   pub number : new.connection.number ≡ old.connection.number

@@ -14,7 +14,7 @@ use Rattle.zk_txn.specs.declared.read.ReadCall.{ReadCall}
 use Rattle.zk_txn.specs.declared.read.ReadCall.TheVariants as calls
 use Rattle.zk_txn.specs.declared.read.ReadReply.{ReadReply}
 
--- a read for the client, whatever it has seen
+-- a read for the client, no matter what it has seen
 abbrev pub question_for : Resumption → ReadCall → Bool → Question
 question_for client call watch = record {
   server = client.server;
