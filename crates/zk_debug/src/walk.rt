@@ -257,9 +257,11 @@ fn take_step(machine: &mut Machine, steps: &mut Vec<Applied>, txn: &Txn) -> Resu
     requires { machine.old.steps < 2 ^ 64 - 1 }
     ensures { OnOk result (TakesStep machine.old txn.now machine.new steps.old.items steps.new.items) }
 {
-    let Ok(applied) = machine.apply(txn) else {
+    let Ok(mut applied) = machine.apply(txn) else {
         return Err(NoMemory);
     };
+    // The lists of most steps have one or two elements, and room for four.
+    applied.shrink();
     steps.push(applied)?;
     Ok(())
 }

@@ -75,6 +75,13 @@ impl Preimages {
         Ok(())
     }
 
+    /// Frees the memory that the list does not use.
+    pub(crate) fn shrink(&mut self)
+        ensures { self.new ≡ self.old }
+    {
+        self.notes.shrink_to_fit();
+    }
+
     /// Records the preimages of another list in order.
     pub(crate) fn note_all(&mut self, others: Preimages) -> Result<(), NoMemory>
         ensures { OnOk result (self.new ≡ all_noted self.old (finite.entries others)) }

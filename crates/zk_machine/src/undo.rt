@@ -80,4 +80,10 @@ impl Undo {
     {
         self.step
     }
+
+    pub(crate) fn shrink(&mut self)
+        ensures { self.new ≡ self.old }
+    {
+        self.touched.shrink();
+    }
 }

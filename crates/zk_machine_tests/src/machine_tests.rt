@@ -92,7 +92,9 @@ fn record_of(machine: &mut Machine, txn: &Txn) -> Result<Undo, MachineFault>
     ensures counted { OnOk result (machine.new.steps ≡ machine.old.steps + 1) }
     ensures ran { OnOk result (machine.new.failed ≡ false) }
 {
-    Ok(applied(machine, txn)?.undo)
+    let mut stored = applied(machine, txn)?;
+    stored.shrink();
+    Ok(stored.undo)
 }
 
 /// Undoes a transaction, and returns whether it was undone.
