@@ -96,8 +96,6 @@ def script(zxid, root):
     lines = (DIRECTORIES / f"follower.{zxid}.nodes").read_text().splitlines()
     nodes = {line.split(" ", 1)[0].strip('"'): lines_of(line) for line in lines}
     nodes["/zookeeper/config"] = '# "/zookeeper/config": each server has it; the node is left out\n'
-    if root not in nodes:
-        return head(root, zxid) + f'# "{root}": there is no such node\n'
     covered = [path for path in sorted(nodes, key=str.encode) if path == root or path.startswith(root.rstrip("/") + "/")]
     return head(root, zxid) + "".join(nodes[path] for path in covered)
 
@@ -106,9 +104,11 @@ def over_follower():
     checked = 0
     for zxid in ("00000002000000b6", "000000020000013d"):
         lines = (DIRECTORIES / f"follower.{zxid}.nodes").read_text().splitlines()
-        for root in [*(line.split(" ", 1)[0].strip('"') for line in lines), "/none"]:
+        for root in (line.split(" ", 1)[0].strip('"') for line in lines):
             same(f"{zxid} {root}", run("restore", FOLLOWER, root, "--at", zxid), script(zxid, root))
             checked += 1
+        missing = subprocess.run([PROGRAM, "restore", FOLLOWER, "/none", "--at", zxid], capture_output=True, check=False)
+        same(f"{zxid} /none", (missing.returncode, missing.stdout, missing.stderr), (1, b"", b'zk: no node "/none"\n'))
     return checked
 
 

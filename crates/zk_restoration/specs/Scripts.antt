@@ -1,10 +1,10 @@
 -- The script that restores a node and those below it.
 use Rattle.std.specs.Prelude.{ℕ, ℤ, true, List, ◌++◌, [], if◌then◌else◌, codes}
-use Rattle.std.specs.FinMap.{contains_key, entries}
+use Rattle.std.specs.FinMap.{entries}
 use Rattle.std.specs.List.{flat_map}
 use Rattle.zk_format.specs.Spelling.{id_digits, quoted}
 use Rattle.zk_incidents.specs.Within.{is_within}
-use Rattle.zk_restoration.specs.Lines.{node_lines, note}
+use Rattle.zk_restoration.specs.Lines.{node_lines}
 use Rattle.zk_table.specs.States.{NodeMap, State}
 use Rattle.zk_tree.specs.declared.entry.Entry.{Entry}
 use Rattle.zk_txn.specs.declared.node.Node.{Node}
@@ -31,7 +31,7 @@ covered_lines root entry = if is_within root true entry.0 then node_lines entry.
 
 -- in order of path, so that parents come first
 abbrev pub body : List ℕ → NodeMap → List ℕ
-body root nodes = if contains_key nodes root then flat_map (covered_lines root) (entries nodes) else note root (codes "there is no such node")
+body root nodes = flat_map (covered_lines root) (entries nodes)
 
 abbrev pub script : List ℕ → State → List ℕ
 script root state = head root state.last ++ body root state.nodes

@@ -4,7 +4,6 @@ ghost use Rattle.std.specs.List.{flat_map};
 ghost use Rattle.std.specs.String.{string_bytes};
 ghost use Rattle.zk_restoration.specs.Scripts.{body, covered_lines, head, moment, node_of, premises_line, script, title, use_line};
 
-use crate::line::push_note;
 use crate::node::push_node;
 use zk_fold::Fold;
 use zk_format::{push_id, push_quoted};
@@ -14,7 +13,7 @@ use zk_tree::Entry;
 
 /// Appends the script that restores the node at a path and those below it: the lines of
 /// `zkCli.sh` that create them, parents first. The root is set, and comments name what is left out.
-/// An allocation failure may leave a part.
+/// A node that does not exist has none. An allocation failure may leave a part.
 pub fn push_script(text: &mut String, path: &str, table: &Fold) -> Result<(), NoMemory>
     ensures { OnOk result (string_bytes text.new ≡ string_bytes text.old ++ script path.now table.now.state) }
 {
@@ -76,9 +75,6 @@ fn push_moment(text: &mut String, zxid: i64) -> Result<(), NoMemory>
 fn push_body(text: &mut String, path: &str, table: &Fold) -> Result<(), NoMemory>
     ensures { OnOk result (string_bytes text.new ≡ string_bytes text.old ++ body path.now table.now.state.nodes) }
 {
-    if table.get(path).is_none() {
-        return push_note(text, path, "there is no such node");
-    }
     let scope = Scope::new(*text.allocator(), path, true)?;
     let entries = table.entries()?;
     push_nodes(text, &scope, entries.as_slice())
