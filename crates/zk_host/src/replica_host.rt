@@ -9,6 +9,7 @@ use zab_host::{Host, HostFault, ReceiveFault, Storage, StoreFault, TagIssuer, Vo
 use zk_machine::Machine;
 use zk_model::{Preparer, Question};
 use zk_path::NoMemory;
+use zk_recorder::{Fate, RecordFault, Steps, Tape};
 use zk_requests::Call;
 use zk_table::ReadReply;
 use zk_tree::Tree;
@@ -21,6 +22,8 @@ pub struct ReplicaHost<S: Storage> {
     /// The number of delivered entries that the tree shows.
     shown: usize,
     tags: TagIssuer,
+    /// What it has done, for a caller who records it.
+    tape: Tape,
 }
 
 impl<S: Storage + Drop> Drop for ReplicaHost<S> {
@@ -30,6 +33,7 @@ impl<S: Storage + Drop> Drop for ReplicaHost<S> {
             tree: _,
             shown: _,
             tags: _,
+            tape: _,
         } = self;
     }
 }
@@ -74,6 +78,7 @@ impl<S: Storage> ReplicaHost<S> {
             tree: WatchedTree::new(alloc),
             shown: 0,
             tags,
+            tape: Tape::new(alloc, usize::from(me)),
         })
     }
 
@@ -86,9 +91,11 @@ impl<S: Storage> ReplicaHost<S> {
             tree,
             shown: _,
             tags,
+            tape,
         } = self;
         drop(tree);
         drop(tags);
+        drop(tape);
         host.into_storage()
     }
 
@@ -146,7 +153,10 @@ impl<S: Storage> ReplicaHost<S> {
             self.new.host result }
         ensures rest { (self.new.tree ≡ self.old.tree) × ((self.new.shown ≡ self.old.shown) × (self.new.tags ≡ self.old.tags)) }
     {
-        self.host.receive(alloc, quorums, message)
+        let before = self.host.outbox_len();
+        let received = self.host.receive(alloc, quorums, message);
+        self.finish(before, &received);
+        received
     }
 
     /// Receives any message. Applies its rule, and stores the server's stable part atomically: a
@@ -171,7 +181,10 @@ impl<S: Storage> ReplicaHost<S> {
         ensures boots { S.boots self.new.host.storage ≡ S.boots self.old.host.storage }
         ensures rest { (self.new.tree ≡ self.old.tree) × ((self.new.shown ≡ self.old.shown) × (self.new.tags ≡ self.old.tags)) }
     {
-        self.host.receive_and_store(alloc, quorums, message)
+        let before = self.host.outbox_len();
+        let received = self.host.receive_and_store(alloc, quorums, message);
+        self.finish_stored(before, &received);
+        received
     }
 
     /// Submits a client's call. No other call has its tag.
@@ -185,7 +198,11 @@ impl<S: Storage> ReplicaHost<S> {
             self.new.host result }
         ensures rest { (self.new.tree ≡ self.old.tree) × ((self.new.shown ≡ self.old.shown) × (self.new.tags ≡ self.old.tags)) }
     {
-        self.host.submit(alloc, quorums, call)
+        let before = self.host.outbox_len();
+        self.tape.submit(&call);
+        let stepped = self.host.submit(alloc, quorums, call);
+        self.finish(before, &stepped);
+        stepped
     }
 
     /// Asks the server's leader how much it has delivered, for a client's sync. No other sync has
@@ -200,7 +217,11 @@ impl<S: Storage> ReplicaHost<S> {
             self.new.host result }
         ensures rest { (self.new.tree ≡ self.old.tree) × ((self.new.shown ≡ self.old.shown) × (self.new.tags ≡ self.old.tags)) }
     {
-        self.host.sync(alloc, quorums, tag)
+        let before = self.host.outbox_len();
+        self.tape.sync(tag);
+        let stepped = self.host.sync(alloc, quorums, tag);
+        self.finish(before, &stepped);
+        stepped
     }
 
     /// Begins to lead.
@@ -208,7 +229,11 @@ impl<S: Storage> ReplicaHost<S> {
         ensures steps { StepsTo (profile_by (Q.passes quorums.now)).setting self.old.host Leads self.new.host result }
         ensures rest { (self.new.tree ≡ self.old.tree) × ((self.new.shown ≡ self.old.shown) × (self.new.tags ≡ self.old.tags)) }
     {
-        self.host.lead(alloc, quorums)
+        let before = self.host.outbox_len();
+        self.tape.lead();
+        let stepped = self.host.lead(alloc, quorums);
+        self.finish(before, &stepped);
+        stepped
     }
 
     /// Begins to follow a leader.
@@ -222,7 +247,11 @@ impl<S: Storage> ReplicaHost<S> {
             self.new.host result }
         ensures rest { (self.new.tree ≡ self.old.tree) × ((self.new.shown ≡ self.old.shown) × (self.new.tags ≡ self.old.tags)) }
     {
-        self.host.follow(alloc, quorums, leader)
+        let before = self.host.outbox_len();
+        self.tape.follow(leader);
+        let stepped = self.host.follow(alloc, quorums, leader);
+        self.finish(before, &stepped);
+        stepped
     }
 
     /// Stores what the server has, delivers to the tree what the server has delivered since the
@@ -248,7 +277,7 @@ impl<S: Storage> ReplicaHost<S> {
             ⊎ IsPartialStore (S.may_recover self.old.host.storage) self.old.host.state.peer.stable found }
         ensures boots { S.boots self.new.host.storage ≡ S.boots self.old.host.storage }
     {
-        let messages = self.host.release(alloc)?;
+        let messages = self.release_stored(alloc)?;
         let delivered = self.host.delivered();
         if delivered.len() < self.shown {
             return Err(ReleaseFault::Shrunk);
@@ -260,6 +289,27 @@ impl<S: Storage> ReplicaHost<S> {
         }
         self.shown = delivered.len();
         Ok(messages)
+    }
+
+    /// Stores what the server has, and releases its messages.
+    fn release_stored(&mut self, alloc: Global) -> Result<Messages<Call>, StoreFault>
+        ensures messages { IfOk result (λ messages. messages ≡ self.old.host.outbox) }
+        ensures stored { OnOk result (IsStored S.may_recover self.new.host) }
+        ensures state { self.new.host.state ≡ self.old.host.state }
+        ensures empty { OnOk result (self.new.host.outbox ≡ []) }
+        ensures waits { OnErr result (self.new.host.outbox ≡ self.old.host.outbox) }
+        ensures rest { (self.new.tree ≡ self.old.tree) × ((self.new.shown ≡ self.old.shown) × (self.new.tags ≡ self.old.tags)) }
+        ensures crash { (found : Stable) → S.may_recover self.new.host.storage found
+            → S.may_recover self.old.host.storage found
+            ⊎ IsPartialStore (S.may_recover self.old.host.storage) self.old.host.state.peer.stable found }
+        ensures boots { S.boots self.new.host.storage ≡ S.boots self.old.host.storage }
+    {
+        let released = self.host.release(alloc);
+        match &released {
+            Ok(_) => self.tape.store(),
+            Err(_) => self.tape.fail(RecordFault::Store),
+        }
+        released
     }
 
     /// Replies to a connection's read from the tree, and sets its watch.
@@ -278,7 +328,10 @@ impl<S: Storage> ReplicaHost<S> {
             let seen = question.seen;
             return Err(ReadFault::Behind { seen, last });
         }
-        Ok(self.tree.read(connection, question)?)
+        self.tape.read(question);
+        let reply = self.tree.read(connection, question)?;
+        self.tape.finish(Fate::Applied { sent: 0 });
+        Ok(reply)
     }
 
     /// Drops the watches of a connection.
@@ -318,6 +371,59 @@ impl<S: Storage> ReplicaHost<S> {
         ensures rest { (self.new.tree ≡ self.old.tree) × ((self.new.shown ≡ self.old.shown) × (self.new.tags ≡ self.old.tags)) }
     {
         self.host.take_syncs(alloc)
+    }
+
+    /// Begins to record what the server does. It has had no input since its start.
+    pub fn begin_record(&mut self)
+        ensures { self.new ≡ self.old }
+    {
+        self.tape.begin();
+    }
+
+    /// Records no more, and drops what was not taken.
+    pub fn end_record(&mut self)
+        ensures { self.new ≡ self.old }
+    {
+        self.tape.end();
+    }
+
+    /// The message that is received next has this number among all messages of the ensemble.
+    pub fn number_next(&mut self, number: usize)
+        ensures { self.new ≡ self.old }
+    {
+        self.tape.arrive(number);
+    }
+
+    /// Takes the events that are recorded and that a crash recovers.
+    pub fn take_record(&mut self) -> Steps
+        ensures { self.new ≡ self.old }
+    {
+        self.tape.take_stored()
+    }
+
+    /// Why recording has ended by itself, if it has.
+    pub fn record_fault(&self) -> Option<RecordFault> {
+        self.tape.fault()
+    }
+
+    /// Records what an input has come to, and the messages since the first `before`.
+    fn finish(&mut self, before: usize, stepped: &Result<(), HostFault>)
+        ensures { self.new ≡ self.old }
+    {
+        let sent = self.host.outbox_len().saturating_sub(before);
+        self.tape.finish(fate_of(stepped, sent));
+    }
+
+    /// Records what a message that was stored has come to.
+    fn finish_stored(&mut self, before: usize, received: &Result<(), ReceiveFault>)
+        ensures { self.new ≡ self.old }
+    {
+        match received {
+            Ok(()) => self.finish(before, &Ok(())),
+            Err(ReceiveFault::Host(fault)) => self.finish(before, &Err(*fault)),
+            Err(ReceiveFault::Store(_)) => self.tape.fail(RecordFault::Store),
+        }
+        self.tape.store();
     }
 
     /// The last transaction that the tree shows, and 0 before the first.
@@ -369,5 +475,14 @@ impl<S: Storage> ReplicaHost<S> {
         ensures { IfOk result (λ machine. machine ≡ record { state = self.now.tree.tree; steps = 0; failed = false }) }
     {
         self.tree.machine(alloc)
+    }
+}
+
+/// What an input that has sent a number of messages has come to.
+fn fate_of(stepped: &Result<(), HostFault>, sent: usize) -> Fate {
+    match stepped {
+        Ok(()) | Err(HostFault::NotServing | HostFault::EpochFull) => Fate::Applied { sent },
+        Err(HostFault::NoServer | HostFault::OutOfOrder) => Fate::Rejected,
+        Err(HostFault::NoMemory) => Fate::Lost,
     }
 }

@@ -4,5 +4,6 @@ pub mod Quorums
 pub mod Starting
 pub mod Steps
 pub mod Taking
+pub mod Unchanged
 pub mod Votes
 pub mod Winning

@@ -12,6 +12,7 @@ use std::alloc::Global;
 use zab_epoch::{Majority, Message, Messages};
 use zab_host::{HostFault, ReceiveFault, Storage, is_append_only};
 use zk_host::ReplicaHost;
+use zk_recorder::Record;
 use zk_requests::Call;
 
 /// A host receives the messages that arrive at it, in order.
@@ -23,11 +24,12 @@ pub(crate) fn receive_all<S: Storage>(
     cuts: &[Cut],
     server: usize,
     mail: &Messages<Call>,
+    recorded: &Record,
 ) -> Result<(), PeersFault>
     ensures { OnOk result (HearsAll S.may_recover S.boots (setting_for quorums.now.servers) (mail_for cuts.now server mail.now) host.old host.new) }
 {
     for index in 0..mail.len() {
-        receive_at(alloc, quorums, host, cuts, server, mail, index)?;
+        receive_at(alloc, quorums, host, cuts, server, mail, recorded, index)?;
     }
     Ok(())
 }
@@ -41,6 +43,7 @@ fn receive_at<S: Storage>(
     cuts: &[Cut],
     server: usize,
     mail: &Messages<Call>,
+    recorded: &Record,
     index: usize,
 ) -> Result<(), PeersFault>
     ensures { OnOk result (HearsAll S.may_recover S.boots (setting_for quorums.now.servers) (mail_for cuts.now server (listed (slice_get mail.now index))) host.old host.new) }
@@ -54,8 +57,18 @@ fn receive_at<S: Storage>(
     if is_cut(cuts, message.sender, server) {
         return Ok(());
     }
+    number_next(host, recorded, index);
     receive(alloc, quorums, host, message)?;
     Ok(())
+}
+
+/// Gives a host the number of the message at an index.
+fn number_next<S: Storage>(host: &mut ReplicaHost<S>, recorded: &Record, index: usize)
+    ensures { host.new ≡ host.old }
+{
+    if let Some(number) = recorded.number_at(index) {
+        host.number_next(number);
+    }
 }
 
 /// The message at an index.

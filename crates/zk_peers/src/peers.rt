@@ -2,7 +2,9 @@ use crate::cut::{Cut, is_cut};
 use crate::election::winner;
 use crate::fault::PeersFault;
 use crate::place::{Place, start};
-use crate::places::{count_heard, crash, receive, rejoin, restart, take_role, take_roles};
+use crate::places::{
+    collect, count_heard, crash, end_record, receive, rejoin, restart, take_role, take_roles,
+};
 use crate::state::PeerState;
 use std::alloc::Global;
 use std::mem::replace;
@@ -10,7 +12,9 @@ use zab_epoch::{Messages, Role};
 use zab_host::{Storage, Vote};
 use zab_lone_leader::own_messages;
 use zk_host::ReplicaHost;
+use zk_model::Event;
 use zk_path::NoMemory;
+use zk_recorder::{Record, RecordFault};
 use zk_requests::Call;
 
 /// The least and the greatest number of servers.
@@ -31,6 +35,8 @@ pub struct Peers<S: Storage> {
     posted: Messages<Call>,
     /// Mail of this round.
     arriving: Messages<Call>,
+    /// What the servers have done.
+    recorded: Record,
 }
 
 impl<S: Storage + Drop> Drop for Peers<S> {
@@ -42,6 +48,7 @@ impl<S: Storage + Drop> Drop for Peers<S> {
             cuts: _,
             posted: _,
             arriving: _,
+            recorded: _,
         } = self;
     }
 }
@@ -73,6 +80,7 @@ impl<S: Storage> Peers<S> {
             cuts: Vec::new(alloc),
             posted: Messages::new(alloc),
             arriving: Messages::new(alloc),
+            recorded: Record::new(alloc),
         })
     }
 
@@ -253,6 +261,8 @@ impl<S: Storage> Peers<S> {
         ensures down { is_server self.old.places.items server ≡ true → is_up_at self.old.places.items server ≡ false → IsErrOf result faults.Down }
     {
         self.check_up(server)?;
+        collect(&mut self.places, server, &mut self.recorded);
+        self.recorded.crash(server);
         crash(&mut self.places, server);
         self.leader = leader_without(self.leader, server);
         Ok(())
@@ -273,7 +283,20 @@ impl<S: Storage> Peers<S> {
             return Err(PeersFault::NotDown);
         }
         restart(self.alloc, &mut self.places, server)?;
+        self.record_restart(server);
         self.follow_leader(server)
+    }
+
+    /// Records that a server has started again; without a record, its host records nothing.
+    fn record_restart(&mut self, server: usize)
+        requires { is_server self.old.places.items server ≡ true }
+        ensures { self.new ≡ self.old }
+    {
+        if self.recorded.is_on() {
+            self.recorded.restart(server);
+        } else {
+            end_record(&mut self.places, server);
+        }
     }
 
     /// Makes a server that is up follow the leader, if there is one.
@@ -343,6 +366,7 @@ impl<S: Storage> Peers<S> {
     {
         let posted = replace(&mut self.posted, Messages::new(self.alloc));
         self.arriving = posted;
+        self.recorded.next_round();
         self.arriving.len() > 0
     }
 
@@ -369,6 +393,7 @@ impl<S: Storage> Peers<S> {
             &self.cuts,
             server,
             &self.arriving,
+            &self.recorded,
         )
     }
 
@@ -379,7 +404,46 @@ impl<S: Storage> Peers<S> {
         ensures rest { (self.new.places ≡ self.old.places) × ((self.new.leader ≡ self.old.leader)
             × ((self.new.cuts ≡ self.old.cuts) × (self.new.arriving ≡ self.old.arriving))) }
     {
+        self.collect_all(messages.len());
         self.posted.append(messages)
+    }
+
+    /// Records what the servers have stored. The last of their messages, a number of them, are
+    /// posted.
+    fn collect_all(&mut self, posted: usize)
+        ensures { self.new ≡ self.old }
+    {
+        let before = self.recorded.sent();
+        for index in 0..self.places.len() {
+            collect(&mut self.places, index + 1, &mut self.recorded);
+        }
+        self.recorded.post(before, posted);
+    }
+
+    /// Takes the events that the servers' inputs have been since the last call: a run of these
+    /// events, from new servers on, has the same histories and delivered entries at each server that
+    /// is up, once it has released what it has.
+    pub fn take_events(&mut self) -> Vec<Event>
+        ensures { self.new ≡ self.old }
+    {
+        self.recorded.take_events()
+    }
+
+    /// Why the events are recorded no more, if they are not; those recorded before can be taken.
+    pub fn record_fault(&self) -> Option<RecordFault> {
+        self.recorded.fault()
+    }
+
+    /// Records no more events, and drops those that were not taken.
+    pub fn end_record(&mut self)
+        ensures { self.new ≡ self.old }
+    {
+        self.recorded.end();
+        let events = self.recorded.take_events();
+        drop(events);
+        for index in 0..self.places.len() {
+            end_record(&mut self.places, index + 1);
+        }
     }
 
     /// The votes of the servers that hear a quorum.

@@ -7,6 +7,7 @@ use std::alloc::Global;
 use zab_epoch::{Majority, Messages};
 use zab_host::{HostFault, Storage, StoreFault};
 use zk_host::ReplicaHost;
+use zk_recorder::Record;
 use zk_requests::Call;
 
 /// A server of the ensemble.
@@ -103,12 +104,32 @@ impl<S: Storage> Place<S> {
         cuts: &[Cut],
         server: usize,
         mail: &Messages<Call>,
+        recorded: &Record,
     ) -> Result<(), PeersFault>
         ensures { OnOk result (HearsAt S.may_recover S.boots (setting_for quorums.now.servers) (mail_for cuts.now server mail.now) self.old self.new) }
     {
         match self {
-            Place::Up(host) => receive_all(alloc, quorums, host, cuts, server, mail),
+            Place::Up(host) => { receive_all(alloc, quorums, host, cuts, server, mail, recorded) }
             _ => Ok(()),
+        }
+    }
+
+    /// Moves what the server has stored to the record.
+    pub(crate) fn collect(&mut self, recorded: &mut Record)
+        ensures { self.new ≡ self.old }
+    {
+        if let Place::Up(host) = self {
+            let steps = host.take_record();
+            recorded.add(steps, host.record_fault());
+        }
+    }
+
+    /// Records no more of the server.
+    pub(crate) fn end_record(&mut self)
+        ensures { self.new ≡ self.old }
+    {
+        if let Place::Up(host) = self {
+            host.end_record();
         }
     }
 }
@@ -116,7 +137,7 @@ impl<S: Storage> Place<S> {
 ghost use Rattle.std.specs.Prelude.{IfOk, OnOk, Ok};
 ghost use Rattle.zk_peers.specs.Hosts.{setting_for, HasStarted, Takes, role_input};
 
-/// Starts a host on its store.
+/// Starts a host on its store. It records what it does.
 #[tactic(auto, using(crate::proofs::Starting::started))]
 pub(crate) fn start<S: Storage>(
     alloc: Global,
@@ -126,7 +147,9 @@ pub(crate) fn start<S: Storage>(
 ) -> Result<ReplicaHost<S>, StoreFault>
     ensures { IfOk result (HasStarted S.is_clean S.may_recover S.boots servers me storage) }
 {
-    ReplicaHost::start(alloc, servers, me, storage)
+    let mut host = ReplicaHost::start(alloc, servers, me, storage)?;
+    host.begin_record();
+    Ok(host)
 }
 
 /// Makes a host lead, or follow the leader.

@@ -14,6 +14,7 @@ use std::alloc::Global;
 use std::mem::replace;
 use zab_epoch::{Majority, Messages};
 use zab_host::Storage;
+use zk_recorder::Record;
 use zk_requests::Call;
 
 /// The number of servers that are up and whose link to this one is not cut.
@@ -144,6 +145,7 @@ pub(crate) fn receive<S: Storage>(
     cuts: &[Cut],
     server: usize,
     mail: &Messages<Call>,
+    recorded: &Record,
 ) -> Result<(), PeersFault>
     requires { is_server places.old.items server ≡ true }
     ensures { OnOk result (ChangesAt server (HearsAt S.may_recover S.boots (setting_for (length places.old.items)) (mail_for cuts.now server mail.now)) places.old.items places.new.items) }
@@ -151,5 +153,21 @@ pub(crate) fn receive<S: Storage>(
     let quorums = Majority {
         servers: places.len(),
     };
-    places[server - 1].receive(alloc, &quorums, cuts, server, mail)
+    places[server - 1].receive(alloc, &quorums, cuts, server, mail, recorded)
+}
+
+/// Moves what a server has stored to the record.
+pub(crate) fn collect<S: Storage>(places: &mut Vec<Place<S>>, server: usize, recorded: &mut Record)
+    requires { is_server places.old.items server ≡ true }
+    ensures { places.new ≡ places.old }
+{
+    places[server - 1].collect(recorded);
+}
+
+/// Records no more of a server.
+pub(crate) fn end_record<S: Storage>(places: &mut Vec<Place<S>>, server: usize)
+    requires { is_server places.old.items server ≡ true }
+    ensures { places.new ≡ places.old }
+{
+    places[server - 1].end_record();
 }
