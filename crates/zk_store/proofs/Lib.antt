@@ -1,3 +1,4 @@
+mod Parts
 mod Prefixes
 mod Creations
 mod Extended
