@@ -1,4 +1,4 @@
-ghost use Rattle.std.specs.Prelude.{◌≡◌, ◌≢◌, ◌⊎◌, [], map, drop, length, int_lt, true, false, IfOk, IfErr, OnOk, OnErr, IsErrOf};
+ghost use Rattle.std.specs.Prelude.{◌≡◌, ◌≢◌, ◌⊎◌, ◌++◌, [], map, drop, length, int_lt, true, false, IfOk, IfErr, OnOk, OnErr, IsErrOf};
 ghost use Rattle.zab_epoch.specs.declared.stable.Stable.{Stable};
 ghost use Rattle.zab_host.specs.Durability.{IsPartialStore};
 ghost use Rattle.zab_host.specs.Hosts.{IsStored};
@@ -7,7 +7,7 @@ ghost use Rattle.zk_host.specs.Delivered.{delivered_in, closed_in};
 ghost use Rattle.zk_host.specs.Failures.{CannotRead};
 ghost use Rattle.zk_host.specs.WatchedTrees.{after_entries, after_read};
 ghost use Rattle.zk_host.specs.declared.fault.ReadFault.TheVariants as read_faults;
-ghost use Rattle.zk_hub.specs.Deliveries.{outputs_of, left_after};
+ghost use Rattle.zk_hub.specs.Deliveries.{output_of, outputs_of, left_by, left_after};
 ghost use Rattle.zk_model.specs.Ensembles.{reply_of};
 
 use crate::outcome::Outcome;
@@ -43,27 +43,23 @@ impl<E: Drop> Drop for Released<E> {
     }
 }
 
-/// The news of a host, as a hub takes it.
-fn news_for_hub(alloc: Global, news: Vec<News>) -> Result<Vec<HubNews<Fired, Outcome>>, NoMemory>
-    ensures { IfOk result (λ it. it.items ≡ map hub_news news.items) }
+/// A piece of a host's news, as a hub takes it.
+fn for_hub(news: News) -> HubNews<Fired, Outcome>
+    ensures { result ≡ hub_news news }
 {
-    let mut all = Vec::new(alloc);
-    for one in news {
-        all.push(match one {
-            News::Event(fired) => HubNews::Event {
-                connection: fired.session,
-                event: fired,
-            },
-            News::Answer(answered) => HubNews::Outcome {
-                tag: answered.tag,
-                outcome: Outcome::Wrote(answered.result),
-            },
-        })?;
+    match news {
+        News::Event(fired) => HubNews::Event {
+            connection: fired.session,
+            event: fired,
+        },
+        News::Answer(answered) => HubNews::Outcome {
+            tag: answered.tag,
+            outcome: Outcome::Wrote(answered.result),
+        },
     }
-    Ok(all)
 }
 
-/// Gives the news that a host has to its clients' requests.
+/// Gives the news that a host has to its clients' requests, without a second list of it.
 fn deliver<E: Drop>(
     alloc: Global,
     hub: &mut Hub<E, Outcome>,
@@ -72,8 +68,26 @@ fn deliver<E: Drop>(
     ensures outputs { IfOk result (λ it. it.items ≡ outputs_of (map hub_news news.items) hub.old) }
     ensures hub { OnOk result (hub.new ≡ left_after (map hub_news news.items) hub.old) }
 {
-    let news = news_for_hub(alloc, news)?;
-    hub.deliver(alloc, news)
+    let mut outputs = Vec::new(alloc);
+    for one in news {
+        let mut written = deliver_one(alloc, hub, one)?;
+        outputs.append(&mut written)?;
+    }
+    Ok(outputs)
+}
+
+/// Gives a piece of news to the clients' requests.
+fn deliver_one<E: Drop>(
+    alloc: Global,
+    hub: &mut Hub<E, Outcome>,
+    news: News,
+) -> Result<Vec<Output<Fired, E, Outcome>>, NoMemory>
+    ensures outputs { IfOk result (λ it. it.items ≡ output_of (hub_news news) hub.old ++ []) }
+    ensures hub { OnOk result (hub.new ≡ left_by (hub_news news) hub.old) }
+{
+    let mut one = Vec::new(alloc);
+    one.push(for_hub(news))?;
+    hub.deliver(alloc, one)
 }
 
 /// Releases what a host has: its messages, once its state is stored, and what the newly delivered
