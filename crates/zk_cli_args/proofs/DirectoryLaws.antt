@@ -2,7 +2,7 @@
 use Rattle.std.proofs.Common.{◌≡◌, Bool, true, false, ℕ, ℤ, List, [], ◌∷◌, ◌==◌, take, drop, Option, Some, None, IsSome, refl, sym, ap, ◌∙◌, subst, codes, arith, if◌then◌else◌}
 use Rattle.std.proofs.lemmas.Slice.Eq.{bytes_eq-Decides}
 use Rattle.std.specs.Str.{bytes_eq}
-use Rattle.zk_times.specs.Times.{time_of}
+use Rattle.zk_cli_args.specs.Moments.{moment_of}
 use Rattle.zk_cli_args.specs.Zxids.{padded}
 use Rattle.zk_cli_args.specs.Commands.{Names, NamesBy, ShowsUpto, given_by, given_with, is_option, prompts_of, upto_text, values_of, with_value, without_prompt}
 use Rattle.zk_cli_args.specs.Folders.{NamesFolder, NamesFolderBy, NeedsDirectory, SpellsUntil, looked_by}
@@ -18,7 +18,7 @@ use Rattle.zk_cli_args.specs.declared.serving.Serving.{Serving}
 use Rattle.zk_cli_args.proofs.FolderLaws as folders
 use Rattle.zk_cli_args.proofs.GivenLaws as jobs
 use Rattle.zk_cli_args.proofs.NamesLaws.{apart}
-use Rattle.zk_cli_args.proofs.UntilLaws.{last_is_no_time, no_time, one_until}
+use Rattle.zk_cli_args.proofs.UntilLaws.{last_is_no_moment, no_moment, one_until}
 
 -- ---- words with `--logs` are no values
 
@@ -97,8 +97,8 @@ same_values x y e = cc
 no_directory : (upto : Option ℤ) (word : List ℕ) (until : Until) → upto_text upto ≡ padded word → SpellsUntil word until → NeedsDirectory until None → ⊥
 no_directory upto word untils.Last e spelled needs = let never : false ≡ true = needs in cc
 no_directory upto word (untils.Zxid z) e spelled needs = let never : false ≡ true = needs in cc
-no_directory None word (untils.Time t) e spelled needs = last_is_no_time t (ap time_of e ∙ spelled)
-no_directory (Some z) word (untils.Time t) e spelled needs = no_time z t (ap time_of e ∙ spelled)
+no_directory None word (untils.Time t) e spelled needs = last_is_no_moment t (ap moment_of e ∙ spelled)
+no_directory (Some z) word (untils.Time t) e spelled needs = no_moment z t (ap moment_of e ∙ spelled)
 
 not_shown : (words values others : List (List ℕ)) (upto : Option ℤ) (input word folder : List ℕ) (until : Until) (logs : Option (List ℕ)) → given_by words ≡ Some (false, values) → looked_by words ≡ Some (logs, others) → ShowsUpto values input upto
     → others ≡ folder ∷ word ∷ [] → SpellsUntil word until → NeedsDirectory until logs → ⊥

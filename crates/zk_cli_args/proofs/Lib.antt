@@ -7,6 +7,7 @@ pub mod EnsembleLaws
 pub mod FolderLaws
 pub mod GivenLaws
 pub mod LinesLaws
+pub mod MomentLaws
 pub mod NamesLaws
 pub mod OptionLaws
 pub mod RestoreLaws

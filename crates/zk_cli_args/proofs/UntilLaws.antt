@@ -9,6 +9,7 @@ use Rattle.zk_format.specs.Spelling.{sixteen_digits, id_digits}
 use Rattle.zk_times.specs.Times.{fits, has_form, time_of}
 use Rattle.zk_cli_args.specs.Commands.{AreOnly, IsOnly, IsUpto, ReadsUpto}
 use Rattle.zk_cli_args.specs.Folders.{IsShownIn, NamesFolderBy, NeedsDirectory, ReadsFolderBy, ReadsPlain, ReadsUntil, SpellsPlain, SpellsUntil, until_of}
+use Rattle.zk_cli_args.specs.Moments.{ends_with_zulu, moment_of}
 use Rattle.zk_cli_args.specs.Zxids.{padded}
 use Rattle.zk_cli_args.specs.declared.folders.FolderJob.{FolderJob}
 use Rattle.zk_cli_args.specs.declared.folders.FolderOrder.{FolderOrder}
@@ -62,16 +63,45 @@ digits_have_no_form bits =
     let bytes = to_be_bytes w64 bits in
     no_form (get_or bytes 0 0) (get_or bytes 1 0) (get_or bytes 2 0) (get_or bytes 3 0 ∷ get_or bytes 4 0 ∷ get_or bytes 5 0 ∷ get_or bytes 6 0 ∷ get_or bytes 7 0 ∷ []) (bytes_fit 8 bits 2)
 
-pub no_time : (z t : ℤ) → time_of (id_digits z) ≡ Some t → ⊥
+no_time : (z t : ℤ) → time_of (id_digits z) ≡ Some t → ⊥
 unfolding time_of
 no_time z t e =
     let none : has_form (id_digits z) ≡ false = digits_have_no_form (cast_unsigned w64 z) in
     let never : None ≡ Some t = rw none at e in
     cc
 
-pub last_is_no_time : (t : ℤ) → time_of (codes "last") ≡ Some t → ⊥
-unfolding time_of
-last_is_no_time t e = let never : None ≡ Some t = e in cc
+pub last_is_no_moment : (t : ℤ) → moment_of (codes "last") ≡ Some t → ⊥
+unfolding moment_of time_of
+last_is_no_moment t e = let never : None ≡ Some t = e in cc
+
+-- ---- digits do not end with Z
+
+no_zulu : (d : ℕ) → d < 16 → (slice_index lower_digits d == 90) ≡ false
+no_zulu d small = by_test (slice_index lower_digits d) (slice_index lower_digits d == 90) refl (IsDigits-lower_digits d small)
+  where
+    by_test : (x : ℕ) (test : Bool) → (x == 90) ≡ test → hex_digit_value x ≡ Some d → test ≡ false
+    by_test x false e h = refl
+    by_test x true e h =
+        let same : x ≡ 90 = eqb-true x 90 e in
+        let none : hex_digit_value 90 ≡ Some d = subst (λ (y : ℕ). hex_digit_value y ≡ Some d) same h in
+        absurd (cc none)
+
+ends_so : (a b c d e f g h : ℕ) → h < 256 → ends_with_zulu (encode_lower (a ∷ b ∷ c ∷ d ∷ e ∷ f ∷ g ∷ h ∷ [])) ≡ false
+unfolding encode_with
+ends_so a b c d e f g h small = rw (no_zulu (h % 16) (omega arith)) refl
+
+digits_end_without : (bits : ℕ) → ends_with_zulu (sixteen_digits bits) ≡ false
+unfolding sixteen_digits
+digits_end_without bits =
+    let bytes = to_be_bytes w64 bits in
+    ends_so (get_or bytes 0 0) (get_or bytes 1 0) (get_or bytes 2 0) (get_or bytes 3 0) (get_or bytes 4 0) (get_or bytes 5 0) (get_or bytes 6 0) (get_or bytes 7 0) (bytes_fit 8 bits 7)
+
+pub no_moment : (z t : ℤ) → moment_of (id_digits z) ≡ Some t → ⊥
+unfolding moment_of
+no_moment z t e =
+    let none : ends_with_zulu (id_digits z) ≡ false = digits_end_without (cast_unsigned w64 z) in
+    let plain : time_of (id_digits z) ≡ Some t = rw none at e in
+    no_time z t plain
 
 -- ---- one transaction for a word
 
@@ -81,12 +111,12 @@ same_some t s e = cc
 pub one_until : (word : List ℕ) (u v : Until) → SpellsUntil word u → SpellsUntil word v → u ≡ v
 one_until word untils.Last untils.Last p q = refl
 one_until word untils.Last (untils.Zxid z) p q = absurd (no_number z (sym p ∙ q.1))
-one_until word untils.Last (untils.Time t) p q = absurd (last_is_no_time t (ap time_of (sym p) ∙ q))
+one_until word untils.Last (untils.Time t) p q = absurd (last_is_no_moment t (ap moment_of (sym p) ∙ q))
 one_until word (untils.Zxid z) untils.Last p q = absurd (no_number z (sym q ∙ p.1))
 one_until word (untils.Zxid z) (untils.Zxid y) p q = ap untils.Zxid (one_number z y p.0 q.0 (sym p.1 ∙ q.1))
-one_until word (untils.Zxid z) (untils.Time t) p q = absurd (no_time z t (ap time_of (sym p.1) ∙ q))
-one_until word (untils.Time t) untils.Last p q = absurd (last_is_no_time t (ap time_of (sym q) ∙ p))
-one_until word (untils.Time t) (untils.Zxid z) p q = absurd (no_time z t (ap time_of (sym q.1) ∙ p))
+one_until word (untils.Zxid z) (untils.Time t) p q = absurd (no_moment z t (ap moment_of (sym p.1) ∙ q))
+one_until word (untils.Time t) untils.Last p q = absurd (last_is_no_moment t (ap moment_of (sym q) ∙ p))
+one_until word (untils.Time t) (untils.Zxid z) p q = absurd (no_moment z t (ap moment_of (sym q.1) ∙ p))
 one_until word (untils.Time t) (untils.Time s) p q = ap untils.Time (same_some t s (sym p ∙ q))
 
 -- ---- reading it
@@ -98,10 +128,10 @@ spelled_upto word (Some z) e fits = (fits, e)
 pub reads_upto : (word : List ℕ) (upto : Option ℤ) (until : Until) → ReadsUpto word (Some upto) → IsUpto upto → until ≡ until_of upto → ReadsPlain word (Some until)
 reads_upto word upto until e fits same = subst (λ (u : Until). SpellsPlain word u) (sym same) (spelled_upto word upto e fits)
 
-pub reads_time : (word : List ℕ) (time : ℤ) → Some time ≡ time_of word → ReadsPlain word (Some (untils.Time time))
+pub reads_time : (word : List ℕ) (time : ℤ) → Some time ≡ moment_of word → ReadsPlain word (Some (untils.Time time))
 reads_time word time e = sym e
 
-pub reads_none : (word : List ℕ) → ReadsUpto word None → None ≡ time_of word → ReadsPlain word None
+pub reads_none : (word : List ℕ) → ReadsUpto word None → None ≡ moment_of word → ReadsPlain word None
 reads_none word unread none untils.Last p = unread None tt p
 reads_none word unread none (untils.Zxid z) p = unread (Some z) p.0 p.1
 reads_none word unread none (untils.Time t) p = let never : None ≡ Some t = none ∙ p in cc

@@ -3,7 +3,7 @@ use Rattle.std.specs.Prelude.{◌≡◌, ℕ, List, [], ◌∷◌, Option, Some,
 use Rattle.std.specs.Str.{bytes_eq}
 use Rattle.zk_cli_args.specs.Commands.{values_of}
 use Rattle.zk_cli_args.specs.Folders.{SpellsUntil}
-use Rattle.zk_cli_args.specs.Incidents.{parted}
+use Rattle.zk_cli_args.specs.Incidents.{is_path, parted}
 use Rattle.zk_cli_args.specs.declared.difference.DiffGiven.{DiffGiven}
 use Rattle.zk_cli_args.specs.declared.difference.DiffJob.{DiffJob}
 
@@ -14,10 +14,10 @@ pub record DiffWords : Type 0 where
   pub to : List ℕ
   pub path : List ℕ
 
--- three values, and a path, if not all nodes are compared
+-- three values, and the path of a node, if not all nodes are compared
 abbrev pub diff_by : Option (List ℕ) → Option (List (List ℕ)) → Option DiffWords
 diff_by logs (Some (folder ∷ from ∷ to ∷ [])) = Some (record { folder = folder; logs = logs; from = from; to = to; path = codes "/" })
-diff_by logs (Some (folder ∷ from ∷ to ∷ path ∷ [])) = Some (record { folder = folder; logs = logs; from = from; to = to; path = path })
+diff_by logs (Some (folder ∷ from ∷ to ∷ path ∷ [])) = if is_path path then Some (record { folder = folder; logs = logs; from = from; to = to; path = path }) else None
 diff_by logs values = None
 
 abbrev pub diff_parted : Option (List ℕ) × List (List ℕ) → Option DiffWords

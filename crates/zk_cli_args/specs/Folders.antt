@@ -2,7 +2,7 @@
 use Rattle.std.specs.Prelude.{◌≡◌, ℕ, ℤ, List, [], ◌∷◌, Option, Some, None, IsSome, FitsSigned, codes, option_map}
 use Rattle.std.specs.Int.{w64}
 use Rattle.zk_format.specs.Spelling.{id_digits}
-use Rattle.zk_times.specs.Times.{time_of}
+use Rattle.zk_cli_args.specs.Moments.{moment_of}
 use Rattle.zk_cli_args.specs.Options.{given_with_option}
 use Rattle.zk_cli_args.specs.Zxids.{padded}
 use Rattle.zk_cli_args.specs.declared.command.Order.{Order}
@@ -21,7 +21,7 @@ looked_by words = given_with_option (codes "--logs") (codes "--logs=") words
 abbrev pub SpellsPlain : List ℕ → Until → Type 0
 SpellsPlain word untils.Last = word ≡ codes "last"
 SpellsPlain word (untils.Zxid zxid) = FitsSigned w64 zxid × (word ≡ id_digits zxid)
-SpellsPlain word (untils.Time time) = time_of word ≡ Some time
+SpellsPlain word (untils.Time time) = moment_of word ≡ Some time
 
 abbrev pub SpellsUntil : List ℕ → Until → Type 0
 SpellsUntil word until = SpellsPlain (padded word) until

@@ -1,6 +1,7 @@
 -- The words of `zk history` and `zk top`.
-use Rattle.std.specs.Prelude.{◌≡◌, ℕ, Bool, true, false, List, [], ◌∷◌, Option, Some, None, option_map, if◌then◌else◌, codes}
+use Rattle.std.specs.Prelude.{◌≡◌, ℕ, Bool, true, false, List, [], ◌∷◌, Option, Some, None, is_none, option_map, if◌then◌else◌, codes}
 use Rattle.std.specs.Str.{bytes_eq}
+use Rattle.zk_path.specs.Paths.{fault_of}
 use Rattle.zk_cli_args.specs.Commands.{values_of}
 use Rattle.zk_cli_args.specs.Folders.{SpellsUntil}
 use Rattle.zk_cli_args.specs.Options.{ValueBeside, flag_in, option_in}
@@ -29,6 +30,12 @@ flagged_by words (Some others) = (true, others)
 abbrev pub flagged : List ℕ → List (List ℕ) → Bool × List (List ℕ)
 flagged flag words = flagged_by words (flag_in flag words)
 
+-- ---- a node
+
+-- the path of a node, there or not
+abbrev pub is_path : List ℕ → Bool
+is_path word = is_none (fault_of word)
+
 -- ---- `zk history`
 
 pub record HistoryWords : Type 0 where
@@ -37,9 +44,9 @@ pub record HistoryWords : Type 0 where
   pub path : List ℕ
   pub below : Bool
 
--- two values
+-- a directory, and the path of a node
 abbrev pub history_by : Option (List ℕ) → Bool → Option (List (List ℕ)) → Option HistoryWords
-history_by logs below (Some (folder ∷ path ∷ [])) = Some (record { folder = folder; logs = logs; path = path; below = below })
+history_by logs below (Some (folder ∷ path ∷ [])) = if is_path path then Some (record { folder = folder; logs = logs; path = path; below = below }) else None
 history_by logs below values = None
 
 abbrev pub history_flagged : Option (List ℕ) → Bool × List (List ℕ) → Option HistoryWords

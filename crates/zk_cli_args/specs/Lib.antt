@@ -6,6 +6,7 @@ pub mod Ensembles
 pub mod Folders
 pub mod Incidents
 pub mod Lines
+pub mod Moments
 pub mod Options
 pub mod Parting
 pub mod Restoring

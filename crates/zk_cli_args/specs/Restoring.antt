@@ -3,7 +3,7 @@ use Rattle.std.specs.Prelude.{◌≡◌, ℕ, List, [], ◌∷◌, Option, Some,
 use Rattle.std.specs.Str.{bytes_eq}
 use Rattle.zk_cli_args.specs.Commands.{values_of}
 use Rattle.zk_cli_args.specs.Folders.{SpellsUntil}
-use Rattle.zk_cli_args.specs.Incidents.{parted}
+use Rattle.zk_cli_args.specs.Incidents.{is_path, parted}
 use Rattle.zk_cli_args.specs.declared.restoration.RestoreGiven.{RestoreGiven}
 use Rattle.zk_cli_args.specs.declared.restoration.RestoreJob.{RestoreJob}
 
@@ -18,9 +18,9 @@ abbrev pub at_word : Option (List ℕ) → List ℕ
 at_word (Some word) = word
 at_word None = codes "last"
 
--- two values
+-- a directory, and the path of a node
 abbrev pub restore_by : Option (List ℕ) → Option (List ℕ) → Option (List (List ℕ)) → Option RestoreWords
-restore_by logs at (Some (folder ∷ path ∷ [])) = Some (record { folder = folder; logs = logs; path = path; at = at_word at })
+restore_by logs at (Some (folder ∷ path ∷ [])) = if is_path path then Some (record { folder = folder; logs = logs; path = path; at = at_word at }) else None
 restore_by logs at values = None
 
 abbrev pub restore_dated : Option (List ℕ) → Option (List ℕ) × List (List ℕ) → Option RestoreWords

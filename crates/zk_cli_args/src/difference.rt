@@ -4,6 +4,7 @@ ghost use Rattle.zk_cli_args.specs.Differing.{ReadsDiff, ReadsDiffWords, diff_af
 use crate::command::values_of;
 use crate::folders::{Until, read_until};
 use crate::parting::part_option;
+use crate::paths::is_path;
 use std::alloc::Global;
 use zk_path::NoMemory;
 
@@ -64,29 +65,38 @@ fn diff_after<'a>(alloc: Global, words: &[&'a str]) -> Result<Option<DiffGiven<'
     let Some(values) = values_of(alloc, logs.others.as_slice())? else {
         return Ok(None);
     };
-    Ok(diff_by(logs.value, values.as_slice()))
+    diff_by(alloc, logs.value, values.as_slice())
 }
 
 /// The words of this option and these values.
-fn diff_by<'a>(logs: Option<&'a str>, values: &[&'a str]) -> Option<DiffGiven<'a>>
-    ensures { option_map words_of_diff result ≡ diff_by (option_map (λ logs. logs.now) logs.entry) (Some (map (λ value. value.now) values.now)) }
+fn diff_by<'a>(
+    alloc: Global,
+    logs: Option<&'a str>,
+    values: &[&'a str],
+) -> Result<Option<DiffGiven<'a>>, NoMemory>
+    ensures { IfOk result (λ read. option_map words_of_diff read ≡ diff_by (option_map (λ logs. logs.now) logs.entry) (Some (map (λ value. value.now) values.now))) }
 {
     match values {
-        [folder, from, to] => Some(DiffGiven {
+        [folder, from, to] => Ok(Some(DiffGiven {
             folder,
             logs,
             from,
             to,
             path: "/",
-        }),
-        [folder, from, to, path] => Some(DiffGiven {
-            folder,
-            logs,
-            from,
-            to,
-            path,
-        }),
-        _ => None,
+        })),
+        [folder, from, to, path] => {
+            if !is_path(alloc, path)? {
+                return Ok(None);
+            }
+            Ok(Some(DiffGiven {
+                folder,
+                logs,
+                from,
+                to,
+                path,
+            }))
+        }
+        _ => Ok(None),
     }
 }
 

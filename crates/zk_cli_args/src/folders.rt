@@ -3,11 +3,11 @@ ghost use Rattle.zk_cli_args.specs.Commands.{values_of};
 ghost use Rattle.zk_cli_args.specs.Folders.{IsShownIn, NeedsDirectory, ReadsFolder, ReadsFolderBehind, ReadsFolderBy, ReadsFolderGiven, ReadsPlain, ReadsUntil, folder_order_of, until_of};
 
 use crate::command::{Job, Order, only, only_two, read_upto, values_of};
+use crate::moments::read_moment;
 use crate::options::option_in;
 use crate::zxids::padded;
 use std::alloc::Global;
 use zk_path::NoMemory;
-use zk_times::read_time;
 
 /// The last transaction of a tree.
 #[derive(Clone, Copy, Debug, PartialEq, Eq)]
@@ -193,7 +193,7 @@ fn read_plain(alloc: Global, word: &str) -> Result<Option<Until>, NoMemory>
     if let Some(upto) = read_upto(alloc, word)? {
         return Ok(Some(until_of(upto)));
     }
-    match read_time(alloc, word)? {
+    match read_moment(alloc, word)? {
         Some(time) => Ok(Some(Until::Time(time))),
         None => Ok(None),
     }

@@ -3,6 +3,7 @@ ghost use Rattle.zk_cli_args.specs.Incidents.{history_after, history_by, history
 
 use crate::command::values_of;
 use crate::parting::{part_flag, part_option};
+use crate::paths::is_path;
 use std::alloc::Global;
 use zk_path::NoMemory;
 
@@ -44,20 +45,28 @@ fn history_after<'a>(alloc: Global, words: &[&'a str]) -> Result<Option<HistoryJ
     let Some(values) = values_of(alloc, below.others.as_slice())? else {
         return Ok(None);
     };
-    Ok(history_by(logs.value, below.is_there, values.as_slice()))
+    history_by(alloc, logs.value, below.is_there, values.as_slice())
 }
 
 /// The history with these options and values.
-fn history_by<'a>(logs: Option<&'a str>, below: bool, values: &[&'a str]) -> Option<HistoryJob<'a>>
-    ensures { option_map words_of_history result ≡ history_by (option_map (λ logs. logs.now) logs.entry) below (Some (map (λ value. value.now) values.now)) }
+fn history_by<'a>(
+    alloc: Global,
+    logs: Option<&'a str>,
+    below: bool,
+    values: &[&'a str],
+) -> Result<Option<HistoryJob<'a>>, NoMemory>
+    ensures { IfOk result (λ read. option_map words_of_history read ≡ history_by (option_map (λ logs. logs.now) logs.entry) below (Some (map (λ value. value.now) values.now))) }
 {
     let [folder, path] = values else {
-        return None;
+        return Ok(None);
     };
-    Some(HistoryJob {
+    if !is_path(alloc, path)? {
+        return Ok(None);
+    }
+    Ok(Some(HistoryJob {
         folder,
         logs,
         path,
         below,
-    })
+    }))
 }

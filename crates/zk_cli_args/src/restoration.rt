@@ -4,6 +4,7 @@ ghost use Rattle.zk_cli_args.specs.Restoring.{ReadsRestore, ReadsRestoreWords, r
 use crate::command::values_of;
 use crate::folders::{Until, read_until};
 use crate::parting::part_option;
+use crate::paths::is_path;
 use std::alloc::Global;
 use zk_path::NoMemory;
 
@@ -64,30 +65,34 @@ fn restore_after<'a>(alloc: Global, words: &[&'a str]) -> Result<Option<RestoreG
     let Some(values) = values_of(alloc, at.others.as_slice())? else {
         return Ok(None);
     };
-    Ok(restore_by(logs.value, at.value, values.as_slice()))
+    restore_by(alloc, logs.value, at.value, values.as_slice())
 }
 
 /// The words of these options and values.
 fn restore_by<'a>(
+    alloc: Global,
     logs: Option<&'a str>,
     at: Option<&'a str>,
     values: &[&'a str],
-) -> Option<RestoreGiven<'a>>
-    ensures { option_map words_of_restore result ≡ restore_by (option_map (λ word. word.now) logs.entry) (option_map (λ word. word.now) at.entry) (Some (map (λ value. value.now) values.now)) }
+) -> Result<Option<RestoreGiven<'a>>, NoMemory>
+    ensures { IfOk result (λ read. option_map words_of_restore read ≡ restore_by (option_map (λ word. word.now) logs.entry) (option_map (λ word. word.now) at.entry) (Some (map (λ value. value.now) values.now))) }
 {
     let [folder, path] = values else {
-        return None;
+        return Ok(None);
     };
+    if !is_path(alloc, path)? {
+        return Ok(None);
+    }
     let at = match at {
         Some(at) => at,
         None => "last",
     };
-    Some(RestoreGiven {
+    Ok(Some(RestoreGiven {
         folder,
         logs,
         path,
         at,
-    })
+    }))
 }
 
 /// The nodes that these words name.

@@ -59,7 +59,7 @@ pub(crate) const SHOW: OrderHelp = OrderHelp {
         LOGS_OR_LOG,
         ValueHelp {
             name: "ZXID",
-            help: "The last transaction to apply: sixteen lower-case hexadecimal digits, or `last`; of a directory also a time in UTC, such as 2026-11-27T14:03:05.123, for the last transaction with it or an earlier one",
+            help: "The last transaction to apply: sixteen lower-case hexadecimal digits, 0x and fewer, or `last`; of a directory also a time in UTC, such as 2026-11-27T14:03:05.123, for the last transaction with it or an earlier one",
             required: true,
         },
     ],
@@ -97,7 +97,7 @@ const VERIFY: OrderHelp = OrderHelp {
     options: &[LOGS],
 };
 
-const HISTORY: OrderHelp = OrderHelp {
+pub(crate) const HISTORY: OrderHelp = OrderHelp {
     name: "history",
     title: "zk history",
     about: "Prints each transaction of a data directory that created, changed or deleted a node",
@@ -156,7 +156,7 @@ pub(crate) const TOP: OrderHelp = OrderHelp {
         OptionHelp {
             name: "by",
             value: "KEY",
-            help: "What the writes are counted by: path or session",
+            help: "What the writes are counted by: path or session; it is required",
         },
         OptionHelp {
             name: "from",

@@ -4,7 +4,7 @@ ghost use Rattle.std.specs.Prelude.{◌≢◌, ◌↔◌, IsTrue};
 ghost use Rattle.clap.specs.declared.error.kind.ErrorKind.TheVariants as kinds;
 
 use crate::grammar::{command, order_command};
-use crate::helps::{DEBUG, DIFF, ENSEMBLE, MEND, OrderHelp, RESTORE, SERVE, SHOW, TOP};
+use crate::helps::{DEBUG, DIFF, ENSEMBLE, HISTORY, MEND, OrderHelp, RESTORE, SERVE, SHOW, TOP};
 use clap::Error;
 use clap::error::ErrorKind;
 use std::alloc::{AllocError, Global};
@@ -43,13 +43,15 @@ impl fmt::Display for Refusal {
 /// The usage names the program `zk`, not the first word.
 pub fn refusal_of<'a>(alloc: Global, words: &'a [&'a str]) -> Result<Refusal, AllocError> {
     let error = match refused_by_clap(alloc, words)? {
+        Some(error) if names_any(words, &FORMS) => form_fault(alloc, error)?,
         Some(error) => error,
         None if words.get(1) == Some(&"mend") => mend_fault(alloc)?,
         None if words.get(1) == Some(&"serve") => serve_fault(alloc)?,
         None if words.get(1) == Some(&"ensemble") => ensemble_fault(alloc)?,
-        None if words.get(1) == Some(&"top") => top_fault(alloc)?,
-        None if words.get(1) == Some(&"diff") => zxid_fault(alloc, &DIFF)?,
-        None if words.get(1) == Some(&"restore") => zxid_fault(alloc, &RESTORE)?,
+        None if words.get(1) == Some(&"top") => top_fault(alloc, words)?,
+        None if words.get(1) == Some(&"history") => path_fault(alloc)?,
+        None if words.get(1) == Some(&"diff") => diff_fault(alloc)?,
+        None if words.get(1) == Some(&"restore") => restore_fault(alloc)?,
         None if words.get(1) == Some(&"debug") => debug_fault(alloc, words)?,
         // Of the other words that clap accepts, only a ZXID is an error.
         None => zxid_fault(alloc, &SHOW)?,
@@ -62,9 +64,23 @@ fn refused_by_clap<'a>(alloc: Global, words: &'a [&'a str]) -> Result<Option<Err
     Ok(command(alloc)?.try_get_matches_from(words).err())
 }
 
+/// The options of the form of lines, which `clap` does not know: they are read before it.
+const FORMS: [&str; 3] = ["--json", "--time", "--follow"];
+
+/// The error of `clap`, or what it means where it does not know an option of the form.
+fn form_fault(alloc: Global, error: Error) -> Result<Error, AllocError> {
+    if error.kind() != ErrorKind::UnknownArgument {
+        return Ok(error);
+    }
+    command(alloc)?.error(
+        ErrorKind::ArgumentConflict,
+        "--json is for show, list, history, top, verify and diff, --time iso for list without --json, and --follow for list of a directory; each is given once",
+    )
+}
+
 /// A usage error of `debug` that `clap` accepts.
 fn debug_fault(alloc: Global, words: &[&str]) -> Result<Error, AllocError> {
-    if names_start(words) {
+    if names(words, "--from") {
         return zxid_fault(alloc, &DEBUG);
     }
     fault_of(
@@ -75,11 +91,24 @@ fn debug_fault(alloc: Global, words: &[&str]) -> Result<Error, AllocError> {
     )
 }
 
-/// Whether a word is the option `--from`.
-fn names_start(words: &[&str]) -> bool {
+/// Whether a word is one of these options, with its value or before it.
+fn names_any(words: &[&str], options: &[&str]) -> bool {
+    let mut is_there = false;
+    for option in options {
+        if names(words, option) {
+            is_there = true;
+        }
+    }
+    is_there
+}
+
+/// Whether a word is this option, with its value or before it.
+fn names(words: &[&str], option: &str) -> bool {
     let mut is_there = false;
     for word in words {
-        if *word == "--from" || word.starts_with("--from=") {
+        if let Some(rest) = word.strip_prefix(option)
+            && (rest.is_empty() || rest.starts_with("="))
+        {
             is_there = true;
         }
     }
@@ -96,8 +125,46 @@ fn zxid_fault(alloc: Global, order: &OrderHelp) -> Result<Error, AllocError> {
     )
 }
 
+/// A usage error of `history` that `clap` accepts.
+fn path_fault(alloc: Global) -> Result<Error, AllocError> {
+    fault_of(
+        alloc,
+        &HISTORY,
+        ErrorKind::ValueValidation,
+        "PATH is not the path of a node, such as / or /app/lock",
+    )
+}
+
+/// A usage error of `diff` that `clap` accepts.
+fn diff_fault(alloc: Global) -> Result<Error, AllocError> {
+    fault_of(
+        alloc,
+        &DIFF,
+        ErrorKind::ValueValidation,
+        "FROM or TO is neither a zxid such as 0x2a4, `last`, nor a time such as 2026-11-27T14:03, or PATH is not the path of a node, such as / or /app/lock",
+    )
+}
+
+/// A usage error of `restore` that `clap` accepts.
+fn restore_fault(alloc: Global) -> Result<Error, AllocError> {
+    fault_of(
+        alloc,
+        &RESTORE,
+        ErrorKind::ValueValidation,
+        "T is neither a zxid such as 0x2a4, `last`, nor a time such as 2026-11-27T14:03, or PATH is not the path of a node, such as / or /app/lock",
+    )
+}
+
 /// A usage error of `top` that `clap` accepts.
-fn top_fault(alloc: Global) -> Result<Error, AllocError> {
+fn top_fault(alloc: Global, words: &[&str]) -> Result<Error, AllocError> {
+    if !names(words, "--by") {
+        return fault_of(
+            alloc,
+            &TOP,
+            ErrorKind::MissingRequiredArgument,
+            "--by path or --by session is missing",
+        );
+    }
     fault_of(
         alloc,
         &TOP,
