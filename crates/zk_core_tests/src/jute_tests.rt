@@ -11,7 +11,7 @@ use zk_path::NoMemory;
 use zk_txn::Txn;
 
 /// The first record of the first log: a session is opened.
-static FIRST: [u8; 36] = [
+pub(crate) static FIRST: [u8; 36] = [
     // session, cxid, zxid and time
     1, 0, 0, 0, 0, 0, 0, 1, 0, 0, 0, 0, 0, 0, 0, 1, 0, 0, 0, 1, 0, 0, 0, 0, 0, 0, 0x03, 0xe8,
     // createSession, and its timeout
@@ -19,7 +19,7 @@ static FIRST: [u8; 36] = [
 ];
 
 /// The second: `/a` is created.
-static SECOND: [u8; 76] = [
+pub(crate) static SECOND: [u8; 76] = [
     // session, cxid, zxid and time
     1, 0, 0, 0, 0, 0, 0, 1, 0, 0, 0, 1, 0, 0, 0, 1, 0, 0, 0, 2, 0, 0, 0, 0, 0, 0, 0x07, 0xd0,
     // create, the path and the content
@@ -40,7 +40,7 @@ static THIRD: [u8; 32] = [
 ];
 
 /// A multi: `/a` is checked, and the request failed.
-static MULTI: [u8; 66] = [
+pub(crate) static MULTI: [u8; 66] = [
     // session, cxid, zxid and time
     1, 0, 0, 0, 0, 0, 0, 1, 0, 0, 0, 3, 0, 0, 0, 1, 0, 0, 0, 4, 0, 0, 0, 0, 0, 0, 0x0b, 0xb8,
     // multi with two parts

@@ -1,7 +1,7 @@
-//! Tests of paths, access control lists, transactions, records, the table, the tree and listings;
-//! no code of its own. What a command of `zk` prints is tested in checks/golden: transactions and
-//! results in `table.golden`, the bytes of records in `records.golden`, and how listings are read
-//! and written in `listings.golden`.
+//! Tests of paths, access control lists, transactions, records, archives, the table, the tree and
+//! listings; no code of its own. What a command of `zk` prints is tested in checks/golden:
+//! transactions and results in `table.golden`, the bytes of records in `records.golden`, and how
+//! listings are read and written in `listings.golden`.
 //!
 //! A crate with tests is proved twice, and therefore the tests are here and not in the crates that
 //! they test. Each public function that no command calls is called once with enough memory, and its
@@ -15,6 +15,8 @@
 
 #[cfg(test)]
 mod acl_tests;
+#[cfg(test)]
+mod archive_tests;
 #[cfg(test)]
 mod fault_tests;
 #[cfg(test)]
