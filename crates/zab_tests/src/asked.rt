@@ -76,9 +76,10 @@ pub(crate) fn has_zxids(history: &History, zxids: &[i64]) -> bool {
     if history.len() != zxids.len() {
         return false;
     }
-    for (txn, zxid) in history.entries().txns().iter().zip(zxids) {
-        if txn.zxid != *zxid {
-            return false;
+    for index in 0..zxids.len() {
+        match history.copy_at(index) {
+            Ok(entry) if entry.txn.zxid == zxids[index] => {}
+            _ => return false,
         }
     }
     true

@@ -79,7 +79,7 @@ fn are_answered(alloc: Global, ensemble: &mut Ensemble, answers: &mut String) ->
 
 /// Whether a server's history has these bytes in a log, and this is its last delivered transaction.
 fn has(ensemble: &Ensemble, server: usize, bytes: &[u8], last: i64) -> bool {
-    matches!(ensemble.journal(server), Some(journal) if journal.bytes() == bytes)
+    matches!(ensemble.history(server), Some(history) if history.bytes() == bytes)
         && ensemble.last(server) == last
 }
 
@@ -97,7 +97,7 @@ fn has_start_tree(alloc: Global, ensemble: &Ensemble, server: usize) -> bool {
 
 /// Whether an absent server has no history, and the start state.
 fn is_none(alloc: Global, ensemble: &Ensemble, server: usize) -> bool {
-    ensemble.journal(server).is_none()
+    ensemble.history(server).is_none()
         && ensemble.delivered(server).len() == 0
         && ensemble.answers(server).is_empty()
         && ensemble.syncs(server).is_empty()

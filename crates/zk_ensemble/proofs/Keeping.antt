@@ -113,6 +113,18 @@ stand_again below next shown news kept held more st fits quorums servers is plac
 }
 
 -- with nothing changed that is kept
+below_of : List ℕ → ℕ → World Call → Below
+below_of quorums servers world = record { quorums = quorums; servers = servers; world = world }
+
+same_below : (below next : Below) → next.world ≡ below.world → next.quorums ≡ below.quorums → next.servers ≡ below.servers → next ≡ below
+unfolding below_of
+same_below below next w q s =
+    ap (λ (x : List ℕ). below_of x next.servers next.world) q ∙ ap (λ (x : ℕ). below_of below.quorums x next.world) s ∙ ap (λ (x : World Call). below_of below.quorums below.servers x) w
+
+-- where nothing happened, it stands still
+pub stand_still : (below next : Below) (shown : List ReplicaView) (kept : List (Option CrashCache)) → IsStanding below shown kept → next.world ≡ below.world → next.quorums ≡ below.quorums → next.servers ≡ below.servers → IsStanding next shown kept
+stand_still below next shown kept st w q s = subst (λ (it : Below). IsStanding it shown kept) (sym (same_below below next w q s)) st
+
 pub still_each : (below : Below) (shown : List ReplicaView) (kept : List (Option CrashCache)) (more : List Event) (st : IsStanding below shown kept) → EachKept (WasDelivered below.quorums below.servers (st.run.events ++ more)) kept
 still_each below shown kept more st place it is = still below.quorums below.servers st.run.events more it (st.aside place it is)
 

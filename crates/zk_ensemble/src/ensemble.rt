@@ -8,13 +8,12 @@ ghost use Rattle.zk_model.specs.Ensembles.{fresh, at_server, shown_then, of_worl
 
 use std::alloc::Global;
 use std::marker::Model;
-use zab_epoch::{Entries, Message, Weighted};
+use zab_epoch::{Entries, History, Message, Weighted};
 use zab_model::Moved;
 use zab_world::{Caught, World, WorldFault};
 use zk_machine::Machine;
 use zk_model::{Answer, Answered, EnsembleFault, Event, Preparer, Question};
 use zk_path::NoMemory;
-use zk_records::Journal;
 use zk_replicas::{CrashCache, Replica, find, look, peek};
 use zk_requests::Call;
 use zk_watch::Fired;
@@ -269,13 +268,12 @@ impl Ensemble {
         self.world.syncs(number)
     }
 
-    /// Borrows the transactions of a server's history with their bytes in a log, also for a server
-    /// that is down; `None` for an unknown number.
-    pub fn journal(&self, number: usize) -> Option<&Journal>
-        ensures { option_copied result ≡ option_map (λ stable. txns_of stable.history) (stable_of self.now.below.world number) }
+    /// Borrows a server's history, also for a server that is down; `None` for an unknown number.
+    pub fn history(&self, number: usize) -> Option<&History>
+        ensures { option_copied result ≡ option_map (λ stable. stable.history) (stable_of self.now.below.world number) }
     {
         match self.world.stable(number) {
-            Some(stable) => Some(stable.history.journal()),
+            Some(stable) => Some(&stable.history),
             None => None,
         }
     }

@@ -9,7 +9,7 @@ use crate::happenings::{
 };
 use std::alloc::Global;
 use zab_broadcast::EchoCall;
-use zab_epoch::{Entries, Stable};
+use zab_epoch::Stable;
 use zab_world::Event;
 use zk_path::NoMemory;
 
@@ -34,22 +34,12 @@ fn new_pair(alloc: Global) -> Result<Pair, NoMemory> {
     Ok(Pair { one, other })
 }
 
-/// Whether entries have the same tags and zxids.
-fn are_alike(one: &Entries<'_>, other: &Entries<'_>) -> bool {
-    one.tags() == other.tags()
-        && one.len() == other.len()
-        && one
-            .txns()
-            .iter()
-            .zip(other.txns())
-            .all(|(txn, other)| txn.zxid == other.zxid)
-}
-
 /// Whether two servers have the same stable state.
 fn keep_alike(one: &Stable, other: &Stable) -> bool {
     one.promised == other.promised
         && one.current == other.current
-        && are_alike(&one.history.entries(), &other.history.entries())
+        && one.history.tags() == other.history.tags()
+        && one.history.bytes() == other.history.bytes()
 }
 
 /// Whether a server has the same state in two worlds.
@@ -59,7 +49,7 @@ fn stands_alike(one: &EchoWorld, other: &EchoWorld, server: usize) -> bool {
         _ => false,
     };
     kept && one.running(server) == other.running(server)
-        && are_alike(&one.delivered(server), &other.delivered(server))
+        && one.delivered(server).len() == other.delivered(server).len()
         && one.syncs(server).len() == other.syncs(server).len()
 }
 

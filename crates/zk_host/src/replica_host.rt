@@ -451,7 +451,8 @@ impl<S: Storage> ReplicaHost<S> {
         if count > delivered.len() {
             return Ok(Vec::new(alloc));
         }
-        closed_by(alloc, delivered.behind(count).txns())
+        let txns = delivered.behind(count).txns().read(alloc)?;
+        closed_by(alloc, txns.as_slice())
     }
 
     /// The tree, borrowed; `None` before its first entry, when it has a new server's nodes alone.

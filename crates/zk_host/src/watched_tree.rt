@@ -19,6 +19,9 @@ use zk_table::{Op, ReadReply, Txn};
 use zk_tree::Tree;
 use zk_watch::{Fired, Watches};
 
+/// How many entries are read at once: older ones are kept as bytes alone.
+const READ_AT_ONCE: usize = 1024;
+
 /// The tree of delivered entries, the watches of connections, and the news that clients have not
 /// taken yet.
 #[derive(Drop)]
@@ -96,14 +99,30 @@ impl WatchedTree {
         delivered
     }
 
-    /// Delivers entries in order. After an error nothing is specified of the tree.
-    #[tactic(auto, using(zk_replicas::proofs::Lent::as_many_tags, zk_replicas::proofs::Lent::as_many_txns))]
+    /// Delivers entries in order, some at a time. After an error nothing is specified of the tree.
+    #[tactic(auto, using(crate::proofs::Delivering::nothing_left, crate::proofs::Delivering::some_more))]
     fn deliver_each(&mut self, alloc: Global, entries: &Entries<'_>) -> Result<(), NoMemory>
         ensures delivered { OnOk result (self.new ≡ after_entries self.old entries.now) }
         ensures some { OnErr result (0 < length entries.now) }
     {
+        let mut done = 0;
+        while done < entries.len() {
+            let many = READ_AT_ONCE.min(entries.len() - done);
+            let some = entries.behind(done).first(many);
+            self.deliver_some(alloc, &some)?;
+            done += many;
+        }
+        Ok(())
+    }
+
+    /// Delivers entries that are read at once. After an error nothing is specified of the tree.
+    #[tactic(auto, using(zk_replicas::proofs::Lent::as_many_tags, zk_replicas::proofs::Lent::as_many_txns))]
+    fn deliver_some(&mut self, alloc: Global, entries: &Entries<'_>) -> Result<(), NoMemory>
+        ensures delivered { OnOk result (self.new ≡ after_entries self.old entries.now) }
+    {
         let tags = entries.tags();
-        let txns = entries.txns();
+        let read = entries.txns().read(alloc)?;
+        let txns = read.as_slice();
         for index in 0..entries.len() {
             self.deliver(alloc, tags[index], &txns[index])?;
         }

@@ -105,8 +105,12 @@ impl Replica {
         ensures taken { OnOk result (self.new ≡ take_all self.old entries.now) }
         ensures some { OnErr result (0 < length entries.now) }
     {
+        if entries.len() == 0 {
+            return Ok(());
+        }
         let tags = entries.tags();
-        let txns = entries.txns();
+        let read = entries.txns().read(alloc)?;
+        let txns = read.as_slice();
         for index in 0..entries.len() {
             self.take_in(alloc, tags[index], &txns[index])?;
         }

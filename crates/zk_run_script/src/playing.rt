@@ -12,6 +12,7 @@ ghost use Rattle.zk_txn.specs.Codes.{bad_arguments};
 use crate::command::{Command, Report};
 use crate::reports::{push_answers, push_counted_tree, push_events, push_listing, push_syncs};
 use crate::told::push_told;
+use zab_epoch::Entries;
 use zk_ensemble::Ensemble;
 use zk_path::NoMemory;
 use zk_request_syntax::push_refusal;
@@ -67,7 +68,7 @@ fn push_report(
     ensures { OnOk result (string_bytes answer.new ≡ string_bytes answer.old ++ report_text ensemble.now report server) }
 {
     match report {
-        Report::Delivered => push_listing(answer, ensemble.delivered(server).txns()),
+        Report::Delivered => push_entries(answer, &ensemble.delivered(server)),
         Report::History => push_history(answer, ensemble, server),
         Report::Answers => push_answers(answer, ensemble.answers(server)),
         Report::Syncs => push_syncs(answer, ensemble.syncs(server)),
@@ -85,8 +86,16 @@ fn push_history(answer: &mut String, ensemble: &Ensemble, server: usize) -> Resu
     ensures { OnOk result (string_bytes answer.new ≡ string_bytes answer.old
         ++ listing_report (txns_of (history_of ensemble.now.below.world server))) }
 {
-    match ensemble.journal(server) {
-        Some(journal) => push_listing(answer, journal.txns()),
+    match ensemble.history(server) {
+        Some(history) => push_entries(answer, &history.entries()),
         None => push_listing(answer, &[]),
     }
+}
+
+/// Appends the report of entries.
+fn push_entries(answer: &mut String, entries: &Entries<'_>) -> Result<(), NoMemory>
+    ensures { OnOk result (string_bytes answer.new ≡ string_bytes answer.old ++ listing_report (txns_of entries.now)) }
+{
+    let txns = entries.txns().read(*answer.allocator())?;
+    push_listing(answer, txns.as_slice())
 }

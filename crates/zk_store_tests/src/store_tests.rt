@@ -166,7 +166,7 @@ fn has_first(history: &History, tags: &[u64]) -> bool {
         _ => 199,
     };
     history.entries().tags() == tags
-        && FIRST_LOG.split_at(16).1.split_at(end - 16).0 == history.journal().bytes()
+        && FIRST_LOG.split_at(16).1.split_at(end - 16).0 == history.bytes()
 }
 
 /// Whether a crash after a number of calls of one file leaves the steps that succeeded, and at most

@@ -1,5 +1,6 @@
+pub mod CatchingUp
+pub mod Outcomes
 pub mod Prefixes
+pub mod Pushes
 pub mod Steps
 pub mod Trees
-pub mod Outcomes
-pub mod Pushes

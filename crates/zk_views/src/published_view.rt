@@ -1,4 +1,4 @@
-ghost use Rattle.std.specs.Prelude.{◌≡◌, ◌≢◌, ◌<◌, ◌+◌, ◌-◌, ◌^◌, ℕ, All, false, length, map, IfOk, slice_index_or};
+ghost use Rattle.std.specs.Prelude.{◌≡◌, ◌≢◌, ◌<◌, ◌+◌, ◌-◌, ◌^◌, ℕ, All, false, length, map, drop, IfOk, slice_index_or};
 ghost use Rattle.zk_views.specs.Catching.{AreOfOneView, AreOfServers, HasCaughtUp, IsUnpublished, MayCatchUp};
 
 use crate::publisher::Publisher;
@@ -6,8 +6,8 @@ use crate::reader::Reader;
 use std::alloc::Global;
 use std::mem::ManuallyDrop;
 use std::sync::Wait;
+use zk_archive::Span;
 use zk_path::NoMemory;
-use zk_txn::Txn;
 
 /// The view of a server. It is late if an allocation failed in the last try to publish.
 pub struct PublishedView {
@@ -38,17 +38,13 @@ impl PublishedView {
 
     /// Publishes what the server has delivered beyond the view's list. If an allocation fails, what
     /// is published stays, the view is late, and the next try publishes the rest.
-    pub fn catch_up<R: Wait>(&mut self, rt: &R, delivered: &[Txn])
-        requires { MayCatchUp self.old.publisher.value delivered.now }
-        ensures { HasCaughtUp self.old.publisher.value delivered.now self.new.publisher.value self.new.late }
+    pub fn catch_up<R: Wait>(&mut self, rt: &R, alloc: Global, delivered: Span<'_>)
+        requires { MayCatchUp self.old.publisher.value delivered }
+        ensures { HasCaughtUp self.old.publisher.value delivered.entry self.new.publisher.value self.new.late }
     {
         let offered = self.publisher.offered();
-        let more = if offered < delivered.len() {
-            &delivered[offered..]
-        } else {
-            &delivered[..0]
-        };
-        self.late = self.publisher.publish(rt, more).is_err();
+        let more = beyond(&delivered, offered);
+        self.late = self.publisher.publish_read(rt, alloc, &more).is_err();
     }
 
     /// Closes the view: no reader enters it any more.
@@ -58,20 +54,33 @@ impl PublishedView {
     }
 }
 
+/// The transactions after the first `count`; none if there are fewer.
+fn beyond<'a>(delivered: &Span<'a>, count: usize) -> Span<'a>
+    ensures beyond { result ≡ drop count delivered.now }
+    ensures room { count + length result < 2 ^ 64 }
+{
+    if count < delivered.len() {
+        delivered.behind(count)
+    } else {
+        Span::none()
+    }
+}
+
 /// Lets the view of the server with this number catch up, if there is one.
 pub fn catch_up_at<R: Wait>(
     rt: &R,
     views: &mut Vec<PublishedView>,
     number: usize,
-    delivered: &[Txn],
+    delivered: Span<'_>,
 )
-    requires { (d : PublishedView) → 0 < number → number - 1 < length views.old.items → MayCatchUp (slice_index_or views.old.items (number - 1) d).publisher.value delivered.now }
+    requires { (d : PublishedView) → 0 < number → number - 1 < length views.old.items → MayCatchUp (slice_index_or views.old.items (number - 1) d).publisher.value delivered }
     ensures long { length views.new.items ≡ length views.old.items }
     ensures others { (place : ℕ) (d : PublishedView) → place + 1 ≢ number → slice_index_or views.new.items place d ≡ slice_index_or views.old.items place d }
-    ensures here { (d : PublishedView) → 0 < number → number - 1 < length views.old.items → (let kept = slice_index_or views.new.items (number - 1) d in HasCaughtUp (slice_index_or views.old.items (number - 1) d).publisher.value delivered.now kept.publisher.value kept.late) }
+    ensures here { (d : PublishedView) → 0 < number → number - 1 < length views.old.items → (let kept = slice_index_or views.new.items (number - 1) d in HasCaughtUp (slice_index_or views.old.items (number - 1) d).publisher.value delivered.entry kept.publisher.value kept.late) }
 {
     if number > 0 && number - 1 < views.len() {
-        views[number - 1].catch_up(rt, delivered);
+        let alloc = *views.allocator();
+        views[number - 1].catch_up(rt, alloc, delivered);
     }
 }
 

@@ -8,6 +8,7 @@ use core::mem::replace_with;
 use std::alloc::{AllocError, Global};
 use std::marker::Model;
 use std::sync::Wait;
+use zk_archive::Span;
 use zk_path::NoMemory;
 use zk_table::Txn;
 
@@ -85,6 +86,25 @@ impl Publisher {
         let _ = &self.writer;
         self.offer(more)?;
         self.show(rt)
+    }
+
+    /// Reads transactions, and publishes them as [`Publisher::publish`].
+    #[tactic(auto, using(crate::proofs::Prefixes::prefix_same, crate::proofs::Prefixes::prefix_append))]
+    pub fn publish_read<R: Wait>(
+        &mut self,
+        rt: &R,
+        alloc: Global,
+        more: &Span<'_>,
+    ) -> Result<(), NoMemory>
+        requires room { length self.old.offered + length more.now < 2 ^ 64 }
+        ensures published { OnOk result (self.new.published ≡ self.old.offered ++ more.now) }
+        ensures offered { OnOk result (self.new.offered ≡ self.new.published) }
+        ensures grows { IsPrefix self.old.published self.new.published }
+        ensures refused { OnErr result (self.new.published ≡ self.old.published) }
+        ensures partly { OnErr result (LiesBetween self.old.offered self.new.offered (self.old.offered ++ more.now)) }
+    {
+        let txns = more.read(alloc)?;
+        self.publish(rt, txns.as_slice())
     }
 
     /// Appends transactions to those offered before. After [`NoMemory`] the first of them may have

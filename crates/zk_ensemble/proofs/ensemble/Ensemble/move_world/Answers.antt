@@ -1,12 +1,15 @@
-use Rattle.std.proofs.Common.{◌≡◌, ◌≤◌, ◌++◌, length, Err, refl, sym, ap, subst, ◌∙◌}
+use Rattle.std.proofs.Common.{◌≡◌, ◌≤◌, ◌++◌, length, Result, Err, refl, sym, ap, subst, ◌∙◌}
 use Rattle.std.proofs.lemmas.List.{with_items_is}
-use Rattle.zab_model.specs.Runs.{delivered_of}
+use Rattle.zab_model.specs.Counting.{counted as world_counted}
+use Rattle.zab_model.specs.Runs.{after as world_after, delivered_of}
+use Rattle.zab_model.specs.declared.event.Moved.{Moved}
+use Rattle.zab_model.specs.declared.fault.WorldFault.{WorldFault}
 use Rattle.zk_model.specs.declared.event.Event.TheVariants as events
 use Rattle.zk_model.specs.declared.fault.EnsembleFault.TheVariants as faults
 use Rattle.zk_model.specs.Counting.{counted, IsAnswered}
 use Rattle.zk_model.specs.Ensembles.{Told, ensemble, of_world}
 use Rattle.zk_ensemble.specs.Views.{below_by, profile_in}
-use Rattle.zk_ensemble.proofs.Keeping.{may_serve_then, each_then, stand_again, held_then}
+use Rattle.zk_ensemble.proofs.Keeping.{may_serve_then, each_then, stand_again, stand_still, held_then}
 use Rattle.zk_ensemble.proofs.Runs.{IsStepped, no_shorter, ok_of, err_of, went_on, acted, fallen_is, is_some, fell, has_died, answered_on, fit_counted}
 use Rattle.zk_ensemble.proofs.ensemble.Ensemble.move_world.Goals as goal
 
@@ -54,6 +57,14 @@ fail-requires c =
     let a = acted (profile_in below) w event answer next number before c.mover-number.ensures had stepped (err_of c.catch_up.result c.catch_up.ensures.runs refused) (err_of c.catch_up.result c.catch_up.ensures.news refused) in
     let fallen = fallen_is (profile_in below) w event answer next number before c.advance-answer.new.self.fallen c.mover-number.ensures had (err_of c.catch_up.result c.catch_up.ensures.news refused) a c.advance-answer.ensures.falls in
     is_some c.advance-answer.new.self.fallen _ fallen
+
+pub invariant_of-self : goal.invariant_of-self
+invariant_of-self c =
+    let below = below_by c.self.inside.world in
+    let none = c.is_no_memory.ensures.yes c.if-is_no_memory.true in
+    stand_still below (below_by c.advance-answer.new.self) c.self.inside.replicas.items c.self.inside.kept.items c.self.invariant
+    (c.advance-answer.ensures.counts ∙ ap (λ (answer : Result Moved WorldFault). world_after (profile_in below) below.world (world_counted c.args.event answer)) none)
+    c.advance-answer.ensures.same.0 c.advance-answer.ensures.same.1
 
 pub invariant_of-self-then-is_err : goal.invariant_of-self-then-is_err
 invariant_of-self-then-is_err c =

@@ -1,11 +1,12 @@
-use Rattle.std.proofs.Common.{rules, ◌∙◌, ◌<◌, ◌+◌, ap, sym, drop, length}
+use Rattle.std.proofs.Common.{rules, ◌∙◌, ap, take}
 use Rattle.zk_host.specs.WatchedTrees.{after_entries}
-use Rattle.zk_replicas.proofs.Lent.{next_one}
+use Rattle.zk_host.proofs.Delivering.{some_more}
 use Rattle.zk_host.proofs.watched_tree.WatchedTree.deliver_each.Goals as goal
 
-pub loop-index-preserved : goal.loop-index-preserved
-loop-index-preserved c =
-    let entries = c.args.entries.now in
-    let below : c.loop-index.index < length entries = search rules in
-    let next = next_one entries c.tags-tags.result.now c.txns-txns.result.now c.loop-index.index c.index-txns-index.result c.tags-tags.ensures c.txns-txns.ensures below c.index-txns-index.is in
-    ap (λ r. after_entries r (drop (c.loop-index.index + 1) entries)) c.in_ok-deliver.ensures ∙ ap (after_entries c.loop-index.self) (sym next) ∙ c.loop-index.invariant
+pub loop-done-preserved : goal.loop-done-preserved
+loop-done-preserved c =
+    let then = c.in_ok-deliver_some.ensures.delivered ∙ ap (after_entries c.loop-done.self) (c.first-some.ensures ∙ ap (take c.min-many.result) c.behind.ensures) in
+    record {
+      within = search rules;
+      delivered = some_more c.loop-done.done c.min-many.result c.args.entries.now c.loop-done.self c.deliver_some.new.self (after_entries c.args.self.now c.args.entries.now) then c.loop-done.invariant.delivered;
+    }
