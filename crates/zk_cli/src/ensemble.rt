@@ -11,6 +11,7 @@ use zk_reactor::{InMemory, ReactorFault, Settings, Stores, new_secret, run};
 /// The stores of servers on the disk.
 #[derive(Clone, Copy)]
 struct OnDisk<'a, 'b> {
+    rt: &'a HostRuntime,
     directory: &'a DataDirectory<'b>,
 }
 
@@ -20,7 +21,13 @@ impl<'b> Stores<DataStore<'b>> for OnDisk<'_, 'b> {
     }
 
     fn open(&self, server: usize) -> Option<DataStore<'b>> {
-        self.directory.open_data_store(server).ok()
+        match self.directory.open_data_store(server) {
+            Ok(store) => Some(store),
+            Err(fault) => {
+                report_directory(self.rt, fault);
+                None
+            }
+        }
     }
 }
 
@@ -84,6 +91,7 @@ fn run_on_disk<N: Net>(
     match directory.open_data_stores() {
         Ok(stores) => {
             let on_disk = OnDisk {
+                rt,
                 directory: &directory,
             };
             let outcome = run(rt, net, settings, &on_disk, stores, directory.secret());
@@ -115,9 +123,14 @@ fn refuse_directory(rt: &HostRuntime, fault: DataFault) -> Result<u8, NoMemory> 
     match fault {
         DataFault::NoMemory => Err(NoMemory),
         fault => {
-            // If that fails, the error cannot be reported.
-            let _ = eprintln!(rt; "zk: data: {fault}");
+            report_directory(rt, fault);
             Ok(1)
         }
     }
+}
+
+/// Prints why a data directory, or a server's store in it, is not opened.
+fn report_directory(rt: &HostRuntime, fault: DataFault) {
+    // If that fails, the error cannot be reported.
+    let _ = eprintln!(rt; "zk: data: {fault}");
 }
