@@ -10,8 +10,8 @@ use Rattle.zk_peers.specs.declared.place.Place.{Place}
 use Rattle.zk_peers.specs.Elections.{IsWinner}
 use Rattle.zk_peers.specs.Hosts.{setting_for}
 use Rattle.zk_peers.specs.Links.{mail_for}
-use Rattle.zk_peers.specs.Peers.{candidates, is_up_at, is_leader, leader_without, SameAround, own_mail, TakesRoleAt, FirstTakeRoles, Leads, IsElected, Elects, FirstRejoin, Rejoin, Heals, Crashes, FollowsIf, RestartsAt, Receives}
-use Rattle.zk_peers.specs.Places.{ChangesAt, HearsAt, Restarts, after_crash}
+use Rattle.zk_peers.specs.Peers.{candidates, is_up_at, is_leader, leader_without, SameAround, own_mail, TakesRoleAt, FirstTakeRoles, Leads, IsElected, Elects, FirstRejoin, Rejoin, Heals, Crashes, FollowsIf, RestartsAt, Receives, FailsAt}
+use Rattle.zk_peers.specs.Places.{ChangesAt, HearsAt, Restarts, after_crash, is_up}
 
 module _ {S : Type 0} (may_recover : S → Stable → Type 0) (boots : S → ℕ) (old new : Peers S) where
   around : new.cuts ≡ old.cuts → new.posted ≡ old.posted → new.arriving ≡ old.arriving → SameAround old new
@@ -46,3 +46,7 @@ module _ {S : Type 0} (may_recover : S → Stable → Type 0) (boots : S → ℕ
   pub receives : (server : ℕ) → ChangesAt server (HearsAt may_recover boots (setting_for (length old.places.items)) (mail_for old.cuts.items server old.arriving)) old.places.items new.places.items
       → new.leader ≡ old.leader → new.cuts ≡ old.cuts → new.posted ≡ old.posted → new.arriving ≡ old.arriving → Receives may_recover boots server old new
   receives server hears leader cuts posted arriving = record { hears = hears; leader_is = leader; around = around cuts posted arriving }
+
+  pub fails : (server : ℕ) → ChangesAt server (λ before after. is_up after ≡ true) old.places.items new.places.items
+      → new.leader ≡ old.leader → new.cuts ≡ old.cuts → new.posted ≡ old.posted → new.arriving ≡ old.arriving → FailsAt server old new
+  fails server up leader cuts posted arriving = record { fails = up; leader_is = leader; around = around cuts posted arriving }

@@ -158,6 +158,12 @@ pub record SameAround {S : Type 0} (old new : Peers S) : Type 0 where
   pub posted : new.posted ≡ old.posted
   pub arriving : new.arriving ≡ old.arriving
 
+-- a server that has not received all of its mail is still up, and nothing else has changed
+pub record FailsAt {S : Type 0} (server : ℕ) (old new : Peers S) : Type 0 where
+  pub fails : ChangesAt server (λ before after. is_up after ≡ true) old.places.items new.places.items
+  pub leader_is : new.leader ≡ old.leader
+  pub around : SameAround old new
+
 module _ {S : Type 0} (clean : S → Type 0) (may_recover : S → Stable → Type 0) (boots : S → ℕ) where
   -- ---- a start
 

@@ -59,7 +59,7 @@ impl<S: Storage> Peers<S> {
     ghost use Rattle.std.specs.Option.{option_copied_mut, option_map};
     ghost use Rattle.zk_peers.specs.Lending.{lends_place};
     ghost use Rattle.zk_peers.specs.Links.{is_cut, with_cut, listed};
-    ghost use Rattle.zk_peers.specs.Peers.{is_server, is_link, host_at, is_up_at, place_at, has_quorum, candidate, candidates, is_leading_host, is_led, serves, is_leader, state_of, SameAround, Starts, own_mail, Leads, Elects, Rejoin, Heals, FollowsIf, Crashes, RestartsAt, Receives};
+    ghost use Rattle.zk_peers.specs.Peers.{is_server, is_link, host_at, is_up_at, place_at, has_quorum, candidate, candidates, is_leading_host, is_led, serves, is_leader, state_of, SameAround, Starts, own_mail, Leads, Elects, Rejoin, Heals, FollowsIf, Crashes, RestartsAt, Receives, FailsAt};
     ghost use Rattle.zk_peers.specs.declared.fault.PeersFault.TheVariants as faults;
 
     /// Starts 1 to 15 servers, each on its store. They have no leader, and all links are healthy.
@@ -206,8 +206,9 @@ impl<S: Storage> Peers<S> {
     pub fn lead(&mut self, server: usize) -> Result<(), PeersFault>
         ensures leads { OnOk result (Leads S.may_recover S.boots server self.old self.new) }
         ensures up { OnOk result (is_up_at self.old.places.items server ≡ true) }
-        ensures unknown { is_server self.old.places.items server ≡ false → IsErrOf result faults.NoServer }
-        ensures down { is_server self.old.places.items server ≡ true → is_up_at self.old.places.items server ≡ false → IsErrOf result faults.Down }
+        ensures unknown { is_server self.old.places.items server ≡ false → IsErrOf result faults.NoServer × (self.new ≡ self.old) }
+        ensures down { is_server self.old.places.items server ≡ true → is_up_at self.old.places.items server ≡ false
+            → IsErrOf result faults.Down × (self.new ≡ self.old) }
     {
         self.check_up(server)?;
         self.make_leader(server)
@@ -259,6 +260,7 @@ impl<S: Storage> Peers<S> {
         ensures crashes { OnOk result (Crashes S.may_recover S.boots server self.old self.new) }
         ensures unknown { is_server self.old.places.items server ≡ false → IsErrOf result faults.NoServer }
         ensures down { is_server self.old.places.items server ≡ true → is_up_at self.old.places.items server ≡ false → IsErrOf result faults.Down }
+        ensures unchanged { OnErr result (self.new ≡ self.old) }
     {
         self.check_up(server)?;
         collect(&mut self.places, server, &mut self.recorded);
@@ -272,9 +274,9 @@ impl<S: Storage> Peers<S> {
     #[tactic(auto, using(crate::proofs::Steps::restarts))]
     pub fn restart(&mut self, server: usize) -> Result<(), PeersFault>
         ensures restarts { OnOk result (RestartsAt S.may_recover S.boots S.is_clean server self.old self.new) }
-        ensures unknown { is_server self.old.places.items server ≡ false → IsErrOf result faults.NoServer }
+        ensures unknown { is_server self.old.places.items server ≡ false → IsErrOf result faults.NoServer × (self.new ≡ self.old) }
         ensures up { is_server self.old.places.items server ≡ true → is_up_at self.old.places.items server ≡ true
-            → IsErrOf result faults.NotDown × (self.new.places ≡ self.old.places) }
+            → IsErrOf result faults.NotDown × (self.new ≡ self.old) }
     {
         if !self.is_server(server) {
             return Err(PeersFault::NoServer);
@@ -379,9 +381,10 @@ impl<S: Storage> Peers<S> {
 
     /// A server that is up receives its mail of this round: the messages that are addressed to it,
     /// over links that are not cut.
-    #[tactic(auto, using(crate::proofs::Steps::receives))]
+    #[tactic(auto, using(crate::proofs::Steps::receives, crate::proofs::Steps::fails))]
     pub fn receive(&mut self, server: usize) -> Result<(), PeersFault>
         ensures receives { OnOk result (Receives S.may_recover S.boots server self.old self.new) }
+        ensures failed { is_server self.old.places.items server ≡ true → OnErr result (FailsAt server self.old self.new) }
         ensures unknown { is_server self.old.places.items server ≡ false → IsErrOf result faults.NoServer }
     {
         if !self.is_server(server) {

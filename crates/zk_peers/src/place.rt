@@ -31,7 +31,7 @@ impl<S: Storage + Drop> Drop for Place<S> {
 }
 
 impl<S: Storage> Place<S> {
-    ghost use Rattle.std.specs.Prelude.{◌≡◌, IfOk, OnOk};
+    ghost use Rattle.std.specs.Prelude.{◌≡◌, true, IfOk, OnErr, OnOk};
     ghost use Rattle.std.specs.Option.{option_map};
     ghost use Rattle.zk_peers.specs.Hosts.{setting_for};
     ghost use Rattle.zk_peers.specs.Links.{mail_for};
@@ -106,7 +106,8 @@ impl<S: Storage> Place<S> {
         mail: &Messages<Call>,
         recorded: &Record,
     ) -> Result<(), PeersFault>
-        ensures { OnOk result (HearsAt S.may_recover S.boots (setting_for quorums.now.servers) (mail_for cuts.now server mail.now) self.old self.new) }
+        ensures hears { OnOk result (HearsAt S.may_recover S.boots (setting_for quorums.now.servers) (mail_for cuts.now server mail.now) self.old self.new) }
+        ensures failed { OnErr result (is_up self.new ≡ true) }
     {
         match self {
             Place::Up(host) => { receive_all(alloc, quorums, host, cuts, server, mail, recorded) }

@@ -1,11 +1,11 @@
 //! All servers' places.
 
-ghost use Rattle.std.specs.Prelude.{◌≡◌, ◌≤◌, length, true, OnOk};
+ghost use Rattle.std.specs.Prelude.{◌≡◌, ◌≤◌, length, true, OnErr, OnOk};
 ghost use Rattle.zab_quorums.specs.Quorums.{marked};
 ghost use Rattle.zk_peers.specs.Peers.{is_heard, heard_by, is_server, TakesRoleAt, FirstTakeRoles, RejoinsIf, FirstRejoin};
 ghost use Rattle.zk_peers.specs.Hosts.{setting_for};
 ghost use Rattle.zk_peers.specs.Links.{is_cut, mail_for};
-ghost use Rattle.zk_peers.specs.Places.{ChangesAt, after_crash, Restarts, HearsAt};
+ghost use Rattle.zk_peers.specs.Places.{ChangesAt, after_crash, is_up, Restarts, HearsAt};
 
 use crate::cut::{Cut, is_cut};
 use crate::fault::PeersFault;
@@ -148,7 +148,8 @@ pub(crate) fn receive<S: Storage>(
     recorded: &Record,
 ) -> Result<(), PeersFault>
     requires { is_server places.old.items server ≡ true }
-    ensures { OnOk result (ChangesAt server (HearsAt S.may_recover S.boots (setting_for (length places.old.items)) (mail_for cuts.now server mail.now)) places.old.items places.new.items) }
+    ensures hears { OnOk result (ChangesAt server (HearsAt S.may_recover S.boots (setting_for (length places.old.items)) (mail_for cuts.now server mail.now)) places.old.items places.new.items) }
+    ensures failed { OnErr result (ChangesAt server (λ before after. is_up after ≡ true) places.old.items places.new.items) }
 {
     let quorums = Majority {
         servers: places.len(),
