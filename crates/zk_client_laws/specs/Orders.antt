@@ -21,7 +21,7 @@ use Rattle.zk_hub.specs.declared.request.Stage.TheVariants.{Reads}
 use Rattle.zk_requests.specs.declared.call.Call.{Call}
 use Rattle.zk_watch.specs.declared.watch.Fired.{Fired}
 
--- requests that become outstanding, replies and reads that are taken of them, and news that answers them
+-- requests that become outstanding, replies and reads that are taken of them, and the news that they wait for
 abbrev pub Inputs : Type 0
 Inputs = List (Input Fired Expected Outcome)
 

@@ -1,5 +1,5 @@
 -- Ports that change.
-use Rattle.std.proofs.Common.{◌≡◌, ◌∙◌, ◌<◌, ◌+◌, ◌-◌, ◌==◌, ℕ, zero, suc, false, List, [], ◌∷◌, ◌++◌, length, map, take, drop, set, get_or, slice_get, Option, Some, refl, sym, ap, arith}
+use Rattle.std.proofs.Common.{◌≡◌, ◌∙◌, ◌<◌, ◌+◌, ◌-◌, ◌==◌, ℕ, zero, suc, Bool, true, false, List, [], ◌∷◌, ◌++◌, length, map, take, drop, set, get_or, slice_get, Option, Some, None, if◌then◌else◌, refl, sym, ap, arith}
 use Rattle.std.proofs.lemmas.Bool.Decides.{nat_tests}
 use Rattle.zk_client_port.proofs.Each.{one_more}
 use Rattle.zk_client_port.specs.Ports.{cut_off_if}
@@ -20,7 +20,7 @@ changed_is change (port ∷ ports) (suc i) before after within is e =
     let rest : ports_of (set ports i after) ≡ changed_at i change (ports_of ports) = changed_is change ports i before after (omega (arith, within)) is e in
     ap (λ (ps : List Port). port_of port ∷ ps) rest
 
-ports_set : (ports : List ClientPort) (i : ℕ) (after : ClientPort) → ports_of (set ports i after) ≡ set (ports_of ports) i (port_of after)
+pub ports_set : (ports : List ClientPort) (i : ℕ) (after : ClientPort) → ports_of (set ports i after) ≡ set (ports_of ports) i (port_of after)
 ports_set [] zero after = refl
 ports_set [] (suc i) after = refl
 ports_set (port ∷ ports) zero after = refl
@@ -73,3 +73,23 @@ pub at_index : (ports : List Port) (i server : ℕ) → 0 < server → i ≡ ser
 at_index ports i server above is =
     let not_zero : (server == 0) ≡ false = grind (arith, nat_tests) in
     rw not_zero (ap (slice_get ports) is)
+
+-- ---- the port of a server
+
+pub at_port : (i server : ℕ) (change : Port → Port) (old new : List Port) → 0 < server → i ≡ server - 1 → new ≡ changed_at i change old → new ≡ with_port server change old
+at_port i server change old new above is changed =
+    let not_zero : (server == 0) ≡ false = grind (arith, nat_tests) in
+    rw not_zero (changed ∙ ap (λ (place : ℕ). changed_at place change old) is)
+
+none_changed : (i : ℕ) (change : Port → Port) (ports : List Port) → slice_get ports i ≡ None → changed_at i change ports ≡ ports
+none_changed zero change [] none = refl
+none_changed (suc i) change [] none = refl
+none_changed zero change (port ∷ ports) none = absurd cc
+none_changed (suc i) change (port ∷ ports) none = ap (λ (ps : List Port). port ∷ ps) (none_changed i change ports none)
+
+none_if : (zero : Bool) (i : ℕ) (change : Port → Port) (ports : List Port) → (if zero then None else slice_get ports i) ≡ None → (if zero then ports else changed_at i change ports) ≡ ports
+none_if true i change ports none = refl
+none_if false i change ports none = none_changed i change ports none
+
+pub at_no_port : (server : ℕ) (change : Port → Port) (ports : List Port) → at_server ports server ≡ None → ports ≡ with_port server change ports
+at_no_port server change ports none = sym (none_if (server == 0) (server - 1) change ports none)

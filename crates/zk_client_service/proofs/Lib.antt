@@ -1,3 +1,6 @@
 pub mod Changing
-pub mod Settling
+pub mod Expiring
+pub mod Places
 pub mod Removing
+pub mod Settling
+pub mod Turning

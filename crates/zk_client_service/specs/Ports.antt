@@ -1,7 +1,7 @@
 -- The ports of an ensemble's servers: the connections of each, and their outstanding requests.
 -- ZooKeeper Administrator's Guide, `clientPort`.
 use Rattle.std.specs.Prelude.{ℕ, ◌-◌, ◌==◌, zero, suc, List, [], ◌∷◌, ◌++◌, map, slice_get, Option, Some, None, if◌then◌else◌}
-use Rattle.zk_client_port.specs.Ports.{cut_off_if}
+use Rattle.zk_client_port.specs.Ports.{cut_off_if, numbers_over, without_over, without_requests}
 use Rattle.zk_client_port.specs.declared.client_port.ClientPort.{ClientPort}
 use Rattle.zk_client_port.specs.declared.client_port.Selection.{Selection}
 use Rattle.zk_client_port.specs.declared.client_port.Selection.TheVariants.{Number, All}
@@ -57,3 +57,12 @@ without_number number ports = map (cut_off (Number number)) ports
 
 abbrev pub all_cut_off : List Port → List Port
 all_cut_off ports = map (cut_off All) ports
+
+-- ---- connections that are over
+
+abbrev pub over_at : List Port → ℕ → List ℕ
+over_at ports server = numbers_over (connections_at ports server)
+
+-- they are removed, with their outstanding requests
+abbrev pub without_ended : Port → Port
+without_ended it = record { connections = without_over it.connections; hub = without_requests (numbers_over it.connections) it.hub }

@@ -1,17 +1,24 @@
-ghost use Rattle.std.specs.Prelude.{◌≡◌, ◌-◌, ◌<◌, ◌++◌, ◌∷◌, [], length, map, slice_get, None, IfNone, IfOk, IfSome, OnErr, OnOk};
-ghost use Rattle.zk_client_service.specs.Ports.{at_server, changed_at, connections_in, cut_off, port_of, ports_of, with_new};
+ghost use Rattle.std.specs.Prelude.{◌≡◌, ◌-◌, ◌<◌, ◌++◌, ◌∷◌, ◌||◌, [], length, map, slice_get, None, IfNone, IfOk, IfSome, OnErr, OnOk};
+ghost use Rattle.zk_client_service.specs.Elections.{copies, new_port};
+ghost use Rattle.zk_client_service.specs.Ensembles.{server_cut_off, stopped_with};
+ghost use Rattle.zk_client_port.specs.Ports.{numbers_over};
+ghost use Rattle.zk_client_service.specs.Expiries.{detaching};
+ghost use Rattle.zk_client_service.specs.Ports.{at_server, changed_at, connections_in, cut_off, port_of, ports_of, with_new, without_ended};
 ghost use Rattle.zk_client_service.specs.Services.{mode_of, place_after, place_with, stop_of, tree_after};
 
+use crate::expiry::{adopt, close_in, renew, touch_all};
 use crate::fault::ServiceFault;
+use crate::turn::{cut_off_numbers, has_messages, turn_place};
 use std::alloc::Global;
 use zab_epoch::Majority;
 use zab_host::{Storage, StoreFault};
-use zk_client_port::{Admission, ClientPort, Moment, Selection};
+use zk_client_port::{Admission, ClientPort, Moment, Selection, Turned};
 use zk_connections::{Connection, Mode};
 use zk_host::{ReleaseFault, ReplicaHost};
+use zk_model::Event;
 use zk_path::NoMemory;
 use zk_peers::{PeerState, Peers, PeersFault, Place};
-use zk_requests::closing_call;
+use zk_recorder::RecordFault;
 use zk_sessions::ClientSessions;
 
 /// The most rounds of mail of an election, or of another command.
@@ -23,7 +30,6 @@ pub struct ClientService<S: Storage> {
     peers: Peers<S>,
     ports: Vec<ClientPort>,
     admission: Admission,
-    quorums: Majority,
     /// How many connections were opened.
     opened: u64,
     /// Why each server has stopped by itself, until that is taken.
@@ -37,7 +43,6 @@ impl<S: Storage + Drop> Drop for ClientService<S> {
             peers: _,
             ports: _,
             admission: _,
-            quorums: _,
             opened: _,
             stops: _,
         } = self;
@@ -45,8 +50,12 @@ impl<S: Storage + Drop> Drop for ClientService<S> {
 }
 
 impl<S: Storage> ClientService<S> {
-    ghost use Rattle.std.specs.Prelude.{◌≡◌, [], length, true, false, IfOk, OnErr, OnOk, IsErrOf, IsOk};
-    ghost use Rattle.zk_client_service.specs.Ports.{all_cut_off, connections_at, cut_off, port_of, ports_of, with_port};
+    ghost use Rattle.std.specs.Prelude.{◌≡◌, ◌-◌, ◌<◌, [], length, Some, true, false, IfErr, IfNone, IfOk, IfSome, OnErr, OnOk, IsErrOf, IsOk};
+    ghost use Rattle.zk_client_service.specs.Elections.{Begins, CrashesAt, CutsLink, ElectsIfNeeded, ElectsLeader, HealsLinks, LeadsFrom, RestartsServer, Settles, StartsEnsemble};
+    ghost use Rattle.zk_client_service.specs.Ensembles.{ensemble, moment_at};
+    ghost use Rattle.zk_client_service.specs.Expiries.{detaching, ClosesAt, Expires, RenewsSessions};
+    ghost use Rattle.zk_client_service.specs.Ports.{connections_at, over_at, ports_of, with_port, without_ended};
+    ghost use Rattle.zk_client_service.specs.Rounds.{has_messages, CutsUnserved, Posts, ReceivesTo, Round, StopsServer, TurnsFor, TurnsHostTo, TurnsTo};
     ghost use Rattle.zk_client_service.specs.Services.{last_in, number_for, opened_then, places_after, places_with, ports_with, stop_at, takes, unserved_cut_off, IsSettled};
     ghost use Rattle.zk_client_service.specs.declared.fault.ServiceFault.TheVariants as faults;
     ghost use Rattle.zk_peers.specs.Peers.{host_at, is_led, is_link, is_server, is_up_at, state_of};
@@ -59,24 +68,23 @@ impl<S: Storage> ClientService<S> {
         storages: Vec<S>,
         secret: [u8; 16],
         now: i64,
-    ) -> Result<ClientService<S>, ServiceFault> {
+    ) -> Result<ClientService<S>, ServiceFault>
+        ensures starts { IfOk result (λ it. StartsEnsemble S.may_recover S.boots S.is_clean storages.items secret now (ensemble it)) }
+        ensures few { length storages.items < 1 → IsErrOf result (faults.Peers peers_faults.Count) }
+        ensures many { 15 < length storages.items → IsErrOf result (faults.Peers peers_faults.Count) }
+    {
         let servers = storages.len();
-        let mut ports = Vec::new(alloc);
-        let mut stops = Vec::new(alloc);
-        for _ in 0..servers {
-            if ports.push(ClientPort::new(alloc)).is_err() || stops.push(None).is_err() {
-                return Err(ServiceFault::NoMemory);
-            }
-        }
+        let peers = Peers::start(alloc, storages)?;
+        let ports = new_ports(alloc, servers)?;
+        let stops = no_stops(alloc, servers)?;
         let mut service = ClientService {
             alloc,
-            peers: Peers::start(alloc, storages)?,
+            peers,
             ports,
             admission: Admission {
                 sessions: ClientSessions::new(alloc),
                 secret,
             },
-            quorums: Majority { servers },
             opened: 0,
             stops,
         };
@@ -151,7 +159,13 @@ impl<S: Storage> ClientService<S> {
     /// Removes the connections of a server that are over, and their watches. Returns their numbers.
     #[tactic(auto, using(crate::proofs::Removing::closed, crate::proofs::Removing::none_closed))]
     pub fn remove_over(&mut self, server: usize) -> Result<Vec<u64>, NoMemory>
-        ensures { IfOk result (λ over. self.new.peers.places.items ≡ places_after over.items server self.old.peers.places.items) }
+        ensures numbers { IfOk result (λ over. over.items ≡ over_at (ports_of self.old.ports.items) server) }
+        ensures connections { OnOk result (ports_of self.new.ports.items ≡ with_port server without_ended (ports_of self.old.ports.items)) }
+        ensures sessions { OnOk result (self.new.admission ≡ detaching (over_at (ports_of self.old.ports.items) server) self.old.admission) }
+        ensures watches { IfOk result (λ over. self.new.peers.places.items ≡ places_after over.items server self.old.peers.places.items) }
+        ensures unchanged { OnErr result ((self.new.peers ≡ self.old.peers) × ((ports_of self.new.ports.items ≡ ports_of self.old.ports.items)
+            × (self.new.admission ≡ self.old.admission))) }
+        ensures rest { (self.new.opened ≡ self.old.opened) × (self.new.stops ≡ self.old.stops) }
     {
         let over = self.take_over(server)?;
         if let Some(place) = self.peers.place_mut(server) {
@@ -161,11 +175,16 @@ impl<S: Storage> ClientService<S> {
     }
 
     /// Removes the connections of a server that are over.
+    #[tactic(auto, using(crate::proofs::Removing::none_over, crate::proofs::Changing::at_no_port))]
     fn take_over(&mut self, server: usize) -> Result<Vec<u64>, NoMemory>
-        ensures { self.new.peers ≡ self.old.peers }
+        ensures numbers { IfOk result (λ over. over.items ≡ over_at (ports_of self.old.ports.items) server) }
+        ensures connections { OnOk result (ports_of self.new.ports.items ≡ with_port server without_ended (ports_of self.old.ports.items)) }
+        ensures sessions { OnOk result (self.new.admission ≡ detaching (over_at (ports_of self.old.ports.items) server) self.old.admission) }
+        ensures unchanged { OnErr result ((ports_of self.new.ports.items ≡ ports_of self.old.ports.items) × (self.new.admission ≡ self.old.admission)) }
+        ensures rest { (self.new.peers ≡ self.old.peers) × ((self.new.opened ≡ self.old.opened) × (self.new.stops ≡ self.old.stops)) }
     {
-        match port_at_mut(&mut self.ports, server) {
-            Some(port) => port.remove_over(self.alloc, &mut self.admission),
+        match port_index(&self.ports, server) {
+            Some(index) => take_over_at(self.alloc, &mut self.ports, index, &mut self.admission),
             None => Ok(Vec::new(self.alloc)),
         }
     }
@@ -176,9 +195,10 @@ impl<S: Storage> ClientService<S> {
     /// executed, and what it gives is written. Returns whether something is left to do.
     #[tactic(auto, using(crate::proofs::Settling::settles))]
     pub fn turn_for(&mut self, rounds: usize, now: i64) -> Result<bool, ServiceFault>
-        ensures { IfOk result (λ waits. waits ≡ false → IsSettled self.new.peers (ports_of self.new.ports.items)) }
+        ensures turns { IfOk result (λ waits. TurnsFor S.may_recover S.boots rounds now (ensemble self.old) (ensemble self.new) waits) }
+        ensures settled { IfOk result (λ waits. waits ≡ false → IsSettled self.new.peers (ports_of self.new.ports.items)) }
     {
-        for _ in 0..rounds {
+        'rounds: for made in 0..rounds {
             if !self.turn_all(now)? {
                 self.cut_off_unserved();
                 return Ok(false);
@@ -188,7 +208,9 @@ impl<S: Storage> ClientService<S> {
     }
 
     /// Turns the servers until no mail is left.
-    fn settle(&mut self, now: i64) -> Result<(), ServiceFault> {
+    fn settle(&mut self, now: i64) -> Result<(), ServiceFault>
+        ensures { OnOk result (Settles S.may_recover S.boots now (ensemble self.old) (ensemble self.new)) }
+    {
         self.turn_for(MOST_ROUNDS, now)?;
         Ok(())
     }
@@ -196,9 +218,7 @@ impl<S: Storage> ClientService<S> {
     /// Cuts off the clients of servers that serve none.
     #[tactic(auto, using(crate::proofs::Changing::at_number))]
     fn cut_off_unserved(&mut self)
-        ensures ports { ports_of self.new.ports.items
-            ≡ unserved_cut_off self.old.peers.cuts.items self.old.peers.places.items self.old.peers.leader (ports_of self.old.ports.items) }
-        ensures rest { (self.new.peers ≡ self.old.peers) × ((self.new.admission ≡ self.old.admission) × (self.new.opened ≡ self.old.opened)) }
+        ensures { CutsUnserved (ensemble self.old) (ensemble self.new) }
     {
         for index in 0..self.ports.len() {
             if !self.peers.serves(index + 1) {
@@ -208,41 +228,37 @@ impl<S: Storage> ClientService<S> {
     }
 
     /// A round of mail, and a turn of each server. Returns whether another is needed.
-    #[tactic(auto, using(crate::proofs::Settling::none_left))]
     fn turn_all(&mut self, now: i64) -> Result<bool, ServiceFault>
-        ensures { IfOk result (λ waits. waits ≡ false → self.new.peers.posted ≡ []) }
+        ensures round { IfOk result (λ waits. Round S.may_recover S.boots now (ensemble self.old) (ensemble self.new) waits) }
+        ensures mail { IfOk result (λ waits. waits ≡ false → self.new.peers.posted ≡ []) }
     {
         self.peers.next_round();
         let mut waits = false;
-        for server in 1..=self.ports.len() {
-            self.receive(server)?;
-            waits = self.turn(server, now)? || waits;
+        'servers: for index in 0..self.ports.len() {
+            self.receive(index + 1)?;
+            waits = either(self.turn(index + 1, now)?, waits);
         }
-        Ok(waits || self.peers.has_mail())
+        Ok(either(waits, self.peers.has_mail()))
     }
 
     /// Gives a server its mail of this round. A server whose store fails crashes.
-    fn receive(&mut self, server: usize) -> Result<(), ServiceFault> {
+    fn receive(&mut self, server: usize) -> Result<(), ServiceFault>
+        ensures { OnOk result (ReceivesTo S.may_recover S.boots server (ensemble self.old) (ensemble self.new)) }
+    {
         match self.peers.receive(server) {
             Ok(()) => Ok(()),
-            Err(PeersFault::Store(fault)) => {
-                if let Some(port) = port_at_mut(&mut self.ports, server) {
-                    port.cut_off(Selection::All);
-                }
-                self.stop(server, fault)
-            }
+            Err(PeersFault::Store(fault)) => self.stop(server, fault),
             Err(fault) => Err(ServiceFault::Peers(fault)),
         }
     }
 
-    /// Crashes a server that cannot go on.
-    fn stop(&mut self, server: usize, fault: StoreFault) -> Result<(), ServiceFault> {
+    /// Crashes a server that cannot go on, and cuts off its clients.
+    fn stop(&mut self, server: usize, fault: StoreFault) -> Result<(), ServiceFault>
+        ensures { OnOk result (StopsServer S.may_recover S.boots server fault (ensemble self.old) (ensemble self.new)) }
+    {
         self.peers.crash(server)?;
-        if server > 0
-            && let Some(stop) = self.stops.get_mut(server - 1)
-        {
-            *stop = Some(fault);
-        }
+        cut_off_server(&mut self.ports, server);
+        keep_stop(&mut self.stops, server, fault);
         Ok(())
     }
 
@@ -265,103 +281,175 @@ impl<S: Storage> ClientService<S> {
 
     /// A turn of a server. Returns whether its host has messages again. A server that cannot release
     /// what it has crashes.
-    fn turn(&mut self, server: usize, now: i64) -> Result<bool, ServiceFault> {
-        let mode = mode_of(self.peers.state(server));
-        let Some(port) = port_at_mut(&mut self.ports, server) else {
+    fn turn(&mut self, server: usize, now: i64) -> Result<bool, ServiceFault>
+        ensures { IfOk result (λ waits. TurnsTo S.may_recover S.boots server now (ensemble self.old) (ensemble self.new) waits) }
+    {
+        if !self.peers.is_up(server) {
+            return Ok(false);
+        }
+        let Some(index) = port_index(&self.ports, server) else {
             return Ok(false);
         };
-        let Some(Place::Up(host)) = self.peers.place_mut(server) else {
-            return Ok(false);
+        match self.turn_host(server, index, now) {
+            Ok(turned) => self.post(server, turned),
+            Err(fault) => {
+                self.stop(server, stop_of(fault))?;
+                Ok(false)
+            }
+        }
+    }
+
+    /// A turn of a server that is up.
+    #[tactic(auto, using(crate::proofs::Places::up_has_place, crate::proofs::Places::place_up))]
+    fn turn_host(&mut self, server: usize, index: usize, now: i64) -> Result<Turned, ReleaseFault>
+        requires up { is_up_at self.old.peers.places.items server ≡ true }
+        requires within { index < length self.old.ports.items }
+        requires above { 0 < server }
+        requires is { index ≡ server - 1 }
+        ensures { TurnsHostTo server now (ensemble self.old) (ensemble self.new) result }
+    {
+        let moment = self.moment(server, now);
+        let quorums = self.quorums();
+        let Some(place) = self.peers.place_mut(server) else {
+            unreachable!()
         };
-        let moment = Moment {
+        turn_place(
+            self.alloc,
+            place,
+            &mut self.ports[index],
+            &quorums,
+            &mut self.admission,
+            moment,
+        )
+    }
+
+    /// The majorities of the servers.
+    fn quorums(&self) -> Majority
+        ensures { result.servers ≡ length self.now.peers.places.items }
+    {
+        Majority {
+            servers: self.peers.len(),
+        }
+    }
+
+    /// A server at a moment.
+    fn moment(&self, server: usize, now: i64) -> Moment
+        ensures { result ≡ moment_at server now (ensemble self.now) }
+    {
+        Moment {
             server,
             now,
-            mode,
-            connections: port.connections.len(),
-        };
-        let turned = port.turn(self.alloc, host, &self.quorums, &mut self.admission, moment);
-        let turned = match turned {
-            Ok(turned) => turned,
-            Err(fault) => {
-                port.cut_off(Selection::All);
-                self.stop(server, stop_of(fault))?;
-                return Ok(false);
-            }
-        };
-        // If memory runs out, the lists are written in a later turn.
-        let _ = port.write_listings(self.alloc, host);
-        let waits = host.outbox_len() > 0;
-        for number in &turned.displaced {
-            cut_off(&mut self.ports, Selection::Number(*number));
+            mode: mode_of(self.peers.state(server)),
+            connections: self.connections(server),
         }
+    }
+
+    /// Cuts off the connections that have lost their sessions, and posts a host's messages. Returns
+    /// whether it has messages again.
+    fn post(&mut self, server: usize, turned: Turned) -> Result<bool, ServiceFault>
+        ensures posts { OnOk result (Posts turned.displaced.items turned.messages (ensemble self.old) (ensemble self.new)) }
+        ensures waits { IfOk result (λ waits. waits ≡ has_messages (host_at self.new.peers.places.items server)) }
+    {
+        let waits = has_messages(&self.peers, server);
+        cut_off_numbers(&mut self.ports, &turned.displaced);
         self.peers.post(turned.into_messages(self.alloc))?;
         Ok(waits)
     }
 
     // ---- sessions
 
-    /// Asks the leader to close the sessions that have expired.
+    /// Asks the leader to close the sessions that have expired. After an error, nothing is asked.
+    #[tactic(auto, using(crate::proofs::Places::up_has_host))]
     pub fn expire(&mut self, now: i64) -> Result<(), ServiceFault>
+        ensures led { is_led self.old.peers.cuts.items self.old.peers.places.items self.old.peers.leader ≡ true
+            → OnOk result (Expires now (ensemble self.old) (ensemble self.new)) }
         ensures unled { is_led self.old.peers.cuts.items self.old.peers.places.items self.old.peers.leader ≡ false
             → IsOk result × ((self.new.peers ≡ self.old.peers) × (self.new.admission ≡ self.old.admission)) }
+        ensures fault { IfErr result (λ fault. fault ≡ faults.NoMemory) }
+        ensures failed { OnErr result (self.new.peers ≡ self.old.peers) }
         ensures ports { ports_of self.new.ports.items ≡ ports_of self.old.ports.items }
         ensures opened { self.new.opened ≡ self.old.opened }
+        ensures stops { self.new.stops.items ≡ self.old.stops.items }
+    {
+        let Some(leader) = self.active_leader() else {
+            return Ok(());
+        };
+        let Some(host) = self.peers.host(leader) else {
+            unreachable!()
+        };
+        adopt(host, &mut self.admission, now)?;
+        let expired = self.admission.sessions.expired(self.alloc, now)?;
+        self.close_sessions(leader, &expired, now);
+        Ok(())
+    }
+
+    /// The leader, if it leads with a quorum.
+    #[tactic(auto, using(crate::proofs::Places::led_up, crate::proofs::Places::none_led))]
+    fn active_leader(&self) -> Option<usize>
+        ensures leader { IfSome result (λ leader. self.now.peers.leader ≡ Some leader) }
+        ensures up { IfSome result (λ leader. is_up_at self.now.peers.places.items leader ≡ true) }
+        ensures led { IfSome result (λ leader. is_led self.now.peers.cuts.items self.now.peers.places.items self.now.peers.leader ≡ true) }
+        ensures none { IfNone result (is_led self.now.peers.cuts.items self.now.peers.places.items self.now.peers.leader ≡ false) }
     {
         if !self.peers.is_led() {
-            return Ok(());
+            return None;
         }
-        let Some(leader) = self.peers.leader() else {
-            return Ok(());
+        self.peers.leader()
+    }
+
+    /// Asks the leader's host to close sessions. If a closing is lost with its leader, the session
+    /// expires again.
+    #[tactic(auto, using(crate::proofs::Places::up_has_place, crate::proofs::Places::place_up))]
+    fn close_sessions(&mut self, leader: usize, sessions: &[i64], now: i64)
+        requires { is_up_at self.old.peers.places.items leader ≡ true }
+        ensures { ClosesAt leader now sessions.now (ensemble self.old) (ensemble self.new) }
+    {
+        let quorums = self.quorums();
+        let Some(place) = self.peers.place_mut(leader) else {
+            unreachable!()
         };
-        let Some(Place::Up(host)) = self.peers.place_mut(leader) else {
-            return Ok(());
-        };
-        if let Some(machine) = host.as_machine()
-            && let Ok(open) = machine.sessions()
-        {
-            self.admission.adopt(open, now)?;
-        }
-        for session in self.admission.sessions.expired(self.alloc, now)? {
-            if let Some(tag) = host.issue_tag() {
-                let call = closing_call(self.alloc, tag, session, now);
-                let _ = host.submit(self.alloc, &self.quorums, call);
-            }
-            // If the closing is lost with its leader, the session expires again.
-            self.admission.sessions.touch(session, now);
-        }
-        Ok(())
+        close_in(self.alloc, place, &quorums, sessions, now);
+        touch_all(&mut self.admission, sessions, now);
     }
 
     /// Gives each session its whole timeout again, at a new leader. If memory runs out, sessions that
     /// are not known yet are opened at the next tick.
-    fn renew_sessions(&mut self, now: i64) {
+    fn renew_sessions(&mut self, now: i64)
+        ensures { RenewsSessions now (ensemble self.old) (ensemble self.new) }
+    {
         let Some(leader) = self.peers.leader() else {
             return;
         };
         let Some(host) = self.peers.host(leader) else {
             return;
         };
-        if let Some(machine) = host.as_machine()
-            && let Ok(open) = machine.sessions()
-        {
-            let _ = self.admission.adopt(open, now);
-            self.admission.renew(open, now);
-        }
+        renew(host, &mut self.admission, now);
     }
 
     // ---- elections and crashes
 
     /// Elects a leader. All connections close: their clients connect again.
-    fn elect(&mut self, now: i64) -> Result<(), ServiceFault> {
-        self.cut_off_all();
+    fn elect(&mut self, now: i64) -> Result<(), ServiceFault>
+        ensures { OnOk result (ElectsLeader S.may_recover S.boots now (ensemble self.old) (ensemble self.new)) }
+    {
         self.peers.elect()?;
+        cut_off(&mut self.ports, Selection::All);
+        self.begin(now)
+    }
+
+    /// Turns the servers for a new leader, and gives each session its whole timeout again.
+    fn begin(&mut self, now: i64) -> Result<(), ServiceFault>
+        ensures { OnOk result (Begins S.may_recover S.boots now (ensemble self.old) (ensemble self.new)) }
+    {
         self.settle(now)?;
         self.renew_sessions(now);
         Ok(())
     }
 
     /// Elects a leader if there is none with a quorum.
-    fn elect_if_needed(&mut self, now: i64) -> Result<(), ServiceFault> {
+    fn elect_if_needed(&mut self, now: i64) -> Result<(), ServiceFault>
+        ensures { OnOk result (ElectsIfNeeded S.may_recover S.boots now (ensemble self.old) (ensemble self.new)) }
+    {
         if self.peers.is_led() {
             return self.settle(now);
         }
@@ -372,6 +460,8 @@ impl<S: Storage> ClientService<S> {
     pub fn elect_if_lost(&mut self, now: i64) -> Result<(), ServiceFault>
         ensures led { is_led self.old.peers.cuts.items self.old.peers.places.items self.old.peers.leader ≡ true
             → IsOk result × (self.new ≡ self.old) }
+        ensures lost { is_led self.old.peers.cuts.items self.old.peers.places.items self.old.peers.leader ≡ false
+            → OnOk result (ElectsLeader S.may_recover S.boots now (ensemble self.old) (ensemble self.new)) }
     {
         if self.peers.is_led() {
             return Ok(());
@@ -379,41 +469,36 @@ impl<S: Storage> ClientService<S> {
         self.elect(now)
     }
 
-    fn cut_off_all(&mut self)
-        ensures ports { ports_of self.new.ports.items ≡ all_cut_off (ports_of self.old.ports.items) }
-        ensures rest { (self.new.peers ≡ self.old.peers) × ((self.new.admission ≡ self.old.admission) × (self.new.opened ≡ self.old.opened)) }
-    {
-        cut_off(&mut self.ports, Selection::All);
-    }
-
     /// Makes a server lead.
     pub fn lead(&mut self, server: usize, now: i64) -> Result<(), ServiceFault>
-        ensures unknown { is_server self.old.peers.places.items server ≡ false → IsErrOf result (faults.Peers peers_faults.NoServer) }
-        ensures down { is_server self.old.peers.places.items server ≡ true → is_up_at self.old.peers.places.items server ≡ false → IsErrOf result (faults.Peers peers_faults.Down) }
+        ensures leads { OnOk result (LeadsFrom S.may_recover S.boots server now (ensemble self.old) (ensemble self.new)) }
+        ensures unknown { is_server self.old.peers.places.items server ≡ false → IsErrOf result (faults.Peers peers_faults.NoServer) × (self.new ≡ self.old) }
+        ensures down { is_server self.old.peers.places.items server ≡ true → is_up_at self.old.peers.places.items server ≡ false
+            → IsErrOf result (faults.Peers peers_faults.Down) × (self.new ≡ self.old) }
     {
         self.peers.lead(server)?;
-        self.cut_off_all();
-        self.settle(now)?;
-        self.renew_sessions(now);
-        Ok(())
+        cut_off(&mut self.ports, Selection::All);
+        self.begin(now)
     }
 
     /// Stops a server. Its connections close.
     pub fn crash(&mut self, server: usize, now: i64) -> Result<(), ServiceFault>
-        ensures unknown { is_server self.old.peers.places.items server ≡ false → IsErrOf result (faults.Peers peers_faults.NoServer) }
-        ensures down { is_server self.old.peers.places.items server ≡ true → is_up_at self.old.peers.places.items server ≡ false → IsErrOf result (faults.Peers peers_faults.Down) }
+        ensures crashes { OnOk result (CrashesAt S.may_recover S.boots server now (ensemble self.old) (ensemble self.new)) }
+        ensures unknown { is_server self.old.peers.places.items server ≡ false → IsErrOf result (faults.Peers peers_faults.NoServer) × (self.new ≡ self.old) }
+        ensures down { is_server self.old.peers.places.items server ≡ true → is_up_at self.old.peers.places.items server ≡ false
+            → IsErrOf result (faults.Peers peers_faults.Down) × (self.new ≡ self.old) }
     {
         self.peers.crash(server)?;
-        if let Some(index) = port_index(&self.ports, server) {
-            cut_off_at(&mut self.ports, index, Selection::All);
-        }
+        cut_off_server(&mut self.ports, server);
         self.elect_if_needed(now)
     }
 
     /// Starts a server that has crashed.
     pub fn restart(&mut self, server: usize, now: i64) -> Result<(), ServiceFault>
-        ensures unknown { is_server self.old.peers.places.items server ≡ false → IsErrOf result (faults.Peers peers_faults.NoServer) }
-        ensures up { is_server self.old.peers.places.items server ≡ true → is_up_at self.old.peers.places.items server ≡ true → IsErrOf result (faults.Peers peers_faults.NotDown) }
+        ensures restarts { OnOk result (RestartsServer S.may_recover S.boots S.is_clean server now (ensemble self.old) (ensemble self.new)) }
+        ensures unknown { is_server self.old.peers.places.items server ≡ false → IsErrOf result (faults.Peers peers_faults.NoServer) × (self.new ≡ self.old) }
+        ensures up { is_server self.old.peers.places.items server ≡ true → is_up_at self.old.peers.places.items server ≡ true
+            → IsErrOf result (faults.Peers peers_faults.NotDown) × (self.new ≡ self.old) }
     {
         self.peers.restart(server)?;
         self.elect_if_needed(now)
@@ -432,16 +517,40 @@ impl<S: Storage> ClientService<S> {
 
     /// Cuts the link between two servers.
     pub fn cut(&mut self, one: usize, other: usize, now: i64) -> Result<(), ServiceFault>
-        ensures { is_link self.old.peers.places.items one other ≡ false → IsErrOf result (faults.Peers peers_faults.NoServer) }
+        ensures cuts { OnOk result (CutsLink S.may_recover S.boots one other now (ensemble self.old) (ensemble self.new)) }
+        ensures unknown { is_link self.old.peers.places.items one other ≡ false → IsErrOf result (faults.Peers peers_faults.NoServer) }
     {
         self.peers.cut(one, other)?;
         self.elect_if_needed(now)
     }
 
     /// Makes all links healthy.
-    pub fn heal(&mut self, now: i64) -> Result<(), ServiceFault> {
+    pub fn heal(&mut self, now: i64) -> Result<(), ServiceFault>
+        ensures { OnOk result (HealsLinks S.may_recover S.boots now (ensemble self.old) (ensemble self.new)) }
+    {
         self.peers.heal()?;
         self.elect_if_needed(now)
+    }
+
+    // ---- the record
+
+    /// Takes the events that the servers' inputs have been, as [`Peers::take_events`].
+    pub fn take_events(&mut self) -> Vec<Event>
+        ensures { self.new ≡ self.old }
+    {
+        self.peers.take_events()
+    }
+
+    /// Why events are recorded no more, if they are not.
+    pub fn record_fault(&self) -> Option<RecordFault> {
+        self.peers.record_fault()
+    }
+
+    /// Records no more events.
+    pub fn end_record(&mut self)
+        ensures { self.new ≡ self.old }
+    {
+        self.peers.end_record();
     }
 }
 
@@ -463,6 +572,45 @@ fn stop_of(fault: ReleaseFault) -> StoreFault
         ReleaseFault::Store(fault) => fault,
         // No run reaches the second.
         ReleaseFault::NoMemory | ReleaseFault::Shrunk => StoreFault::NoMemory,
+    }
+}
+
+/// The ports of this number of servers, without connections.
+fn new_ports(alloc: Global, servers: usize) -> Result<Vec<ClientPort>, NoMemory>
+    ensures { IfOk result (λ ports. ports_of ports.items ≡ copies servers new_port) }
+{
+    let mut ports = Vec::new(alloc);
+    'servers: for count in 0..servers {
+        ports.push(ClientPort::new(alloc))?;
+    }
+    Ok(ports)
+}
+
+/// No server has stopped.
+fn no_stops(alloc: Global, servers: usize) -> Result<Vec<Option<StoreFault>>, NoMemory>
+    ensures { IfOk result (λ stops. stops.items ≡ copies servers None) }
+{
+    let mut stops = Vec::new(alloc);
+    'servers: for count in 0..servers {
+        stops.push(None)?;
+    }
+    Ok(stops)
+}
+
+fn either(one: bool, other: bool) -> bool
+    ensures { result ≡ (one || other) }
+{
+    one || other
+}
+
+/// Keeps why a server has stopped.
+fn keep_stop(stops: &mut Vec<Option<StoreFault>>, server: usize, fault: StoreFault)
+    ensures { stops.new.items ≡ stopped_with server fault stops.old.items }
+{
+    if server > 0
+        && let Some(stop) = stops.get_mut(server - 1)
+    {
+        *stop = Some(fault);
     }
 }
 
@@ -515,6 +663,23 @@ fn push_connection(alloc: Global, port: &mut ClientPort, number: u64) -> Result<
     Ok(())
 }
 
+/// Removes the connections of a port that are over.
+#[tactic(auto, using(crate::proofs::Changing::changed_is, crate::proofs::Changing::unchanged_is))]
+fn take_over_at(
+    alloc: Global,
+    ports: &mut Vec<ClientPort>,
+    index: usize,
+    admission: &mut Admission,
+) -> Result<Vec<u64>, NoMemory>
+    requires { index < length ports.old.items }
+    ensures numbers { IfOk result (λ over. over.items ≡ numbers_over (connections_in (slice_get (ports_of ports.old.items) index))) }
+    ensures connections { OnOk result (ports_of ports.new.items ≡ changed_at index without_ended (ports_of ports.old.items)) }
+    ensures sessions { OnOk result (admission.new ≡ detaching (numbers_over (connections_in (slice_get (ports_of ports.old.items) index))) admission.old) }
+    ensures unchanged { OnErr result ((ports_of ports.new.items ≡ ports_of ports.old.items) × (admission.new ≡ admission.old)) }
+{
+    ports[index].remove_over(alloc, admission)
+}
+
 /// Drops the watches of connections at a server.
 fn close_connections<S: Storage>(place: &mut Place<S>, numbers: &[u64])
     ensures { place.new ≡ place_after numbers.now place.old }
@@ -554,8 +719,18 @@ fn cut_off_at(ports: &mut Vec<ClientPort>, index: usize, selection: Selection)
     ports[index].cut_off(selection);
 }
 
+/// Cuts off all connections of a server.
+#[tactic(auto, using(crate::proofs::Changing::at_port, crate::proofs::Changing::at_no_port))]
+fn cut_off_server(ports: &mut Vec<ClientPort>, server: usize)
+    ensures { ports_of ports.new.items ≡ server_cut_off server (ports_of ports.old.items) }
+{
+    if let Some(index) = port_index(ports, server) {
+        cut_off_at(ports, index, Selection::All);
+    }
+}
+
 /// Cuts off connections of all ports.
-fn cut_off(ports: &mut Vec<ClientPort>, selection: Selection)
+pub(crate) fn cut_off(ports: &mut Vec<ClientPort>, selection: Selection)
     ensures ports { ports_of ports.new.items ≡ map (cut_off selection) (ports_of ports.old.items) }
     ensures count { length ports.new.items ≡ length ports.old.items }
 {

@@ -5,7 +5,9 @@
 #![tactic(auto)]
 
 mod client_service;
+mod expiry;
 mod fault;
+mod turn;
 
 pub use client_service::ClientService;
 pub use fault::ServiceFault;

@@ -11,4 +11,5 @@ invariant-loop-index g l = record {
   peers : l.self.peers ≡ l.fn.self.peers;
   admission : l.self.admission ≡ l.fn.self.admission;
   opened : l.self.opened ≡ l.fn.self.opened;
+  stops : l.self.stops ≡ l.fn.self.stops;
 }

@@ -1,0 +1,18 @@
+use Rattle.std.proofs.Common.{◌≡◌, rules, ℤ, to_z, of_z, w64, subst, OnOk, refl}
+use Rattle.zk_client_port.proofs.Frames.{on_ok}
+use Rattle.zk_client_service.specs.Ensembles.{ensemble}
+use Rattle.zk_client_service.specs.Elections.{ElectsIfNeeded}
+use Rattle.zk_client_service.proofs.client_service.ClientService.crash.Goals as goal
+
+pub returns-clause-crashes : goal.returns-clause-crashes
+returns-clause-crashes g c =
+    let fits : to_z w64 (of_z w64 c.args.now) ≡ c.args.now = search rules in
+    let elects : OnOk c.elect_if_needed.result (ElectsIfNeeded g.S.Storage.may_recover g.S.Storage.boots c.args.now (ensemble (record c.args.self.now { peers = c.crash.new.self; ports = c.cut_off_server.new.ports })) (ensemble c.elect_if_needed.new.self)) =
+    subst (λ (now : ℤ). OnOk c.elect_if_needed.result (ElectsIfNeeded g.S.Storage.may_recover g.S.Storage.boots now (ensemble (record c.args.self.now { peers = c.crash.new.self; ports = c.cut_off_server.new.ports })) (ensemble c.elect_if_needed.new.self))) fits c.elect_if_needed.ensures in
+    on_ok c.elect_if_needed.result elects (λ it. record {
+      between = ensemble (record c.args.self.now { peers = c.crash.new.self; ports = c.cut_off_server.new.ports });
+      crashes = c.in_ok-crash.ensures.crashes;
+      ports = c.cut_off_server.ensures;
+      rest = record { admission = refl; opened = refl; stops = refl };
+      elects = it;
+    })
