@@ -1,9 +1,11 @@
 //! The command `ensemble`.
 
 use crate::faults::refuse;
+use std::fs;
+use std::fs::File;
 use std::net::{Ipv4Addr, Net};
 use zab_host::MemoryStorage;
-use zk_cli_args::Ensemble;
+use zk_cli_args::{Ensemble, ensemble_of, record_of};
 use zk_data_files::{DataDirectory, DataFault, DataStore};
 use zk_path::NoMemory;
 use zk_reactor::{InMemory, ReactorFault, Settings, Stores, new_secret, run};
@@ -36,6 +38,7 @@ pub(crate) fn run_ensemble<N: Net>(
     rt: &HostRuntime,
     net: &N,
     ensemble: &Ensemble,
+    record: Option<&str>,
 ) -> Result<u8, NoMemory> {
     let address = match ensemble.bind {
         Some(word) => match word.parse::<Ipv4Addr>() {
@@ -52,20 +55,61 @@ pub(crate) fn run_ensemble<N: Net>(
         until_eof: ensemble.until_eof,
     };
     match ensemble.directory {
-        Some(directory) => run_on_disk(rt, net, &settings, directory),
-        None => run_in_memory(rt, net, &settings),
+        Some(directory) => run_on_disk(rt, net, &settings, directory, record),
+        None => run_in_memory(rt, net, &settings, record),
+    }
+}
+
+/// Runs an ensemble of several servers whose words name the file of a record. Returns the exit status;
+/// `None` for other words.
+pub(crate) fn run_recorded<N: Net>(
+    rt: &HostRuntime,
+    net: &N,
+    words: &[&str],
+) -> Result<Option<u8>, NoMemory> {
+    let Some(found) = record_of(rt.alloc(), words)? else {
+        return Ok(None);
+    };
+    match ensemble_of(rt.alloc(), found.others.as_slice())? {
+        Some(ensemble) if ensemble.serving.servers > 1 => {
+            Ok(Some(run_ensemble(rt, net, &ensemble, Some(found.value))?))
+        }
+        _ => Ok(None),
     }
 }
 
 /// Runs an ensemble whose data ends with it.
-fn run_in_memory<N: Net>(rt: &HostRuntime, net: &N, settings: &Settings) -> Result<u8, NoMemory> {
+fn run_in_memory<N: Net>(
+    rt: &HostRuntime,
+    net: &N,
+    settings: &Settings,
+    record: Option<&str>,
+) -> Result<u8, NoMemory> {
     let mut storages = Vec::new(rt.alloc());
     for _ in 0..settings.servers {
         storages.push(MemoryStorage::new(rt.alloc()))?;
     }
-    match new_secret(rt) {
-        Ok(secret) => status_of(rt, run(rt, net, settings, &InMemory, storages, secret)),
+    let secret = match new_secret(rt) {
+        Ok(secret) => secret,
+        Err(fault) => return status_of(rt, Err(fault)),
+    };
+    match create_record(rt, record) {
+        Ok(file) => {
+            let outcome = run(rt, net, settings, &InMemory, storages, secret, file);
+            status_of(rt, outcome)
+        }
         Err(fault) => status_of(rt, Err(fault)),
+    }
+}
+
+/// Creates the file of a record, if there is to be one.
+fn create_record(rt: &HostRuntime, record: Option<&str>) -> Result<Option<File>, ReactorFault> {
+    let Some(path) = record else {
+        return Ok(None);
+    };
+    match fs::create(rt, path) {
+        Ok(file) => Ok(Some(file)),
+        Err(_) => Err(ReactorFault::Write),
     }
 }
 
@@ -75,6 +119,7 @@ fn run_on_disk<N: Net>(
     net: &N,
     settings: &Settings,
     path: &str,
+    record: Option<&str>,
 ) -> Result<u8, NoMemory> {
     // There are at most 15.
     let Ok(servers) = u8::try_from(settings.servers) else {
@@ -88,13 +133,21 @@ fn run_on_disk<N: Net>(
         Ok(directory) => directory,
         Err(fault) => return refuse_directory(rt, fault),
     };
+    if matches!(record, Some(_)) && !directory.is_new() {
+        return Ok(refuse_used(rt));
+    }
+    let file = match create_record(rt, record) {
+        Ok(file) => file,
+        Err(fault) => return status_of(rt, Err(fault)),
+    };
     match directory.open_data_stores() {
         Ok(stores) => {
             let on_disk = OnDisk {
                 rt,
                 directory: &directory,
             };
-            let outcome = run(rt, net, settings, &on_disk, stores, directory.secret());
+            let secret = directory.secret();
+            let outcome = run(rt, net, settings, &on_disk, stores, secret, file);
             status_of(rt, outcome)
         }
         Err(fault) => refuse_directory(rt, fault),
@@ -116,6 +169,13 @@ fn status_of(rt: &HostRuntime, outcome: Result<(), ReactorFault>) -> Result<u8, 
 fn refuse_address(rt: &HostRuntime, word: &str) -> u8 {
     // If that fails, the error cannot be reported.
     let _ = eprintln!(rt; "zk: listen: --bind takes an IPv4 address such as 127.0.0.1, not {word}");
+    1
+}
+
+/// A run script starts with new servers.
+fn refuse_used(rt: &HostRuntime) -> u8 {
+    // If that fails, the error cannot be reported.
+    let _ = eprintln!(rt; "zk: data: --record needs a new directory");
     1
 }
 

@@ -17,7 +17,7 @@ mod looking;
 use checking::run_checking;
 use debugging::{debug_directory, debugs_directory};
 use disk_folder::is_directory;
-use ensemble::run_ensemble;
+use ensemble::{run_ensemble, run_recorded};
 use faults::{faults, refuse};
 use forms::run_formed;
 use incidents::run_named;
@@ -72,7 +72,10 @@ fn run<R: Threads + Wait + Net<Listener = TcpListener, Stream = TcpStream> + tim
         }
     }
     if let Some(ensemble) = ensemble_of(rt.alloc(), texts.as_slice())? {
-        return run_ensemble(rt, threads, &ensemble);
+        return run_ensemble(rt, threads, &ensemble, None);
+    }
+    if let Some(status) = run_recorded(rt, threads, texts.as_slice())? {
+        return Ok(status);
     }
     if let Some(status) = run_formed(rt, threads, texts.as_slice())? {
         return Ok(status);

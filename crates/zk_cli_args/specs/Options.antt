@@ -31,6 +31,10 @@ abbrev pub option_in : List ℕ → List ℕ → List (List ℕ) → Option Valu
 option_in name prefix [] = None
 option_in name prefix (word ∷ rest) = if bytes_eq word (codes "--") then None else (if bytes_eq word name then value_behind rest else found_or (value_in prefix word) word rest (option_in name prefix rest))
 
+-- the file of a record, and the other words
+abbrev pub record_of : List (List ℕ) → Option ValueBeside
+record_of words = option_in (codes "--record") (codes "--record=") words
+
 abbrev pub given_beside : Option ValueBeside → List (List ℕ) → Option (Option (List ℕ) × List (List ℕ))
 given_beside None words = option_map (λ values. (None, values)) (values_of words)
 given_beside (Some found) words = option_map (λ values. (Some found.0, values)) (values_of found.1)

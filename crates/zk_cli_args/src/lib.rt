@@ -30,6 +30,7 @@ pub use ensemble::{Ensemble, ensemble_of};
 pub use folders::{FolderJob, FolderOrder, Until, folder_job_from};
 pub use history::{HistoryJob, history_of};
 pub use line::{Command, CommandFault, read_command_line};
+pub use options::{OptionValue, record_of};
 pub use restoration::{RestoreJob, restore_of};
 pub use serving::Serving;
 pub use top::{By, TopJob, top_of};

@@ -1,15 +1,15 @@
 //! An option that takes a value, and a flag, among the words after a command's name.
 ghost use Rattle.std.specs.Prelude.{◌≡◌, ◌++◌, Some, IfOk, map, option_map};
-ghost use Rattle.zk_cli_args.specs.Options.{behind, flag_in, option_in, shown, value_behind, value_in};
+ghost use Rattle.zk_cli_args.specs.Options.{behind, flag_in, option_in, record_of, shown, value_behind, value_in};
 
 use std::alloc::Global;
 use zk_path::NoMemory;
 
 /// The value of an option, and the other words.
 #[derive(Debug, Drop)]
-pub(crate) struct OptionValue<'a> {
-    pub(crate) value: &'a str,
-    pub(crate) others: Vec<&'a str>,
+pub struct OptionValue<'a> {
+    pub value: &'a str,
+    pub others: Vec<&'a str>,
 }
 
 /// The value in the words `NAME VALUE`, or in one word after `prefix`, and the other words. After a
@@ -38,6 +38,13 @@ pub(crate) fn option_in<'a>(
         rest = back;
     }
     Ok(None)
+}
+
+/// The file of `--record`, and the other words.
+pub fn record_of<'a>(alloc: Global, words: &[&'a str]) -> Result<Option<OptionValue<'a>>, NoMemory>
+    ensures { IfOk result (λ found. option_map shown found ≡ record_of (map (λ word. word.now) words.now)) }
+{
+    option_in(alloc, "--record", "--record=", words)
 }
 
 /// The value after an option's name, and the words before and after these.

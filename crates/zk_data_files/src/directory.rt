@@ -28,6 +28,7 @@ pub struct DataDirectory<'a> {
     /// Its lock lasts as long as the file is open.
     lock: fs::File,
     identity: Identity,
+    is_new: bool,
 }
 
 impl<'a> DataDirectory<'a> {
@@ -41,7 +42,9 @@ impl<'a> DataDirectory<'a> {
     ) -> Result<DataDirectory<'a>, DataFault> {
         create_directories(rt, path)?;
         let lock = lock_directory(rt, path)?;
-        let identity = match read_identity(rt, path)? {
+        let found = read_identity(rt, path)?;
+        let is_new = matches!(&found, None);
+        let identity = match found {
             Some(identity) => identity,
             None => {
                 let identity = Identity {
@@ -60,7 +63,13 @@ impl<'a> DataDirectory<'a> {
             path: String::from_str(rt.alloc(), path)?,
             lock,
             identity,
+            is_new,
         })
+    }
+
+    /// Whether no ensemble has used it before.
+    pub fn is_new(&self) -> bool {
+        self.is_new
     }
 
     /// The secret of the sessions' passwords.

@@ -340,6 +340,11 @@ pub(crate) const ENSEMBLE: OrderHelp = OrderHelp {
     }],
     options: &[
         OptionHelp {
+            name: "record",
+            value: "FILE",
+            help: "Writes what the servers do to FILE, as a script of `zk run`; N is 2 to 15, and DIR new",
+        },
+        OptionHelp {
             name: "bind",
             value: "ADDR",
             help: "The IPv4 address to listen on; 127.0.0.1 if left out",
@@ -743,5 +748,8 @@ Lines of standard input, one command each; each prints what every server then do
 A client is closed at 4 MB of unsent bytes. A server that runs out of memory starts again within two
 seconds; one whose store fails stays down until the next run. Standard error has a line for each.
 
+FILE of `--record` has the events in which `zk run` delivers the same transactions at each server,
+with the same results and trees. If it ends before the ensemble, standard error has the reason.
+
 Errors, on standard error after `zk: `: `listen` if a port cannot be opened or ADDR is no IPv4 address,
-`data` and the reason if DIR cannot be used, `read`, `write` and `memory`."#;
+`data` and the reason if DIR cannot be used, `read`, `write` (also of FILE) and `memory`."#;

@@ -199,7 +199,7 @@ fn ensemble_fault(alloc: Global) -> Result<Error, AllocError> {
         alloc,
         &ENSEMBLE,
         ErrorKind::ValueValidation,
-        "PORT is no decimal from 1 to 65535, N none from 1 to 15, or C none from 1 to 4294967295",
+        "PORT is no decimal from 1 to 65535, N none from 1 to 15 (2 to 15 with --record), or C none from 1 to 4294967295",
     )
 }
 

@@ -9,6 +9,7 @@ mod commands;
 mod lines;
 mod outcome;
 mod reactor;
+mod script;
 mod setup;
 mod socket;
 mod stops;

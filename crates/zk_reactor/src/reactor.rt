@@ -2,6 +2,7 @@ use crate::client::Client;
 use crate::clients::Clients;
 use crate::commands::execute;
 use crate::lines::Lines;
+use crate::script::Script;
 use crate::setup::{ReactorFault, Settings};
 use crate::stops::Stops;
 use crate::stores::Stores;
@@ -9,7 +10,7 @@ use mio::net::TcpListener;
 use mio::unix::SourceFd;
 use mio::{Events, Interest, Poll, Token};
 use std::alloc::Global;
-use std::io::{ErrorKind, Read};
+use std::io::{ErrorKind, Read, Write};
 use std::net::{Net, SocketAddr};
 use std::time::Duration;
 use zab_host::Storage;
@@ -122,6 +123,11 @@ impl<S: Storage + Drop> Reactor<S> {
         })
     }
 
+    /// Begins the script of what the servers do, from their start on.
+    pub(crate) fn begin_script<W: Write + Drop>(&mut self, output: Option<W>) -> Script<W> {
+        Script::begin(self.alloc, &mut self.service, output)
+    }
+
     pub(crate) fn has_ended(&self) -> bool {
         self.has_ended
     }
@@ -211,9 +217,10 @@ impl<S: Storage + Drop> Reactor<S> {
 
     /// Reads what clients have sent, executes it, writes what it gives, and closes the connections
     /// that are over. Returns the lines on servers that have stopped by themselves, or run again.
-    pub(crate) fn turn<O: Stores<S>>(
+    pub(crate) fn turn<O: Stores<S>, W: Write + Drop>(
         &mut self,
         stores: &O,
+        script: &mut Script<W>,
         now: i64,
     ) -> Result<String, ReactorFault> {
         let mut notices = String::new(self.alloc);
@@ -228,12 +235,14 @@ impl<S: Storage + Drop> Reactor<S> {
         }
         self.is_unsettled = self.service.turn_for(ROUNDS, now)?;
         self.stops.note(&mut self.service, &mut notices)?;
-        self.flush()?;
+        self.flush(script)?;
         Ok(notices)
     }
 
-    /// Writes what is written to clients, and closes the connections that are over.
-    fn flush(&mut self) -> Result<(), ReactorFault> {
+    /// Writes what the servers have done to the script, and then what is written to clients, and
+    /// closes the connections that are over.
+    fn flush<W: Write + Drop>(&mut self, script: &mut Script<W>) -> Result<(), ReactorFault> {
+        script.write_events(self.alloc, &mut self.service);
         if self.clients.write(&mut self.service) {
             self.is_unsettled = true;
         }
@@ -246,10 +255,11 @@ impl<S: Storage + Drop> Reactor<S> {
     }
 
     /// Reads commands of standard input, and executes them. Returns what they print.
-    pub(crate) fn obey<I: Read, O: Stores<S>>(
+    pub(crate) fn obey<I: Read, O: Stores<S>, W: Write + Drop>(
         &mut self,
         input: &mut I,
         stores: &O,
+        script: &mut Script<W>,
         now: i64,
     ) -> Result<String, ReactorFault> {
         let mut printed = String::new(self.alloc);
@@ -264,7 +274,7 @@ impl<S: Storage + Drop> Reactor<S> {
             let text = execute(self.alloc, &mut self.service, stores, line.as_slice(), now)?;
             printed.push_str(text.as_str())?;
         }
-        self.flush()?;
+        self.flush(script)?;
         Ok(printed)
     }
 

@@ -2,11 +2,12 @@ ghost use Rattle.std.specs.Prelude.{◌≡◌};
 ghost use Rattle.zk_reactor.specs.Ports.{port_at};
 
 use crate::reactor::Reactor;
+use crate::script::Script;
 use crate::stores::Stores;
 use mio::Events;
 use std::alloc::{AllocError, AllocFailed, Global};
 use std::fs;
-use std::io::Read;
+use std::io::{Read, Write};
 use std::net::{Ipv4Addr, Net};
 use std::time::{SystemTime, UNIX_EPOCH};
 use thiserror::Error;
@@ -91,18 +92,21 @@ impl From<ServiceFault> for ReactorFault {
 
 /// Runs an ensemble, each server on its store: until the end of standard input if so set, else until
 /// the process ends. A store that has failed is opened again by `stores`. The passwords of sessions
-/// come from the secret.
-pub fn run<N: Net, S: Storage + Drop, O: Stores<S>>(
+/// come from the secret. What the servers do is written to `record`, as a run script; there are
+/// several servers then, on new stores.
+pub fn run<N: Net, S: Storage + Drop, O: Stores<S>, W: Write + Drop>(
     rt: &HostRuntime,
     net: &N,
     settings: &Settings,
     stores: &O,
     storages: Vec<S>,
     secret: [u8; 16],
+    record: Option<W>,
 ) -> Result<(), ReactorFault> {
     let alloc = rt.alloc();
     let mut now = time(rt, 0);
     let mut reactor = Reactor::start(net, alloc, settings, storages, secret, now)?;
+    let mut script = reactor.begin_script(record);
     print(rt, serving_line(alloc, settings)?.as_str())?;
     let mut events = Events::with_capacity(alloc, MOST_EVENTS)?;
     let mut input = rt.reader();
@@ -112,8 +116,10 @@ pub fn run<N: Net, S: Storage + Drop, O: Stores<S>>(
         for event in events.iter() {
             reactor.note(event.token())?;
         }
-        report(rt, reactor.turn(stores, now)?.as_str());
-        print(rt, reactor.obey(&mut input, stores, now)?.as_str())?;
+        report(rt, reactor.turn(stores, &mut script, now)?.as_str());
+        let printed = reactor.obey(&mut input, stores, &mut script, now)?;
+        report(rt, script.take_notice());
+        print(rt, printed.as_str())?;
         if reactor.has_ended() && settings.until_eof {
             break;
         }

@@ -1,0 +1,387 @@
+#!/usr/bin/env python3
+"""What `zk ensemble --record` writes, replayed by `zk run`: each server then has the tree that kazoo clients saw there last, the
+transactions that its data directory has, and the results that clients got.
+
+kazoo is looked for in this Python and in /usr/bin/python3; where neither has it, the checks cannot run, and fail.
+
+usage: recording.py [NAME..]
+"""
+import logging
+import os
+import re
+import subprocess
+import sys
+import time
+from contextlib import contextmanager
+from pathlib import Path
+from random import Random, randrange
+from tempfile import TemporaryDirectory
+
+try:
+    from kazoo.client import KazooClient
+    from kazoo.exceptions import KazooException, NodeExistsError
+    from kazoo.protocol.serialization import Create
+    from kazoo.security import make_digest_acl
+except ImportError:
+    if sys.executable == "/usr/bin/python3":
+        sys.exit("recording: kazoo is not installed: apt-get install python3-kazoo")
+    os.execv("/usr/bin/python3", ["/usr/bin/python3", *sys.argv])
+
+ROOT = Path(__file__).resolve().parent.parent
+PROGRAM = Path(os.environ.get("ZK", ROOT / "crates" / "zk_cli" / "out" / "zk_cli"))
+
+# How long a condition is waited for, in seconds.
+PATIENCE = 60
+
+CHECKS = []
+
+# kazoo reports each lost connection, and these checks lose many.
+logging.disable(logging.CRITICAL)
+
+
+def check(function):
+    CHECKS.append(function)
+    return function
+
+
+# ---- an ensemble and its clients
+
+
+class Ensemble:
+    def __init__(self, servers: int, *flags: str):
+        self.servers = servers
+        for _ in range(50):
+            self.port = randrange(20000, 60000)
+            self.process = subprocess.Popen(
+                [PROGRAM, "ensemble", str(self.port), str(servers), *flags],
+                stdin=subprocess.PIPE, stdout=subprocess.PIPE, stderr=subprocess.PIPE, text=True, bufsize=1,
+            )
+            if self.process.stdout.readline().startswith("serving"):
+                return
+        raise AssertionError(self.process.stderr.read())
+
+    def hosts(self, *servers: int) -> str:
+        return ",".join(f"127.0.0.1:{self.port + server - 1}" for server in servers or range(1, self.servers + 1))
+
+    def says(self, command: str) -> list[str]:
+        self.process.stdin.write(command + "\n")
+        self.process.stdin.flush()
+        lines = [self.process.stdout.readline().rstrip("\n") for _ in range(self.servers)]
+        assert all(re.fullmatch(r"server \d+ \w+ zxid [0-9a-f]{16} connections \d+", line) for line in lines), lines
+        return [line.split()[2] for line in lines]
+
+    def end(self) -> str:
+        """Ends it at once. What it has written on standard error."""
+        self.process.kill()
+        return self.process.communicate()[1]
+
+
+@contextmanager
+def client(hosts: str, timeout: float = 10.0):
+    zk = KazooClient(hosts, timeout=timeout, randomize_hosts=False)
+    zk.start(PATIENCE)
+    try:
+        yield zk
+    finally:
+        zk.stop()
+        zk.close()
+
+
+def until(condition, what: str):
+    end = time.time() + PATIENCE
+    while time.time() < end:
+        try:
+            if condition():
+                return
+        except KazooException:
+            pass
+        time.sleep(0.05)
+    raise AssertionError(f"not within {PATIENCE} s: {what}")
+
+
+def tried(act):
+    """The result of a call, made again while no server serves it; an error of ZooKeeper's as it is."""
+    end = time.time() + PATIENCE
+    while True:
+        try:
+            return act()
+        except (NodeExistsError,):
+            raise
+        except KazooException:
+            if time.time() > end:
+                raise
+            time.sleep(0.1)
+
+
+# ---- texts of reports, from what a client reads
+
+
+def quoted(text: str) -> str:
+    def escaped(character: str) -> str:
+        if character in '"\\':
+            return "\\" + character
+        if ord(character) < 32 or ord(character) == 127:
+            return f"\\u{{{ord(character):x}}}"
+        return character
+
+    return '"' + "".join(map(escaped, text)) + '"'
+
+
+def node_line(path: str, content: bytes, acls, stat) -> str:
+    acl = "".join(f" {it.perms} {quoted(it.id.scheme)} {quoted(it.id.id)}" for it in acls)
+    digits = [f"{number & (2**64 - 1):016x}" for number in (stat.czxid, stat.mzxid, stat.ephemeralOwner, stat.pzxid)]
+    return (
+        f"{quoted(path)} x{content.hex()} {len(acls)}{acl} {digits[0]} {digits[1]} {stat.ctime} {stat.mtime} {stat.version}"
+        f" {stat.cversion} {stat.aversion} {digits[2]} {stat.dataLength} {stat.numChildren} {digits[3]}"
+    )
+
+
+def tree_lines(zk, path: str = "/") -> list[str]:
+    """The nodes below a path, and its own, as a tree report has them."""
+    content, stat = zk.get(path)
+    lines = [node_line(path, content, zk.get_acls(path)[0], stat)]
+    for name in zk.get_children(path):
+        lines += tree_lines(zk, path.rstrip("/") + "/" + name)
+    return lines
+
+
+# ---- the run of a record
+
+
+def run_of(record: Path, servers: int, *reports: str) -> dict[str, list[str]]:
+    """The reports `WORD P` at the end of the run of a record, which has no malformed line."""
+    asked = [f"{report} {server}" for server in range(1, servers + 1) for report in reports]
+    text = record.read_text(encoding="utf-8")
+    assert text.startswith(f"servers {servers}\n") and text.endswith("\n"), text[:100]
+    done = subprocess.run([PROGRAM, "run", "@"], input=text + "\n".join(asked) + "\n", capture_output=True, text=True)
+    assert (done.returncode, done.stderr) == (0, ""), (done.returncode, done.stderr)
+    replies = done.stdout.split("\n")
+    events = text.count("\n")
+    refused = [reply for reply in replies[:events] if reply.startswith("E")]
+    # E6: the server served no client then, and rejected the request
+    assert set(refused) <= {"E6"}, refused[:5]
+    told = {}
+    at = events
+    for report in asked:
+        word, count = replies[at].split()
+        assert word == "lines", replies[at]
+        told[report] = replies[at + 1 : at + 1 + int(count)]
+        at += 1 + int(count)
+    return told
+
+
+def nodes_in(lines: list[str]) -> list[str]:
+    return [line for line in lines if line.startswith('"') and not line.startswith('"/zookeeper')]
+
+
+def same_trees(it: Ensemble, record: Path):
+    """Ends an ensemble after clients have read the tree of each server, and compares the trees of the run."""
+    seen = {}
+    clients = []
+    for server in range(1, it.servers + 1):
+        zk = KazooClient(it.hosts(server), timeout=30)
+        zk.start(PATIENCE)
+        clients.append(zk)
+    for server, zk in enumerate(clients, 1):
+        zk.sync("/")
+        zk.add_auth("digest", "user:secret")
+        seen[server] = sorted(line for line in tree_lines(zk) if not line.startswith('"/zookeeper'))
+    stderr = it.end()
+    for zk in clients:
+        zk.stop()
+        zk.close()
+    told = run_of(record, it.servers, "tree", "delivered", "answers")
+    for server, lines in seen.items():
+        assert sorted(nodes_in(told[f"tree {server}"])) == lines, (server, lines, told[f"tree {server}"])
+    return told, stderr
+
+
+def two_nodes(zk, random: Random):
+    transaction = zk.transaction()
+    transaction.create(f'/t"{random.randrange(10**9)}', b"one")
+    transaction.create(f"/u{random.randrange(10**9)}\u00e9", b"two")
+    transaction.commit()
+
+
+def writes(zk, random: Random, count: int) -> int:
+    """Writes of many kinds; the number of those that ended as an error that their transaction has."""
+    refused = 0
+    for number in range(count):
+        kind = random.randrange(6)
+        path = f"/n{random.randrange(12)}"
+        if kind == 0:
+            tried(lambda: zk.create("/s-", b"\x00\xff" * random.randrange(4), sequence=True))
+        elif kind == 1:
+            tried(lambda: zk.create("/e-", b"mine", ephemeral=True, sequence=True))
+        elif kind == 2:
+            tried(lambda: two_nodes(zk, random))
+        else:
+            try:
+                tried(lambda: zk.create(path, path.encode()))
+            except NodeExistsError:
+                refused += 1
+                tried(lambda: zk.set(path, str(number).encode()))
+    return refused
+
+
+# ---- checks
+
+
+@check
+def elections_and_crashes_replay():
+    with TemporaryDirectory() as folder:
+        record = Path(folder) / "record"
+        it = Ensemble(3, "--record", str(record))
+        random = Random(1)
+        try:
+            with client(it.hosts()) as one, client(it.hosts(3, 2, 1)) as other:
+                writes(one, random, 30)
+                other.add_auth("digest", "user:secret")
+                tried(lambda: other.create("/kept", b"secret", acl=[make_digest_acl("user", "secret", all=True)]))
+                tried(lambda: other.get("/kept", watch=lambda event: None))
+                for command in ("crash 3", "restart 3", "lead 1", "crash 1", "restart 1", "cut 2 3", "lead 2", "heal", "lead 3"):
+                    it.says(command)
+                    writes(one, random, 8)
+                    writes(other, random, 8)
+            until(lambda: it.says("status").count("following") == 2, "all serve")
+            told, stderr = same_trees(it, record)
+            assert stderr == "", stderr
+            # the delivered lists are prefixes of one list
+            lists = sorted((told[f"delivered {server}"] for server in (1, 2, 3)), key=len)
+            assert all(lists[2][: len(one)] == one for one in lists)
+        finally:
+            it.end()
+
+
+@check
+def sessions_that_expire_replay():
+    with TemporaryDirectory() as folder:
+        record = Path(folder) / "record"
+        it = Ensemble(3, "--record", str(record))
+        try:
+            script = (
+                "import os, sys; from kazoo.client import KazooClient; zk = KazooClient(sys.argv[1], timeout=4); zk.start(); "
+                "zk.create('/gone', b'', ephemeral=True); os._exit(0)"
+            )
+            subprocess.run([sys.executable, "-c", script, it.hosts(1)], check=True)
+            with client(it.hosts(2)) as zk:
+                zk.sync("/")
+                assert zk.exists("/gone")
+                until(lambda: zk.exists("/gone") is None, "the session expires")
+            told, _ = same_trees(it, record)
+            assert not [line for line in nodes_in(told["tree 1"]) if line.startswith('"/gone"')]
+        finally:
+            it.end()
+
+
+@check
+def results_are_those_that_clients_got():
+    with TemporaryDirectory() as folder:
+        record = Path(folder) / "record"
+        it = Ensemble(5, "--record", str(record))
+        try:
+            with client(it.hosts(4)) as zk:
+                refused = writes(zk, Random(2), 60)
+                _, stat = zk.get(zk.create("/last", b"1"))
+            told, _ = same_trees(it, record)
+            results = [line.split() for line in told["answers 4"]]
+            # TAG result ZXID ERR ..; -110: the node exists
+            assert sum(fields[3] == "-110" for fields in results) == refused, refused
+            created = [fields[2] for fields in results if fields[3] == "0" and len(fields) > 4 and fields[4] == '"/last"']
+            assert created == [f"{stat.czxid:016x}"], (created, stat)
+        finally:
+            it.end()
+
+
+@check
+def data_directories_have_the_histories():
+    with TemporaryDirectory() as folder:
+        record, data = Path(folder) / "record", Path(folder) / "data"
+        it = Ensemble(3, "--data", str(data), "--record", str(record))
+        try:
+            with client(it.hosts()) as zk:
+                for command in ("crash 2", "restart 2", "lead 2", "crash 2", "restart 2", "lead 1"):
+                    writes(zk, Random(command), 10)
+                    it.says(command)
+                writes(zk, Random(3), 10)
+            told, _ = same_trees(it, record)
+            histories = run_of(record, 3, "history")
+            for server in (1, 2, 3):
+                listed = subprocess.run([PROGRAM, "list", str(data / str(server))], capture_output=True, text=True, check=True)
+                assert histories[f"history {server}"] == listed.stdout.splitlines(), server
+                shown = subprocess.run([PROGRAM, "show", str(data / str(server)), "last"], capture_output=True, text=True, check=True)
+                assert nodes_in(told[f"tree {server}"]) == nodes_in(shown.stdout.splitlines()), server
+            again = subprocess.run(
+                [PROGRAM, "ensemble", "20001", "3", "--data", str(data), "--record", str(Path(folder) / "other")], capture_output=True, text=True
+            )
+            assert (again.returncode, again.stderr) == (1, "zk: data: --record needs a new directory\n"), again
+            assert not (Path(folder) / "other").exists()
+        finally:
+            it.end()
+
+
+@check
+def a_request_that_no_script_has_ends_the_record():
+    with TemporaryDirectory() as folder:
+        record = Path(folder) / "record"
+        it = Ensemble(3, "--record", str(record))
+        try:
+            with client(it.hosts(1)) as zk:
+                zk.create("/before", b"")
+                # flags 4: a container node, which these servers do not create
+                result = zk.handler.async_result()
+                zk._call(Create("/container", b"", zk.get_acls("/")[0], 4), result)
+                try:
+                    result.get()
+                    raise AssertionError("a container was created")
+                except KazooException:
+                    pass
+                assert zk.create("/after", b"") == "/after"
+            stderr = it.end()
+            assert stderr == "zk: record ends: a request that no script has\n", stderr
+            told = run_of(record, 3, "tree")
+            names = [line.split()[0] for line in nodes_in(told["tree 1"])]
+            assert '"/after"' not in names, names
+        finally:
+            it.end()
+
+
+@check
+def a_file_that_cannot_be_written():
+    it = Ensemble(3, "--record", "/dev/full")
+    try:
+        with client(it.hosts(1)) as zk:
+            assert zk.create("/a", b"") == "/a"
+        assert it.end() == "zk: record ends: write\n"
+    finally:
+        it.end()
+    done = subprocess.run([PROGRAM, "ensemble", "20001", "3", "--record", "/missing/record"], capture_output=True, text=True)
+    assert (done.returncode, done.stderr) == (1, "zk: write\n"), done
+
+
+@check
+def one_server_has_no_record():
+    with TemporaryDirectory() as folder:
+        done = subprocess.run([PROGRAM, "ensemble", "20001", "1", "--record", f"{folder}/record"], capture_output=True, text=True)
+        assert done.returncode == 2 and "2 to 15 with --record" in done.stderr, done
+        assert not Path(folder, "record").exists()
+
+
+def main():
+    names = sys.argv[1:]
+    failed = 0
+    passed = 0
+    for function in CHECKS:
+        if names and function.__name__ not in names:
+            continue
+        try:
+            function()
+            passed += 1
+        except Exception as error:
+            failed += 1
+            print(f"FAILED {function.__name__}: {type(error).__name__} {str(error)[:2000]}")
+    print(f"recording: {passed} passed, {failed} failed")
+    sys.exit(1 if failed else 0)
+
+
+main()
