@@ -105,7 +105,10 @@ fn fullest(world: &EchoWorld, servers: usize) -> usize {
 /// Whether a delivered list agrees with the longest one so far, in the tags and zxids of its
 /// entries, and no allocation failed. A longer list extends the longest one.
 fn agrees(longest: &mut Vec<(u64, i64)>, delivered: &Entries<'_>) -> bool {
-    let told = delivered.tags().iter().zip(delivered.txns());
+    let Ok(txns) = delivered.txns().read(*longest.allocator()) else {
+        return false;
+    };
+    let told = delivered.tags().iter().zip(txns.as_slice());
     for (index, (tag, txn)) in told.enumerate() {
         let entry = (*tag, txn.zxid);
         let is_told = match longest.as_slice().get(index) {
