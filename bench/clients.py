@@ -7,6 +7,8 @@ usage: bench/clients.py [stock]      in a checkout where `rt ci` has left the pr
        bench/clients.py HOST:PORT,.. measures servers that run
        bench/clients.py steady [SECONDS]  a thousand writes a second, for SECONDS, 600 if left out: the latencies
        bench/clients.py memory       resident memory after 1,000 and after 1,000,000 writes of 100 bytes to one node, and reads of it
+       bench/clients.py idle [CONNECTIONS]   the latency of reads over 100 connections, alone and beside others that are idle, 10,000 in all if
+                                     left out
        bench/clients.py durable [SERVERS] [WRITES]  on a new directory of the disk on which TMPDIR lies: writes a second with 100 in flight,
                                      resident memory after WRITES of them (1,000,000 if left out), and how long a start takes on them
                                      after kill -9, beside `zk show`
@@ -20,6 +22,7 @@ their data in /dev/shm, so that neither side waits for a disk.
 import multiprocessing
 import os
 import resource
+import selectors
 import shutil
 import socket
 import struct
@@ -171,8 +174,8 @@ def until_serving(addresses):
 class Ours:
     name = "zk ensemble"
 
-    def __init__(self, servers=3, directory=None):
-        self.servers, self.words = servers, ["--data", directory] if directory else []
+    def __init__(self, servers=3, directory=None, words=()):
+        self.servers, self.words = servers, [*(["--data", directory] if directory else []), *words]
 
     def __enter__(self):
         first = free_ports(self.servers)
@@ -264,6 +267,55 @@ def memory():
             print("1,000,000 %s: %d bytes more than after 1,000, %.0f each" % (word, grown, grown / 1e6))
 
 
+def waits_of(address, number, seconds, ready, begins, found):
+    """How long each read over 25 connections takes, one in flight on each."""
+    streams, path = [connected(address) for _ in range(25)], b"/idle%d" % number
+    made(streams[0], path)
+    packed, chosen, sent, waits = requests(GET_DATA, path, 1)[0], selectors.DefaultSelector(), {}, []
+    for stream in streams:
+        chosen.register(stream, selectors.EVENT_READ, stream)
+    ready.release()
+    begins.wait()
+    ends = time.perf_counter() + seconds
+    for stream in streams:
+        sent[stream] = time.perf_counter()
+        stream.sendall(packed)
+    while time.perf_counter() < ends:
+        for key, _ in chosen.select(1):
+            frame(key.data)
+            waits.append(time.perf_counter() - sent[key.data])
+            sent[key.data] = time.perf_counter()
+            key.data.sendall(packed)
+    found.put(waits)
+
+
+def percentiles(address, seconds=10):
+    """The median and the p99 of the reads of four such clients, in milliseconds."""
+    ready, begins, found = multiprocessing.Semaphore(0), multiprocessing.Event(), multiprocessing.Queue()
+    clients = [multiprocessing.Process(target=waits_of, args=(address, it, seconds, ready, begins, found)) for it in range(4)]
+    for client in clients:
+        client.start()
+    for _ in clients:
+        ready.acquire()
+    begins.set()
+    waits = sorted(wait for _ in clients for wait in found.get())
+    for client in clients:
+        client.join()
+    return waits[len(waits) // 2] * 1e3, waits[len(waits) * 99 // 100] * 1e3, len(waits) / seconds
+
+
+def idle(connections):
+    hard = resource.getrlimit(resource.RLIMIT_NOFILE)[1]
+    resource.setrlimit(resource.RLIMIT_NOFILE, (hard, hard))
+    with Ours(1, words=("--max-connections", str(2 * connections))) as service:
+        address, held = service.addresses[0], []
+        for count in (100, connections):
+            while len(held) + 100 < count:
+                held.append(connected(address))
+            time.sleep(2)
+            print("%d connections, 100 of them reading: median %.2f ms, p99 %.2f ms, %.0f reads a second" % (count, *percentiles(address)))
+
+
 def start_seconds(servers, directory):
     """The CPU seconds and the wall-clock seconds until a start has its data, and prints that it serves."""
     begun = time.perf_counter()
@@ -312,6 +364,8 @@ def main():
         return steady(int(words[1]) if words[1:] else 600)
     if words == ["memory"]:
         return memory()
+    if words[:1] == ["idle"]:
+        return idle(int(words[1]) if words[1:] else 10000)
     print("load before: %s" % " ".join("%.2f" % it for it in os.getloadavg()))
     if words and words != ["stock"]:
         running = type("Running", (), {"name": words[0], "addresses": words[0].split(",")})

@@ -40,8 +40,8 @@ refuses "zk debug <DIR|FILE> [SCRIPT]" debug
 refuses "zk debug [OPTIONS] <DIR|FILE> [SCRIPT]" debug @
 refuses "zk debug [OPTIONS] <DIR|FILE> [SCRIPT]" debug @ @
 refuses "zk asm <TEXT> <FILE>" asm "$listing"
-refuses "zk asm <TEXT> <FILE>" asm --force "$listing" "$work/kept"
-refuses "zk asm <TEXT> <FILE>" asm "$listing" "$work/kept" more
+refuses "zk asm [OPTIONS] <TEXT> <FILE>" asm --force "$listing" "$work/kept"
+refuses "zk asm [OPTIONS] <TEXT> <FILE>" asm "$listing" "$work/kept" more
 refuses "zk serve <PORT> <N>" serve 2181
 refuses "zk serve [OPTIONS] <PORT> <N>" serve 0 3
 refuses "zk serve [OPTIONS] <PORT> <N>" serve 65536 3
@@ -73,7 +73,7 @@ grep -qF "Usage: zk show [OPTIONS] <DIR|FILE> <ZXID>" "$work/out"
 ends 0 serve 0 0 --help
 grep -qF "Usage: zk serve [OPTIONS] <PORT> <N>" "$work/out"
 ends 0 help asm
-grep -qF "Usage: zk asm <TEXT> <FILE>" "$work/out"
+grep -qF "Usage: zk asm [OPTIONS] <TEXT> <FILE>" "$work/out"
 
 # under another name
 cp "$zk" "$work/other"

@@ -64,15 +64,25 @@ printf 'step\n' | "$zk" debug "$log" --prompt >"$work/out"
 [ "$(head -n 1 "$work/out")" = "zk 0 0000000000000000> $first" ]
 
 # and at a terminal, which echoes the lines
+# shows TEXT: waits until the terminal shows it
+shows() {
+    for ((tries = 0; tries < 1200; tries++)); do
+        if grep -qF "$1" "$work/terminal"; then
+            return
+        fi
+        sleep 0.05
+    done
+    echo "debug_session: the terminal does not show $1" >&2
+    return 1
+}
+: >"$work/terminal"
 {
-    sleep 1
+    shows "zk 0 0000000000000000> "
     printf 'step\n'
-    sleep 1
+    shows "zk 1 ${first#place 1 }> "
     printf 'quit\n'
-} | script -qec "$zk debug $log" /dev/null | tr -d '\r' >"$work/terminal"
-grep -qF "zk 0 0000000000000000> " "$work/terminal"
+} | script -qec "$zk debug $log" /dev/null >"$work/terminal"
 grep -qF "$first" "$work/terminal"
-grep -qF "zk 1 ${first#place 1 }> " "$work/terminal"
 
 # `tells PATTERN LINE..`: whether a session of these lines prints the pattern
 # (by a file: a `grep -q` that stops early in a pipe is an output that fails)

@@ -19,6 +19,6 @@ fi
 # each error of the page has words
 named=$(sed -n 's/^| `zk: \([A-Za-z0-9]*:\{0,1\}\)[ `].*/\1/p' docs/ERRORS.md | sort -u)
 for code in $named; do
-    grep -qF "code: \"$code\"" crates/zk_explanations/src/explanations.rt
+    grep -qF "code: \"$code\"" crates/zk_helps/src/explanations.rt
 done
 echo "explanations: $(wc -w <<<"$named") errors of the page"

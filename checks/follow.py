@@ -18,6 +18,8 @@ ROOT = Path(__file__).resolve().parent.parent
 PROGRAM = Path(os.environ.get("ZK", ROOT / "crates" / "zk_cli" / "out" / "zk_cli"))
 LOGS = ROOT / "examples" / "directories" / "follower"
 PADDING = 1 << 20
+# in seconds, for what is bound to come
+PATIENCE = 60
 
 
 def follow(room, *form):
@@ -30,7 +32,8 @@ def listing(directory, *form):
 
 def wait_for(room, wanted):
     """Waits until this was printed."""
-    for _ in range(200):
+    end = time.monotonic() + PATIENCE
+    while time.monotonic() < end:
         if (room / "out").read_bytes() == wanted:
             return
         time.sleep(0.05)
@@ -53,7 +56,7 @@ def grow(path, content, draw):
 
 def ends(program):
     program.send_signal(signal.SIGINT)
-    program.wait(10)
+    program.wait(PATIENCE)
     if program.stderr.read():
         sys.exit("an error at the interrupt")
 
@@ -90,7 +93,7 @@ def check_torn():
         path.write_bytes(content + bytes(1000))
         wait_for(room, b"".join(wanted[: count + 1]))
         path.write_bytes(content + content[16:100] + b"\xff" * 100 + b"more" + bytes(1000))
-        if program.wait(10) != 1 or not program.stderr.read().startswith(b"zk: G"):
+        if program.wait(PATIENCE) != 1 or not program.stderr.read().startswith(b"zk: G"):
             sys.exit("a write after a wrong entry is no error")
         print("torn: waited for, and an error after a later write")
 
@@ -105,12 +108,14 @@ def check_closed():
         program.stdout.readline()
         program.stdout.close()
         shutil.copy(second, room)
-        if program.wait(10) != 1 or program.stderr.read() != b"zk: write\n":
+        if program.wait(PATIENCE) != 1 or program.stderr.read() != b"zk: write\n":
             sys.exit("a closed output is no end")
         print("closed: it ends")
 
 
 if __name__ == "__main__":
+    # a shell's background runs begin with the interrupt ignored, and would pass that on to the programs
+    signal.signal(signal.SIGINT, signal.default_int_handler)
     seed = int(sys.argv[1]) if len(sys.argv) > 1 else 1
     for form in ([], ["--time", "iso"], ["--json"]):
         check_growth(form, random.Random(seed))

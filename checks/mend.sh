@@ -117,7 +117,7 @@ printf before >"$work/kept"
 for words in "$work/kept $work/kept" "$work/kept @" "@ @" "$work/kept"; do
     # shellcheck disable=SC2086
     [ "$(ends "$zk" mend $words | cut -c 1)" = 2 ]
-    grep -qF 'Usage: zk mend <FILE> <OUT>' "$work/err"
+    grep -q 'Usage: zk mend \(\[OPTIONS\] \)\?<FILE> <OUT>' "$work/err"
 done
 [ "$(cat "$work/kept")" = before ]
 echo "mend: logs of 3.8 become logs of 3.4, and those of 3.4 come back"

@@ -1,7 +1,10 @@
 #!/usr/bin/env python3
 """Tries mutants, which the prover must reject, those of a crate together: the files of `checks/mutants`.
 
-usage: checks/mutants.py [CRATE..]             in a checkout where `rt ci` has left the libraries
+usage: checks/mutants.py                       in a checkout where `rt ci` has left the libraries: tries the mutants of a quarter of the
+                                               crates, another one at each commit
+       checks/mutants.py --all                 tries those of all crates, as before each release
+       checks/mutants.py CRATE..               tries those of these crates
        checks/mutants.py --right [CRATE..]     tries the unchanged text in the same way: the prover must accept all of it
        checks/mutants.py --texts [CRATE..]     tries none, and says whether each old text is there: that takes a second, in any checkout
 
@@ -30,7 +33,7 @@ HERE = os.path.dirname(os.path.abspath(__file__))
 ROOT = os.path.dirname(HERE)
 PARTS = ("src", "specs", "proofs")
 # The crates whose mutants took longest in wall-clock time, one beside three others.
-DEAREST = ["zab_world", "zk_service", "zk_requests", "zk_table", "zk_debug", "zk_model", "zk_chronicle"]
+DEAREST = ["zab_world", "zk_front", "zk_requests", "zk_table", "zk_debug", "zk_model", "zk_servers"]
 # The memory that is left to each check: a third more than one has been seen to take.
 NEED = 3_000_000_000
 
@@ -288,11 +291,18 @@ def lanes():
     return max(1, min(len(os.sched_getaffinity(0)), free // NEED))
 
 
+def quarter(crates):
+    """Every fourth crate, from the one that the commit's hash says; without a commit, each."""
+    commit = subprocess.run(["git", "rev-parse", "HEAD"], cwd=ROOT, capture_output=True, text=True).stdout.strip()
+    return crates[int(commit, 16) % 4 :: 4] if commit else crates
+
+
 def main(words):
     is_right, crates = "--right" in words, [it for it in words if not it.startswith("--")]
     every = sorted(os.listdir(os.path.join(HERE, "mutants")))
+    is_quarter = not words
     work = []
-    for crate in crates or every:
+    for crate in crates or (quarter(every) if is_quarter else every):
         edits = [Edit(crate, it) for it in sorted(os.listdir(os.path.join(HERE, "mutants", crate)))]
         work.append((crate, edits))
     # (first: a mutant whose old text has moved would stop the run only after the trials of other crates)
@@ -308,7 +318,8 @@ def main(words):
             print("\n".join(told), flush=True)
             missed += of
     if not is_right:
-        print("%d edits refused, %d not" % (sum(len(it) for _, it in work) - missed, missed))
+        which = " of a quarter of the crates: --all tries those of all" if is_quarter else ""
+        print("%d edits refused, %d not%s" % (sum(len(it) for _, it in work) - missed, missed, which))
     return 1 if missed else 0
 
 

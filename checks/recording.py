@@ -2,41 +2,23 @@
 """What `zk ensemble --record` writes, replayed by `zk run`: each server then has the tree that kazoo clients saw there last, the
 transactions that its data directory has, and the results that clients got.
 
-kazoo is looked for in this Python and in /usr/bin/python3; where neither has it, the checks cannot run, and fail.
-
 usage: recording.py [NAME..]
 """
-import logging
 import os
-import re
 import subprocess
 import sys
 import time
-from contextlib import contextmanager
 from pathlib import Path
-from random import Random, randrange
+from random import Random
 from tempfile import TemporaryDirectory
 
-try:
-    from kazoo.client import KazooClient
-    from kazoo.exceptions import KazooException, NodeExistsError
-    from kazoo.protocol.serialization import Create
-    from kazoo.security import make_digest_acl
-except ImportError:
-    if sys.executable == "/usr/bin/python3":
-        sys.exit("recording: kazoo is not installed: apt-get install python3-kazoo")
-    os.execv("/usr/bin/python3", ["/usr/bin/python3", *sys.argv])
+from lib import PATIENCE, PROGRAM, Ensemble, KazooClient, client, until
 
-ROOT = Path(__file__).resolve().parent.parent
-PROGRAM = Path(os.environ.get("ZK", ROOT / "crates" / "zk_cli" / "out" / "zk_cli"))
-
-# How long a condition is waited for, in seconds.
-PATIENCE = 60
+from kazoo.exceptions import KazooException, NodeExistsError
+from kazoo.protocol.serialization import Create
+from kazoo.security import make_digest_acl
 
 CHECKS = []
-
-# kazoo reports each lost connection, and these checks lose many.
-logging.disable(logging.CRITICAL)
 
 
 def check(function):
@@ -44,59 +26,7 @@ def check(function):
     return function
 
 
-# ---- an ensemble and its clients
-
-
-class Ensemble:
-    def __init__(self, servers: int, *flags: str):
-        self.servers = servers
-        for _ in range(50):
-            self.port = randrange(20000, 60000)
-            self.process = subprocess.Popen(
-                [PROGRAM, "ensemble", str(self.port), str(servers), *flags],
-                stdin=subprocess.PIPE, stdout=subprocess.PIPE, stderr=subprocess.PIPE, text=True, bufsize=1,
-            )
-            if self.process.stdout.readline().startswith("serving"):
-                return
-        raise AssertionError(self.process.stderr.read())
-
-    def hosts(self, *servers: int) -> str:
-        return ",".join(f"127.0.0.1:{self.port + server - 1}" for server in servers or range(1, self.servers + 1))
-
-    def says(self, command: str) -> list[str]:
-        self.process.stdin.write(command + "\n")
-        self.process.stdin.flush()
-        lines = [self.process.stdout.readline().rstrip("\n") for _ in range(self.servers)]
-        assert all(re.fullmatch(r"server \d+ \w+ zxid [0-9a-f]{16} connections \d+", line) for line in lines), lines
-        return [line.split()[2] for line in lines]
-
-    def end(self) -> str:
-        """Ends it at once. What it has written on standard error."""
-        self.process.kill()
-        return self.process.communicate()[1]
-
-
-@contextmanager
-def client(hosts: str, timeout: float = 10.0):
-    zk = KazooClient(hosts, timeout=timeout, randomize_hosts=False)
-    zk.start(PATIENCE)
-    try:
-        yield zk
-    finally:
-        zk.stop()
-        zk.close()
-
-
-def until(condition, what: str):
-    end = time.time() + PATIENCE
-    while time.time() < end:
-        try:
-            if condition():
-                return
-        except KazooException:
-            pass
-        time.sleep(0.05)
-    raise AssertionError(f"not within {PATIENCE} s: {what}")
+# ---- clients
 
 
 def tried(act):
@@ -240,10 +170,10 @@ def elections_and_crashes_replay():
                 tried(lambda: other.create("/kept", b"secret", acl=[make_digest_acl("user", "secret", all=True)]))
                 tried(lambda: other.get("/kept", watch=lambda event: None))
                 for command in ("crash 3", "restart 3", "lead 1", "crash 1", "restart 1", "cut 2 3", "lead 2", "heal", "lead 3"):
-                    it.says(command)
+                    it.states(command)
                     writes(one, random, 8)
                     writes(other, random, 8)
-            until(lambda: it.says("status").count("following") == 2, "all serve")
+            until(lambda: it.states("status").count("following") == 2, "all serve")
             told, stderr = same_trees(it, record)
             assert stderr == "", stderr
             # the delivered lists are prefixes of one list
@@ -302,7 +232,7 @@ def data_directories_have_the_histories():
             with client(it.hosts()) as zk:
                 for command in ("crash 2", "restart 2", "lead 2", "crash 2", "restart 2", "lead 1"):
                     writes(zk, Random(command), 10)
-                    it.says(command)
+                    it.states(command)
                 writes(zk, Random(3), 10)
             told, _ = same_trees(it, record)
             histories = run_of(record, 3, "history")

@@ -177,7 +177,12 @@ asks 'create "/a" x '"$open" 'ok "/a"'
 sleep 4.1
 # it is closed at this line, which does not wait for that
 asks 'sync "/a"' 'ok "/a"'
-sleep 0.5
+for ((tries = 0; tries < 1200; tries++)); do
+    printf 'stat "/a"\n' >&3
+    IFS= read -r -t 60 -u 3 answer
+    [ "$answer" != 'err -112' ] || break
+    sleep 0.05
+done
 asks 'stat "/a"' 'err -112'
 asks 'stat "/a"' 'err -112'
 asks 'open 30000' 'ok 0000000100000007 30000'

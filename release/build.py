@@ -3,6 +3,8 @@
 
 usage: release/build.py PROGRAM ARCHIVE        in a checkout; ARCHIVE ends with .tar.gz
 
+A release is made of a commit that passed `.ci/run` and `checks/mutants.py --all`.
+
 The program has 40 zeros where its version names the commit, as the text that is proved can't name its own commit. They are replaced by
 that of the checkout, or stay if it has uncommitted changes. The same program, checkout and documents give the same bytes.
 """

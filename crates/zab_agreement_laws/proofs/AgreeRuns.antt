@@ -1,7 +1,7 @@
 -- Every run agrees.
 use Rattle.std.proofs.Common.{◌≡◌, ◌≢◌, ℕ, suc, ◌+◌, pos, inl, inr, List, [], ◌∷◌, ◌++◌, take, Option, Some, None, sym, subst, slice_get, add-one, arith}
 use Rattle.zab_epoch.specs.declared.history.Entry.{Entry}
-use Rattle.zab_quorums.specs.Quorums.{IsQuorumSystem}
+use Rattle.zab_epoch.specs.Quorums.{IsQuorumSystem}
 use Rattle.zab_laws.specs.Prefixes.{IsPrefix, Rises}
 use Rattle.zab_laws.specs.Cores as laws
 use Rattle.zab_laws.proofs.PrefixLaws.{prefix_refl, prefix_trans, prefix_take, rises_front}

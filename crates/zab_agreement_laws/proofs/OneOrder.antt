@@ -1,7 +1,7 @@
 -- Delivered lists agree by the four facts and the law of quorums alone.
 use Rattle.std.proofs.Common.{◌≡◌, ℕ, zero, suc, ◌<◌, ◌≤◌, ◌⊎◌, inl, inr, List, [], ◌∷◌, take, refl, sym, ap, subst, arith}
 use Rattle.zab_epoch.specs.declared.history.Entry.{Entry}
-use Rattle.zab_quorums.specs.Quorums.{IsQuorumSystem}
+use Rattle.zab_epoch.specs.Quorums.{IsQuorumSystem}
 use Rattle.zab_laws.specs.Prefixes.{IsPrefix}
 use Rattle.zab_laws.proofs.PrefixLaws.{prefix_nil, prefix_trans, prefix_either}
 use Rattle.zab_laws.proofs.Facts.{split}

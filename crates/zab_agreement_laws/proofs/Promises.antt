@@ -6,7 +6,7 @@ use Rattle.zab_epoch.specs.declared.role.Role.{Role}
 use Rattle.zab_epoch.specs.declared.role.Role.TheVariants.{Looking, Discover, Choose, Sync, Broadcast, Following}
 use Rattle.zab_epoch.specs.Entries.{last_zxid, up_to}
 use Rattle.zab_epoch.specs.Rules.{meant}
-use Rattle.zab_quorums.specs.Quorums.{IsQuorumSystem}
+use Rattle.zab_epoch.specs.Quorums.{IsQuorumSystem}
 use Rattle.zab_broadcast.specs.declared.state.State.{State}
 use Rattle.zab_broadcast.specs.Rules.{next_zxid}
 use Rattle.zab_laws.specs.Prefixes.{IsPrefix, last_key}

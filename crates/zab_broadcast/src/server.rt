@@ -7,9 +7,9 @@ use std::alloc::Global;
 use std::marker::Model;
 use std::mem::replace;
 use zab_epoch::{
-    Body, Entries, Entry, History, Messages, Peer, Quorums, Role, RuleFault, Stable, Table, Vote,
+    Body, Entries, Entry, History, Messages, Payload, Peer, Quorums, Role, RuleFault, Stable,
+    Table, Vote,
 };
-use zab_payload::Payload;
 use zk_path::NoMemory;
 
 /// A server, with its primary while it leads.
@@ -46,7 +46,7 @@ impl<P: Primary> Model for Server<P> {
 
 impl<P: Primary> Server<P> {
     ghost use Rattle.std.specs.Prelude.{◌≡◌, ◌≢◌, ◌≤◌, ◌<◌, ◌<ℤ◌, ◌-◌, ◌++◌, [], max, set, length, take, None, if◌then◌else◌, IfOk, OnOk, OnErr};
-    ghost use Rattle.zab_epoch.specs.declared.fault.RuleFault.TheVariants as faults;
+    ghost use Rattle.zab_epoch.specs.declared.rule_fault.RuleFault.TheVariants as faults;
     ghost use Rattle.zab_epoch.specs.Entries.{last_zxid};
     ghost use Rattle.zab_epoch.specs.Shortness.{IsShort};
     ghost use Rattle.zab_broadcast.specs.Calls.{setting_of};

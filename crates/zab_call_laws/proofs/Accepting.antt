@@ -1,6 +1,6 @@
 -- A tag is accepted once: no two events of a run submit accepted calls with one tag.
 use Rattle.std.proofs.Common.{◌≡◌, ℕ, suc, zero, true, false, List, [], ◌∷◌, Option, Some, None, Result, Ok, Err, refl, sym, ap, subst, ◌∙◌, slice_get}
-use Rattle.zab_epoch.specs.declared.fault.RuleFault.{RuleFault}
+use Rattle.zab_epoch.specs.declared.rule_fault.RuleFault.{RuleFault}
 use Rattle.zab_epoch.specs.declared.message.Message.{Message}
 use Rattle.zab_broadcast.specs.Calls.{Setting, is_taken}
 use Rattle.zab_broadcast.specs.Rules as rules

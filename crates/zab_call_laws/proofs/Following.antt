@@ -4,7 +4,7 @@ use Rattle.zab_agreement_laws.proofs.AgreeRuns.{runs_agree}
 use Rattle.zab_agreement_laws.specs.Laws.{IsNextInRun}
 use Rattle.zab_call_laws.proofs.Origins.{tagged_once, come_from_calls}
 use Rattle.zab_call_laws.proofs.SyncRuns.{are_caught}
-use Rattle.zab_quorums.specs.Quorums.{IsQuorumSystem}
+use Rattle.zab_epoch.specs.Quorums.{IsQuorumSystem}
 use Rattle.zab_rule_laws.proofs.Hearing.{CarriesZxid}
 use Rattle.zab_rule_laws.proofs.TagCalls.{CarriesTag}
 use Rattle.zab_model.proofs.RunLaws.{goes_on}

@@ -4,7 +4,7 @@ use Rattle.std.proofs.Math.Seq.{take-length}
 use Rattle.std.proofs.lemmas.Option.{slice_get-get_or}
 use Rattle.std.specs.List.{Contains}
 use Rattle.zab_epoch.specs.declared.history.Entry.{Entry}
-use Rattle.zab_quorums.specs.Quorums.{IsQuorumSystem}
+use Rattle.zab_epoch.specs.Quorums.{IsQuorumSystem}
 use Rattle.zab_laws.specs.Prefixes.{IsPrefix}
 use Rattle.zab_laws.proofs.PrefixLaws.{prefix_refl}
 use Rattle.zab_rule_laws.proofs.Hearing.{CarriesZxid}

@@ -1,6 +1,6 @@
 -- A tag that is spent stays so, of calls and of syncs: no event takes one back.
 use Rattle.std.proofs.Common.{◌≡◌, ℕ, ◌==◌, ◌&&◌, not, Bool, true, false, List, [], ◌∷◌, length, Option, Some, None, Result, Ok, Err, sym, ◌∙◌}
-use Rattle.zab_epoch.specs.declared.fault.RuleFault.{RuleFault}
+use Rattle.zab_epoch.specs.declared.rule_fault.RuleFault.{RuleFault}
 use Rattle.zab_epoch.specs.declared.message.Message.{Message}
 use Rattle.zab_broadcast.specs.declared.state.State.{State}
 use Rattle.zab_broadcast.specs.Calls.{Setting, is_taken}

@@ -4,7 +4,7 @@ use Rattle.std.specs.Prelude.{◌≡◌, ℕ, false, Err}
 use Rattle.zab_broadcast.specs.Calls.{Setting, is_taken}
 use Rattle.zab_broadcast.specs.Rules.{Acts, submit, request}
 use Rattle.zab_broadcast.specs.declared.state.State.{State}
-use Rattle.zab_epoch.specs.declared.fault.RuleFault.TheVariants as faults
+use Rattle.zab_epoch.specs.declared.rule_fault.RuleFault.TheVariants as faults
 use Rattle.zab_epoch.specs.declared.role.Role.TheVariants.{Looking, Broadcast}
 
 -- a leader in broadcast that has made an entry in its epoch for each counter

@@ -1,8 +1,8 @@
 -- An append-only input appends at most one entry to what its server stores.
 use Rattle.std.proofs.Common.{◌≡◌, ◌≢◌, Result, Err, inl, inr, ℕ, ℤ, max, Bool, true, false, not, ◌==◌, ◌&&◌, nat_lt, if◌then◌else◌, List, [], ◌∷◌, ◌++◌, length, take, drop, Option, Some, None, Ok, refl, sym, ap, ◌∙◌, subst, arith, length-append}
 use Rattle.std.proofs.lemmas.List.{take-append-le, take-append-drop}
-use Rattle.zab_epoch.specs.declared.fault.RuleFault.{RuleFault}
-use Rattle.zab_epoch.specs.declared.fault.RuleFault.TheVariants as faults
+use Rattle.zab_epoch.specs.declared.rule_fault.RuleFault.{RuleFault}
+use Rattle.zab_epoch.specs.declared.rule_fault.RuleFault.TheVariants as faults
 use Rattle.zab_epoch.specs.declared.history.Entry.{Entry}
 use Rattle.zab_epoch.specs.declared.message.Body.{Body}
 use Rattle.zab_epoch.specs.declared.message.Body.TheVariants.{CEpoch, NewEpoch, AckEpoch, NewLeader, AckLeader, Propose, Ack, Commit, Request, SyncAsk, SyncTell}

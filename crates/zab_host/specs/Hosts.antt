@@ -2,8 +2,8 @@
 -- one input on it.
 -- Junqueira, Reed, Serafini: "Zab: High-performance broadcast for primary-backup systems", DSN 2011.
 use Rattle.std.specs.Prelude.{◌≡◌, ◌≢◌, ◌⊎◌, ◌<◌, ◌≤◌, ℕ, List, [], ◌++◌, Result, Ok, Err}
-use Rattle.zab_epoch.specs.declared.fault.RuleFault.{RuleFault}
-use Rattle.zab_epoch.specs.declared.fault.RuleFault.TheVariants as rule
+use Rattle.zab_epoch.specs.declared.rule_fault.RuleFault.{RuleFault}
+use Rattle.zab_epoch.specs.declared.rule_fault.RuleFault.TheVariants as rule
 use Rattle.zab_epoch.specs.declared.message.Body.{Body}
 use Rattle.zab_epoch.specs.declared.message.Body.TheVariants.{CEpoch, NewEpoch, AckEpoch, NewLeader}
 use Rattle.zab_epoch.specs.declared.message.Message.{Message}

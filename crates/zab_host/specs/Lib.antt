@@ -4,3 +4,4 @@ pub mod Growth
 pub mod Hosts
 pub mod Tags
 pub mod Votes
+pub mod LoneLeaders

@@ -1,7 +1,7 @@
 //! A message's rule at the server that it is addressed to.
 
 ghost use Rattle.std.specs.Prelude.{◌≡◌, ◌≢◌, true, false, Err};
-ghost use Rattle.zab_epoch.specs.declared.fault.RuleFault.TheVariants as faults;
+ghost use Rattle.zab_epoch.specs.declared.rule_fault.RuleFault.TheVariants as faults;
 ghost use Rattle.zab_epoch.specs.Shortness.{IsShortBody};
 ghost use Rattle.zab_broadcast.specs.Calls.{setting_of};
 ghost use Rattle.zab_broadcast.specs.Guards.{EndsBelow};

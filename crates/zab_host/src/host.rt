@@ -49,7 +49,7 @@ impl<P: Primary, S: Storage> Host<P, S> {
     ghost use Rattle.zab_broadcast.specs.Rules.{restored, is_serving};
     ghost use Rattle.zab_host.specs.declared.fault.HostFault.TheVariants as faults;
     ghost use Rattle.zab_host.specs.Hosts.{acts_of, messages_of, IsAppendOnlyBody, Receives, Submits, Syncs, Leads, Follows, StepsTo, IsOutside, IsRejected, IsStored};
-    ghost use Rattle.zab_host.specs.Durability.{IsDurable, IsPartialStore};
+    ghost use Rattle.zab_host.specs.Durability.{IsDurable, IsPartialStore, IsRecoverable};
     ghost use Rattle.zab_host.specs.Votes.{vote_of};
 
     /// Starts a host on what its store recovers. It has delivered nothing, follows no leader, and
@@ -64,6 +64,9 @@ impl<P: Primary, S: Storage> Host<P, S> {
         ensures state { IfOk result (λ it. (stable : Stable) × ((S.is_clean it.storage → S.may_recover storage stable)
             × ((it.state ≡ restored servers me stable) × ((it.outbox ≡ [])
             × IsDurable stable (S.may_recover it.storage))))) }
+        ensures found { IfOk result (λ it. S.is_clean it.storage
+            → S.may_recover it.storage it.state.peer.stable) }
+        ensures clean { IfOk result (λ it. S.is_clean it.storage → S.is_clean storage) }
         ensures boots { IfOk result (λ it. S.boots it.storage ≡ S.boots storage) }
     {
         let mut storage = storage;
@@ -160,6 +163,11 @@ impl<P: Primary, S: Storage> Host<P, S> {
         ensures outbox { OnOk result (self.new.outbox ≡ self.old.outbox ++ messages_of
             (acts_of (setting_of (Q.passes quorums.now) P.made_of P.tag_of) self.old.state (Receives message.now)).1) }
         ensures stored { OnOk result (IsStored S.may_recover self.new) }
+        ensures found { OnOk result (S.is_clean self.new.storage
+            → S.may_recover self.new.storage self.new.state.peer.stable) }
+        ensures remains { S.is_clean self.new.storage → IsRecoverable (S.may_recover self.old.storage)
+            → IsRecoverable (S.may_recover self.new.storage) }
+        ensures clean { S.is_clean self.new.storage → S.is_clean self.old.storage }
         ensures rejected { IfErr result (λ fault. IsRejected S.may_recover (setting_of (Q.passes quorums.now) P.made_of P.tag_of)
             self.old (Receives message.now) self.new fault) }
         ensures crash { (found : Stable) → S.may_recover self.new.storage found
@@ -176,6 +184,11 @@ impl<P: Primary, S: Storage> Host<P, S> {
     #[tactic(auto, using(crate::proofs::Growth::none_stored, crate::proofs::Growth::all_stored))]
     fn store(&mut self) -> Result<(), StoreFault>
         ensures stored { OnOk result (IsStored S.may_recover self.new) }
+        ensures found { OnOk result (S.is_clean self.new.storage
+            → S.may_recover self.new.storage self.new.state.peer.stable) }
+        ensures remains { S.is_clean self.new.storage → IsRecoverable (S.may_recover self.old.storage)
+            → IsRecoverable (S.may_recover self.new.storage) }
+        ensures clean { S.is_clean self.new.storage → S.is_clean self.old.storage }
         ensures state { self.new.state ≡ self.old.state }
         ensures outbox { self.new.outbox ≡ self.old.outbox }
         ensures crash { (found : Stable) → S.may_recover self.new.storage found
@@ -194,6 +207,11 @@ impl<P: Primary, S: Storage> Host<P, S> {
     #[tactic(auto, using(crate::proofs::Growth::none_stored, crate::proofs::Growth::all_stored))]
     fn store_atomically(&mut self) -> Result<(), StoreFault>
         ensures stored { OnOk result (IsStored S.may_recover self.new) }
+        ensures found { OnOk result (S.is_clean self.new.storage
+            → S.may_recover self.new.storage self.new.state.peer.stable) }
+        ensures remains { S.is_clean self.new.storage → IsRecoverable (S.may_recover self.old.storage)
+            → IsRecoverable (S.may_recover self.new.storage) }
+        ensures clean { S.is_clean self.new.storage → S.is_clean self.old.storage }
         ensures state { self.new.state ≡ self.old.state }
         ensures outbox { self.new.outbox ≡ self.old.outbox }
         ensures crash { (found : Stable) → S.may_recover self.new.storage found
@@ -315,6 +333,11 @@ impl<P: Primary, S: Storage> Host<P, S> {
     pub fn release(&mut self, alloc: Global) -> Result<Messages<P::Call>, StoreFault>
         ensures messages { IfOk result (λ messages. messages ≡ self.old.outbox) }
         ensures stored { OnOk result (IsStored S.may_recover self.new) }
+        ensures found { OnOk result (S.is_clean self.new.storage
+            → S.may_recover self.new.storage self.new.state.peer.stable) }
+        ensures remains { S.is_clean self.new.storage → IsRecoverable (S.may_recover self.old.storage)
+            → IsRecoverable (S.may_recover self.new.storage) }
+        ensures clean { S.is_clean self.new.storage → S.is_clean self.old.storage }
         ensures state { self.new.state ≡ self.old.state }
         ensures empty { OnOk result (self.new.outbox ≡ []) }
         ensures waits { OnErr result (self.new.outbox ≡ self.old.outbox) }

@@ -1,8 +1,8 @@
 -- An input is a step.
 use Rattle.std.proofs.Common.{◌≡◌, ℕ, zero, suc, ◌-◌, ◌==◌, ◌&&◌, not, Bool, true, false, if◌then◌else◌, List, [], ◌∷◌, ◌++◌, length, map, set, slice_get, Some, Result, Ok, Err, refl, sym, ap, ◌∙◌, subst}
 use Rattle.std.proofs.lemmas.List.{append-nil, append_assoc, length-set}
-use Rattle.zab_epoch.specs.declared.fault.RuleFault.{RuleFault}
-use Rattle.zab_epoch.specs.declared.fault.RuleFault.TheVariants as rule_faults
+use Rattle.zab_epoch.specs.declared.rule_fault.RuleFault.{RuleFault}
+use Rattle.zab_epoch.specs.declared.rule_fault.RuleFault.TheVariants as rule_faults
 use Rattle.zab_epoch.specs.declared.message.Message.{Message}
 use Rattle.zab_epoch.specs.declared.role.Role.{Role}
 use Rattle.zab_epoch.specs.declared.role.Role.TheVariants as roles
@@ -16,8 +16,8 @@ use Rattle.zab_model.specs.ProcessStates.{ProcessState, standing}
 use Rattle.zab_model.specs.Worlds.{World, Profile, world, is_server, server_at, running, if_up, if_down, crashed, crashes, restarts, happens, told, said, with_server, acts, receives}
 use Rattle.zab_model.proofs.ServerLists.{found, same_place, other_same}
 use Rattle.zab_model.specs.declared.event.Event.TheVariants.{Crash, Restart}
-use Rattle.zab_recovery.specs.Hosts as steps
-use Rattle.zab_recovery.specs.Hosts.{Network, submits_at, syncs_at, after_step, after_steps}
+use Rattle.zab_host_laws.specs.Hosts as steps
+use Rattle.zab_host_laws.specs.Hosts.{Network, submits_at, syncs_at, after_step, after_steps}
 use Rattle.zab_host.specs.Hosts.{Input, Receives, Submits, Syncs, Leads, Follows, acts_of, messages_of}
 use Rattle.zab_host_laws.specs.Composition.{step_of, Fits, AllFit, messages_in, AreSteps, InputsAreSteps, RestartsFrom}
 

@@ -14,8 +14,8 @@ use Rattle.zab_model.specs.ProcessStates.{ProcessState, standing, new_server, ne
 use Rattle.zab_model.specs.Worlds.{World, Profile, world, is_server, server_at, running, resting, if_down, told, said, with_server, acts, receives, crashed, crashes, restarts, happens}
 use Rattle.zab_model.specs.declared.event.Event.TheVariants.{Crash, Restart}
 use Rattle.zab_model.proofs.ServerLists.{found, same_place, other_place, up_is, down_is}
-use Rattle.zab_recovery.specs.Hosts as steps
-use Rattle.zab_recovery.specs.Hosts.{Network, Step, new_network, submits_at, syncs_at, after_step, after_steps}
+use Rattle.zab_host_laws.specs.Hosts as steps
+use Rattle.zab_host_laws.specs.Hosts.{Network, Step, new_network, submits_at, syncs_at, after_step, after_steps}
 use Rattle.zab_host.specs.Hosts.{Input, Receives, Submits, Syncs, Leads, Follows, IsFor, acts_of}
 use Rattle.zab_host_laws.specs.Composition.{Fits, AllFit, AreSteps, RestartsFrom}
 use Rattle.zab_host_laws.specs.Fits.{AllFor, IsNumbered, HostsKeepTheirNumbers, AcceptedInputsAreSteps}

@@ -13,8 +13,8 @@ use Rattle.zab_model.specs.Worlds.{World, Profile, spent, server_at}
 use Rattle.zab_model.specs.Runs.{after, run, delivered_list, history_list, delivered_of, delivered_after}
 use Rattle.zab_model.proofs.RunLaws.{after_all}
 use Rattle.zab_agreement_laws.specs.Agreement.{Agrees}
-use Rattle.zab_recovery.specs.Hosts.{Network, Step, Restarts, with_tags, new_network, after_step, after_steps, MayStepAll, calls_after, syncs_after}
-use Rattle.zab_recovery.proofs.HostRuns.{AreSpent, Quiet, quiet_steps, all_steps, calls_all, syncs_all}
+use Rattle.zab_host_laws.specs.Hosts.{Network, Step, Restarts, with_tags, new_network, after_step, after_steps, MayStepAll, calls_after, syncs_after}
+use Rattle.zab_host_laws.proofs.HostRuns.{AreSpent, Quiet, quiet_steps, all_steps, calls_all, syncs_all}
 use Rattle.zab_host_laws.specs.NeverBack.{delivered_by, last_zxid, HostsOnlyGrow, HostsNeverGoBack}
 
 stepped_both : {C : Type 0} (profile : Profile C) (c : Network C) (a b : List (Step C)) → after_steps profile c (a ++ b) ≡ after_steps profile (after_steps profile c a) b

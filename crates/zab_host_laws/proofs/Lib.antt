@@ -1,3 +1,11 @@
+mod Forgetting
+mod Bouncing
+mod OneRun
+mod Others
+mod Adopting
+pub mod HostRuns
+mod Agreeing
+mod HostsAgreeing
 mod Composition
 mod Fits
 mod Growing

@@ -11,8 +11,8 @@ use Rattle.zab_model.specs.declared.fault.WorldFault.{WorldFault}
 use Rattle.zab_model.specs.declared.fault.WorldFault.TheVariants as faults
 use Rattle.zab_model.specs.ProcessStates.{ProcessState, standing}
 use Rattle.zab_model.specs.Worlds.{World, Profile, is_server, running, resting, told, said, with_server, acts, receives, message_at, crashes, restarts, happens}
-use Rattle.zab_recovery.specs.Hosts as steps
-use Rattle.zab_recovery.specs.Hosts.{Network, Step, new_network, submits_at, syncs_at, after_step, after_steps, MayStepAll, MayStep, calls_after, syncs_after}
+use Rattle.zab_host_laws.specs.Hosts as steps
+use Rattle.zab_host_laws.specs.Hosts.{Network, Step, new_network, submits_at, syncs_at, after_step, after_steps, MayStepAll, MayStep, calls_after, syncs_after}
 use Rattle.zab_host.specs.Hosts.{Input, Receives, Submits, Syncs, Leads, Follows}
 use Rattle.zab_host_laws.specs.Composition.{step_of}
 use Rattle.zab_host_laws.specs.Releases.{Release, restart_of, steps_in, WasSent, WereSent, ReceiveWhatWasSent, IsFreshTag, AreFreshTags, ReleasesAreSteps}

@@ -7,7 +7,7 @@ use Rattle.zab_broadcast.specs.declared.syncs.Caught.{Caught}
 use Rattle.zab_model.specs.declared.event.Event.{Event}
 use Rattle.zab_model.specs.Runs.{run, syncs_of, syncs_after}
 use Rattle.zab_model.specs.Worlds.{World, Profile}
-use Rattle.zab_recovery.specs.Hosts.{new_network, after_steps, HostsAreARun}
+use Rattle.zab_host_laws.specs.Hosts.{new_network, after_steps, HostsAreARun}
 use Rattle.zab_host_laws.specs.Syncs.{HostSyncsAreCaught}
 
 pub syncs_are_caught : {C : Type 0} (profile : Profile C) → ((servers : ℕ) (events : List (Event C)) → AreCaught profile servers events) → HostsAreARun profile → HostSyncsAreCaught profile

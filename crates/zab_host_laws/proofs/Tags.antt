@@ -4,8 +4,8 @@ use Rattle.std.proofs.lemmas.Bool.Decides.{nat_tests}
 use Rattle.std.specs.List.{AllByRecursion}
 use Rattle.zab_broadcast.specs.Calls.{is_taken}
 use Rattle.zab_model.specs.Worlds.{Profile}
-use Rattle.zab_recovery.specs.Hosts.{Step, Receives, Submits, Syncs, Leads, Follows, Restarts}
-use Rattle.zab_recovery.proofs.HostRuns.{taken_both}
+use Rattle.zab_host_laws.specs.Hosts.{Step, Receives, Submits, Syncs, Leads, Follows, Restarts}
+use Rattle.zab_host_laws.proofs.HostRuns.{taken_both}
 use Rattle.zab_host.specs.Tags.{Request, IsInRange, request_tag, TagsDiffer}
 use Rattle.zab_host_laws.specs.Releases.{AreFreshTags}
 use Rattle.zab_host_laws.specs.Tags.{tags_in, AreDistinct, IssuedTagsAreFresh}

@@ -6,8 +6,8 @@ use Rattle.zab_broadcast.specs.Calls.{Setting}
 use Rattle.zab_broadcast.specs.Rules.{restored}
 use Rattle.zab_model.specs.ProcessStates.{ProcessState, standing}
 use Rattle.zab_model.specs.Worlds.{Profile, is_server, server_at}
-use Rattle.zab_recovery.specs.Hosts as steps
-use Rattle.zab_recovery.specs.Hosts.{Network, Step, after_step, after_steps}
+use Rattle.zab_host_laws.specs.Hosts as steps
+use Rattle.zab_host_laws.specs.Hosts.{Network, Step, after_step, after_steps}
 use Rattle.zab_host.specs.Hosts.{Input, Receives, Submits, Syncs, Leads, Follows, acts_of, messages_of}
 
 -- a host's input as a step of the network

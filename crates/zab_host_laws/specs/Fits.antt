@@ -5,7 +5,7 @@ use Rattle.zab_broadcast.specs.declared.state.State.{State}
 use Rattle.zab_broadcast.specs.Calls.{Setting}
 use Rattle.zab_model.specs.ProcessStates.{ProcessState}
 use Rattle.zab_model.specs.Worlds.{Profile, server_at}
-use Rattle.zab_recovery.specs.Hosts.{Network, Step, new_network, after_steps}
+use Rattle.zab_host_laws.specs.Hosts.{Network, Step, new_network, after_steps}
 use Rattle.zab_host.specs.Hosts.{Input, IsFor, acts_of}
 use Rattle.zab_host_laws.specs.Composition.{AreSteps, RestartsFrom}
 

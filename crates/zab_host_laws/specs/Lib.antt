@@ -1,4 +1,9 @@
 -- What the contracts of this crate cite.
+pub mod Recovery
+pub mod Survival
+pub mod Adoptions
+pub mod Hosts
+pub mod Agreement
 pub mod Prefixes
 pub mod Releases
 pub mod NeverBack

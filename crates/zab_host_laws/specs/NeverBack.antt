@@ -5,7 +5,7 @@ use Rattle.zab_epoch.specs.declared.history.Entry.{Entry}
 use Rattle.zab_laws.specs.Prefixes.{IsPrefix, last_key}
 use Rattle.zab_model.specs.Worlds.{Profile}
 use Rattle.zab_model.specs.Runs.{delivered_of}
-use Rattle.zab_recovery.specs.Hosts.{Step, Restarts, new_network, after_steps, MayStepAll}
+use Rattle.zab_host_laws.specs.Hosts.{Step, Restarts, new_network, after_steps, MayStepAll}
 
 -- a host's delivered list after steps of `servers` hosts
 abbrev pub delivered_by : {C : Type 0} → Profile C → ℕ → List (Step C) → ℕ → List Entry

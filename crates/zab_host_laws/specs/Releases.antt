@@ -2,8 +2,8 @@
 use Rattle.std.specs.Prelude.{◌≡◌, ℕ, Bool, true, false, List, [], ◌∷◌, ◌++◌, map, Some}
 use Rattle.zab_broadcast.specs.Calls.{is_taken}
 use Rattle.zab_model.specs.Worlds.{Profile, message_at}
-use Rattle.zab_recovery.specs.Hosts as steps
-use Rattle.zab_recovery.specs.Hosts.{Network, Step, new_network, after_steps, MayStepAll, calls_after, syncs_after}
+use Rattle.zab_host_laws.specs.Hosts as steps
+use Rattle.zab_host_laws.specs.Hosts.{Network, Step, new_network, after_steps, MayStepAll, calls_after, syncs_after}
 use Rattle.zab_host.specs.Hosts.{Input, Receives, Submits, Syncs}
 use Rattle.zab_host_laws.specs.Composition.{step_of}
 

@@ -8,7 +8,7 @@ use Rattle.zab_model.specs.declared.event.Event.{Event}
 use Rattle.zab_model.specs.declared.used_tags.UsedTags.{UsedTags}
 use Rattle.zab_model.specs.Runs.{run, syncs_of}
 use Rattle.zab_model.specs.Worlds.{Profile}
-use Rattle.zab_recovery.specs.Hosts.{Step, Network, new_network, with_tags, after_steps, MayStepAll}
+use Rattle.zab_host_laws.specs.Hosts.{Step, Network, new_network, with_tags, after_steps, MayStepAll}
 
 -- A run with the servers and messages of a network, in which each completed sync of a host is one
 -- of the run's server. The host has delivered what the leader of the sync's epoch had delivered

@@ -2,7 +2,7 @@
 use Rattle.std.specs.Prelude.{◌≡◌, ◌≢◌, ℕ, List, [], ◌∷◌, ◌++◌, map}
 use Rattle.std.specs.List.{AllByRecursion}
 use Rattle.zab_model.specs.Worlds.{Profile}
-use Rattle.zab_recovery.specs.Hosts.{Step, Submits, Syncs}
+use Rattle.zab_host_laws.specs.Hosts.{Step, Submits, Syncs}
 use Rattle.zab_host.specs.Tags.{Request, IsInRange, request_tag}
 use Rattle.zab_host_laws.specs.Releases.{AreFreshTags}
 

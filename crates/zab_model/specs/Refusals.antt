@@ -1,6 +1,6 @@
 -- A rule's errors, as those of a world.
-use Rattle.zab_epoch.specs.declared.fault.RuleFault.{RuleFault}
-use Rattle.zab_epoch.specs.declared.fault.RuleFault.TheVariants as rule
+use Rattle.zab_epoch.specs.declared.rule_fault.RuleFault.{RuleFault}
+use Rattle.zab_epoch.specs.declared.rule_fault.RuleFault.TheVariants as rule
 use Rattle.zab_model.specs.declared.fault.WorldFault.{WorldFault}
 use Rattle.zab_model.specs.declared.fault.WorldFault.TheVariants as faults
 

@@ -1,6 +1,6 @@
 -- Worlds of servers and messages, and the effect of one event. Own; the servers' rules are Zab's.
 use Rattle.std.specs.Prelude.{ℕ, ℤ, ◌+◌, ◌-◌, ◌==◌, ◌&&◌, not, nat_lt, nat_le, Bool, true, false, if◌then◌else◌, List, [], ◌∷◌, ◌++◌, length, set, slice_get, Option, Some, None, Result, Ok, Err}
-use Rattle.zab_epoch.specs.declared.fault.RuleFault.{RuleFault}
+use Rattle.zab_epoch.specs.declared.rule_fault.RuleFault.{RuleFault}
 use Rattle.zab_epoch.specs.declared.history.Entry.{Entry}
 use Rattle.zab_epoch.specs.declared.message.Body.{Body}
 use Rattle.zab_epoch.specs.declared.message.Body.TheVariants.{CEpoch, NewEpoch, AckEpoch, NewLeader, AckLeader, Propose, Ack, Commit, Request, SyncAsk, SyncTell}

@@ -1,5 +1,5 @@
-//! Tests of `zab_quorums`, `zab_epoch` and `zab_broadcast`: quorums and Zab's phases. No code of
-//! its own. Runs of servers are tested in `checks/golden/protocol.golden` and by the scripts of
+//! Tests of `zab_epoch`, `zab_broadcast` and `zab_frames`: quorums, Zab's phases, and frames. No
+//! code of its own. Runs of servers are tested in `checks/golden/protocol.golden` and by the scripts of
 //! `examples/runs`.
 //!
 //! Expected values come from the definition of the protocol.
@@ -7,6 +7,12 @@
 
 #[cfg(test)]
 mod asked;
+#[cfg(test)]
+mod frame_tests;
+#[cfg(test)]
+mod frames;
+#[cfg(test)]
+mod sent;
 #[cfg(test)]
 mod server_tests;
 #[cfg(test)]

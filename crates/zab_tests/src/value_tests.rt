@@ -5,10 +5,9 @@ use std::alloc::Global;
 use std::fmt::Display;
 use zab_broadcast::{Echo, EchoCall, Primary, Tags, commit_count, next_zxid};
 use zab_epoch::{
-    Body, Entries, History, Majority, Messages, Quorums, RuleFault, Table, WeightFault, Weighted,
-    next_epoch,
+    Body, Entries, History, Majority, Messages, Payload, Quorums, RuleFault, Table, WeightFault,
+    Weighted, next_epoch,
 };
-use zab_payload::Payload;
 use zk_path::NoMemory;
 
 /// Epochs, the number of entries of each, and the zxid of the next one.

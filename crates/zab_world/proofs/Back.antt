@@ -18,8 +18,8 @@ use Rattle.zab_model.specs.ProcessStates.{ProcessState, standing}
 use Rattle.zab_model.specs.Worlds.{World, Profile, Answer, world, spent, is_server, server_at, if_up, running, resting, told, said, with_server, acts, receives, message_at, arrives, spends, submits, spends_sync, syncs, crashed, crashes, restarts, happens}
 use Rattle.zab_model.proofs.Fronts.{happens_front}
 use Rattle.zab_model.proofs.ServerLists.{found, same_place, up_is}
-use Rattle.zab_process.specs.declared.rollback.Rollback.{Rollback}
-use Rattle.zab_process.specs.Rollbacks.{kept_before, kept_at, back_of, note_at, note_if, note_of, fallen_at, fallen_by}
+use Rattle.zab_world.specs.declared.rollback.Rollback.{Rollback}
+use Rattle.zab_world.specs.Rollbacks.{kept_before, kept_at, back_of, note_at, note_if, note_of, fallen_at, fallen_by}
 use Rattle.zab_world.specs.Outputs.{Goes}
 
 set_twice : {A : Type 0} (xs : List A) (i : ℕ) (x y : A) → set (set xs i x) i y ≡ set xs i y

@@ -11,16 +11,16 @@ ghost use Rattle.zab_model.specs.ProcessStates.{ProcessState};
 ghost use Rattle.zab_model.specs.Worlds.{world, running, arrives, message_at, profile_of};
 ghost use Rattle.zab_agreement_laws.specs.Promises.{EachEndsBelow};
 ghost use Rattle.zab_world.specs.Adoptions.{brings_new_leader, acked_by, IsPredicted, MayFall};
-ghost use Rattle.zab_process.specs.Rollbacks.{fallen_by, moved_in};
+ghost use Rattle.zab_world.specs.Rollbacks.{fallen_by, moved_in};
 ghost use Rattle.zab_world.specs.Outputs.{IsLiving};
 
 use crate::output::{arrive, find_message};
 use crate::steps::{check_running, take_step};
+use crate::{Process, Rollback};
 use std::alloc::Global;
 use zab_broadcast::Primary;
 use zab_epoch::{Body, History, Messages, Quorums, Stable};
 use zab_model::{Event, Moved, UsedTags, WorldFault};
-use zab_process::{Process, Rollback};
 
 /// A NewLeader that arrives, and its addressee's reply if it takes the history.
 #[derive(Clone, Copy, Debug, Drop)]

@@ -1,6 +1,6 @@
 ghost use Rattle.std.specs.Prelude.{◌≡◌, ◌≢◌, ◌-◌, List, [], true, false, Some, IfOk, IfSome, IfErr, OnOk, Ok, Err};
 ghost use Rattle.std.specs.Option.{option_copied};
-ghost use Rattle.zab_epoch.specs.declared.fault.RuleFault.TheVariants as rule_faults;
+ghost use Rattle.zab_epoch.specs.declared.rule_fault.RuleFault.TheVariants as rule_faults;
 ghost use Rattle.zab_epoch.specs.declared.message.Message.{Message};
 ghost use Rattle.zab_epoch.specs.Shortness.{IsShortBody};
 ghost use Rattle.zab_broadcast.specs.Calls.{setting_of};
@@ -15,12 +15,12 @@ ghost use Rattle.zab_model.specs.Worlds.{acts, receives, arrives, submits, syncs
 ghost use Rattle.zab_agreement_laws.specs.Promises.{EachEndsBelow};
 ghost use Rattle.zab_world.specs.Outputs.{sent, silence, IsLiving, IsPlain};
 
+use crate::Process;
 use crate::steps::{check_down, check_running, is_server};
 use std::alloc::Global;
 use zab_broadcast::{Primary, Server};
 use zab_epoch::{Body, Message, Messages, Quorums, RuleFault, Vote};
 use zab_model::{Event, UsedTags, WorldFault};
-use zab_process::Process;
 
 /// What a server outputs at an event: the messages to send, and the tag that is used up.
 #[derive(Debug, Drop)]

@@ -1,11 +1,11 @@
 use crate::adoption::advance;
 use crate::steps::{is_server, put_back, take_step};
+use crate::{Process, Rollback};
 use std::alloc::Global;
 use std::marker::Model;
 use zab_broadcast::{Caught, Primary};
 use zab_epoch::{Entries, Messages, Quorums, Stable};
 use zab_model::{Event, Moved, UsedTags, WorldFault};
-use zab_process::{Process, Rollback};
 use zk_path::NoMemory;
 
 /// The servers of a world, from server 1 on.
@@ -36,7 +36,7 @@ impl<P: Primary> Processes<P> {
     ghost use Rattle.zab_model.specs.Running.{if_running, is_up, is_running};
     ghost use Rattle.zab_model.specs.Runs.{after, delivered_list, caught_list, kept};
     ghost use Rattle.zab_world.specs.Adoptions.{MayFall};
-    ghost use Rattle.zab_process.specs.Rollbacks.{fallen_by, moved_in};
+    ghost use Rattle.zab_world.specs.Rollbacks.{fallen_by, moved_in};
 
     /// Creates `servers` new servers.
     #[tactic(auto, using(zab_model::proofs::Numbering::new_servers_more))]

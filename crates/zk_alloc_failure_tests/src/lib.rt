@@ -2,7 +2,7 @@
 //! allocation failing in turn. Also tests of chronicles of an ensemble, and of the calls of an
 //! ensemble that they use. No code of its own.
 //!
-//! The tests are apart from the crates that they test for the reason given in `zk_core_tests`. Both
+//! The tests are apart from the crates that they test for the reason given in `zk_tree_tests`. Both
 //! kinds are in one crate, since each crate of tests above the ensemble takes a minute to load its
 //! dependencies. Expected values come from the definitions of the protocol and of a chronicle.
 //! Large values are owned by one function with one exit, and others borrow them. The end of each

@@ -5,12 +5,11 @@ use crate::faults::faults;
 use crate::looking::upto_of;
 use std::io;
 use zk_cli_args::{DiffJob, RestoreJob, VerifyJob, diff_of, restore_of, verify_of};
-use zk_diff_commands::diff;
-use zk_json_checks::{diff_json, verify_json};
+use zk_json_commands::{diff_json, verify_json};
 use zk_log::Sink;
 use zk_path::NoMemory;
-use zk_restore_commands::restore;
-use zk_verify_commands::verify;
+use zk_tree_changes::{diff, restore};
+use zk_verification::verify;
 
 /// Runs the command of this file that words name, if they name one. Returns its exit status.
 pub(crate) fn run_checking<'a>(

@@ -6,8 +6,9 @@ use crate::looking::upto_of;
 use std::io::{IsTerminal, Read};
 use std::{fs, io};
 use zk_cli_args::FolderDebug;
-use zk_directory_commands::Upto;
-use zk_directory_debugger::{debug, run_repl};
+use zk_commands::debug;
+use zk_commands::directory_session::run_repl;
+use zk_directory_state::Upto;
 use zk_log::{Sink, Source};
 use zk_path::NoMemory;
 

@@ -4,10 +4,9 @@ use std::alloc::{AllocError, Global};
 use std::io::{Read, Seek, SeekFrom};
 use std::{fs, io};
 use zk_directory::FileName;
-use zk_directory_commands::logs_in;
-use zk_folder::{Folder, FolderFault, push_log_name};
-use zk_folder_commands::HistoryFault;
-use zk_follow_commands::GrowingLogs;
+use zk_directory_files::{Folder, FolderFault, HistoryFault, push_log_name};
+use zk_directory_state::logs_in;
+use zk_listings::GrowingLogs;
 
 /// The name of the directory that servers create in a data directory.
 const VERSION: &str = "version-2";

@@ -6,7 +6,7 @@ use std::fs::File;
 use std::net::{Ipv4Addr, Net};
 use zab_host::MemoryStorage;
 use zk_cli_args::{Ensemble, ensemble_of, record_of};
-use zk_data_files::{DataDirectory, DataFault, DataStore};
+use zk_data_files::{DataDirectory, DataFault, DataStore, UnknownStart};
 use zk_path::NoMemory;
 use zk_reactor::{InMemory, ReactorFault, Settings, Stores, new_secret, run};
 
@@ -17,13 +17,13 @@ struct OnDisk<'a, 'b> {
     directory: &'a DataDirectory<'b>,
 }
 
-impl<'b> Stores<DataStore<'b>> for OnDisk<'_, 'b> {
+impl<'b> Stores<DataStore<'b, UnknownStart>> for OnDisk<'_, 'b> {
     fn are_reopened(&self) -> bool {
         true
     }
 
-    fn open(&self, server: usize) -> Option<DataStore<'b>> {
-        match self.directory.open_data_store(server) {
+    fn open(&self, server: usize) -> Option<DataStore<'b, UnknownStart>> {
+        match self.directory.open_data_store(UnknownStart, server) {
             Ok(store) => Some(store),
             Err(fault) => {
                 report_directory(self.rt, fault);

@@ -5,7 +5,7 @@ ghost use Rattle.zk_records.specs.Sinks.{write_failures_of};
 
 use std::env;
 use std::io::{IsTerminal, Stderr};
-use zk_explanations::{Explaining, explain_at, words_of};
+use zk_helps::{Explaining, explain_at, words_of};
 use zk_log::Sink;
 use zk_path::NoMemory;
 

@@ -7,12 +7,10 @@ use std::io::Read;
 use std::sync::Wait;
 use std::{fs, io, time};
 use zk_cli_args::{
-    Command, CommandFault, FolderJob, FolderOrder, Job, Order, folder_job_from, read_command_line,
+    Command, CommandFault, FolderJob, FolderOrder, Job, Order, folder_job_from, follow_of,
+    read_command_line,
 };
-use zk_follow_args::follow_of;
-use zk_follow_commands::follow;
-use zk_form_args::{Form, form_of};
-use zk_listings::{list_directory, list_log};
+use zk_listings::{Form, follow, form_of, list_directory, list_log};
 use zk_log::{Sink, Source};
 use zk_path::NoMemory;
 

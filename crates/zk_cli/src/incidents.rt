@@ -4,11 +4,10 @@ use crate::disk_folder::DiskFolder;
 use crate::faults::faults;
 use std::io;
 use zk_cli_args::{By, CompareJob, HistoryJob, TopJob, Until, compare_of, history_of, top_of};
-use zk_incident_commands::{history, top};
-use zk_incidents::{Bound, Key, Range};
+use zk_incidents::log_comparison::compare;
+use zk_incidents::{Bound, Key, Range, history, top};
 use zk_log::Sink;
 use zk_path::NoMemory;
-use zk_report_commands::compare;
 
 /// Runs the command of this file that words name, if they name one. Returns its exit status.
 pub(crate) fn run_named<'a>(

@@ -9,10 +9,10 @@ use crate::looking::upto_of;
 use std::io::Read;
 use std::{fs, io};
 use zk_cli_args::{FolderJob, FolderOrder, HistoryJob, Job, Order, TopJob, history_of, top_of};
-use zk_directory_commands::Upto;
-use zk_form_args::Form;
+use zk_directory_state::Upto;
 use zk_incidents::Range;
 use zk_json_commands::{history_json, show_json, show_log_json, top_json};
+use zk_listings::Form;
 use zk_log::{Sink, Source};
 use zk_path::NoMemory;
 

@@ -4,8 +4,8 @@ use crate::disk_folder::DiskFolder;
 use crate::faults::faults;
 use std::io;
 use zk_cli_args::{FolderJob, FolderOrder, Until};
-use zk_directory_commands::{Upto, list, show};
-use zk_folder_commands::files;
+use zk_directory_files::files;
+use zk_directory_state::{Upto, list, show};
 use zk_log::Sink;
 use zk_path::NoMemory;
 

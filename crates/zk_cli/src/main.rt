@@ -34,7 +34,7 @@ use zk_cli_args::{
     read_command_line, refusal_of_bytes,
 };
 use zk_commands::act;
-use zk_explanations::explain_at;
+use zk_helps::explain_at;
 use zk_log::{Sink, Source};
 use zk_path::NoMemory;
 

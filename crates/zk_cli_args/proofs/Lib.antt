@@ -1,3 +1,4 @@
+pub mod FollowLaws
 pub mod BehindLaws
 pub mod DebugLaws
 pub mod DiffLaws

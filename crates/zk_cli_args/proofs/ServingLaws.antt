@@ -6,7 +6,7 @@ use Rattle.std.specs.Fmt.{signed_decimal}
 use Rattle.std.specs.Int.{FitsUnsignedBits}
 use Rattle.std.specs.Result.{result_ok}
 use Rattle.zk_listing.specs.Promises.{ReadsOnly}
-use Rattle.zk_listing.specs.declared.fault.ListCause.{ListCause}
+use Rattle.zk_listing.specs.declared.list_fault.ListCause.{ListCause}
 use Rattle.zk_cli_args.specs.Serving.{NamesBehind, NamesServers, ReadsDecimal, ReadsServers, ReadsServersOf, ReadsServing, ReadsServingBehind, ReadsServingNamed, SpellsWithin}
 use Rattle.zk_cli_args.specs.declared.serving.Serving.{Serving}
 use Rattle.zk_cli_args.proofs.WordsLaws.{no_word, texts}

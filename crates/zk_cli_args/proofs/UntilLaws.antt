@@ -6,7 +6,7 @@ use Rattle.std.specs.Int.{cast_unsigned, to_be_bytes}
 use Rattle.hex.proofs.HexLemmas.{IsDigits-lower_digits}
 use Rattle.hex.specs.Hex.{encode_lower, encode_with, hex_digit_value, lower_digits}
 use Rattle.zk_format.specs.Spelling.{sixteen_digits, id_digits}
-use Rattle.zk_times.specs.Times.{fits, has_form, time_of}
+use Rattle.zk_json.specs.Times.{fits, has_form, time_of}
 use Rattle.zk_cli_args.specs.Commands.{AreOnly, IsOnly, IsUpto, ReadsUpto}
 use Rattle.zk_cli_args.specs.Folders.{IsShownIn, NamesFolderBy, NeedsDirectory, ReadsFolderBy, ReadsPlain, ReadsUntil, SpellsPlain, SpellsUntil, until_of}
 use Rattle.zk_cli_args.specs.Moments.{ends_with_zulu, moment_of}

@@ -1,3 +1,5 @@
+-- What the contracts of this crate cite.
+pub mod Follows
 pub mod Commands
 pub mod Comparing
 pub mod Debugs

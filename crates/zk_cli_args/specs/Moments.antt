@@ -1,7 +1,7 @@
 -- A time of a command line: with `Z`, as lines have it, or without.
 use Rattle.std.specs.Prelude.{ℕ, ℤ, ◌-◌, Bool, List, length, take, drop, Option, if◌then◌else◌, codes}
 use Rattle.std.specs.Str.{bytes_eq}
-use Rattle.zk_times.specs.Times.{time_of}
+use Rattle.zk_json.specs.Times.{time_of}
 
 abbrev pub ends_with_zulu : List ℕ → Bool
 ends_with_zulu word = bytes_eq (drop (length word - 1) word) (codes "Z")

@@ -2,8 +2,8 @@ ghost use Rattle.std.specs.Prelude.{◌≡◌, IfOk};
 ghost use Rattle.zk_cli_args.specs.Moments.{moment_of, without_zulu};
 
 use std::alloc::Global;
+use zk_json::read_time;
 use zk_path::NoMemory;
-use zk_times::read_time;
 
 /// The milliseconds since 1970 of a time in UTC; `None` for any other word. It may end with `Z`, as
 /// in lines.

@@ -9,11 +9,11 @@ use Rattle.zk_connections.specs.Connections.{with_event_in, with_reply_in, with_
 use Rattle.zk_connections.specs.declared.connection.Connection.{Connection}
 use Rattle.zk_connections.specs.declared.connection.Phase.{Phase}
 use Rattle.zk_connections.specs.declared.connection.Phase.TheVariants.{New, Connecting, Connected}
-use Rattle.zk_delivery.specs.declared.outcome.Outcome.{Outcome}
-use Rattle.zk_delivery.specs.declared.outcome.Outcome.TheVariants as outcomes
-use Rattle.zk_links.specs.declared.ask.Immediate.{Immediate}
-use Rattle.zk_links.specs.declared.expected_reply.ExpectedReply.{ExpectedReply}
-use Rattle.zk_links.specs.declared.reply.Reply.{Reply as LinkReply}
+use Rattle.zk_hub.specs.declared.outcome.Outcome.{Outcome}
+use Rattle.zk_hub.specs.declared.outcome.Outcome.TheVariants as outcomes
+use Rattle.zk_client_session.specs.declared.ask.Immediate.{Immediate}
+use Rattle.zk_client_session.specs.declared.expected_reply.ExpectedReply.{ExpectedReply}
+use Rattle.zk_client_session.specs.declared.reply.Reply.{Reply as LinkReply}
 use Rattle.zk_watch.specs.declared.watch.Fired.{Fired}
 
 abbrev pub own : Connection → ℕ × List ℕ

@@ -1,5 +1,6 @@
 pub mod Each
 pub mod Frames
+pub mod Idle
 pub mod Kept
 pub mod Lists
 pub mod Ordering
@@ -9,3 +10,4 @@ pub mod Requesting
 pub mod Serving
 pub mod Taking
 pub mod Turning
+pub mod OrderTurning

@@ -11,8 +11,8 @@ use Rattle.zk_client_port.specs.Flushing.{after_replies, reader_of, with_replies
 use Rattle.zk_client_port.specs.FrameLaws.{Advances, ChangesBy, EachFrameOnce, IsBy}
 use Rattle.zk_client_port.specs.Serving.{FlushesIf, ServesFrame, ServesTaken}
 use Rattle.zk_client_port.specs.declared.execution.Moment.{Moment}
-use Rattle.zk_client_reads.proofs.Kept.{ask_keeps}
-use Rattle.zk_client_reads.specs.Reads.{Reader}
+use Rattle.zk_hub.proofs.Kept.{ask_keeps}
+use Rattle.zk_hub.specs.Reads.{Reader}
 use Rattle.zk_client_port.proofs.Kept.{own, outcome_keeps, reply_keeps}
 use Rattle.zk_client_port.specs.declared.admission.Admission.{Admission}
 use Rattle.zk_client_port.specs.declared.demand.Demand.{Demand}
@@ -24,14 +24,14 @@ use Rattle.zk_connections.specs.Statuses.{text_of}
 use Rattle.zk_connections.specs.declared.connection.Connection.{Connection}
 use Rattle.zk_connections.specs.declared.input.Taken.{Taken}
 use Rattle.zk_connections.specs.declared.word.Word.{Word}
-use Rattle.zk_delivery.specs.declared.outcome.Outcome.{Outcome}
+use Rattle.zk_hub.specs.declared.outcome.Outcome.{Outcome}
 use Rattle.zk_hub.specs.Hubs.{is_of, replies_for, without_read, without_ready}
 use Rattle.zk_hub.specs.Laws.{Input, Pushes as PushesIn, TakesReplies, TakesRead, after_inputs, sent, sent_by}
 use Rattle.zk_hub.specs.declared.request.Outstanding.{Outstanding}
 use Rattle.zk_hub.specs.declared.request.Reply.{Reply}
 use Rattle.zk_hub.specs.declared.request.Stage.TheVariants as stages
-use Rattle.zk_links.specs.declared.ask.Ask.{Ask}
-use Rattle.zk_links.specs.declared.expected_reply.ExpectedReply.{ExpectedReply}
+use Rattle.zk_client_session.specs.declared.ask.Ask.{Ask}
+use Rattle.zk_client_session.specs.declared.expected_reply.ExpectedReply.{ExpectedReply}
 use Rattle.zk_requests.specs.declared.call.Call.{Call}
 use Rattle.zk_watch.specs.declared.watch.Fired.{Fired}
 

@@ -9,7 +9,7 @@ use Rattle.zk_client_port.specs.Turns.{Server, cut_off_with, ServesFirst, Serves
 use Rattle.zk_client_port.specs.declared.expected.Expected.{Expected}
 use Rattle.zk_connections.specs.Connections.{lost}
 use Rattle.zk_connections.specs.declared.connection.Connection.{Connection}
-use Rattle.zk_delivery.specs.declared.outcome.Outcome.{Outcome}
+use Rattle.zk_hub.specs.declared.outcome.Outcome.{Outcome}
 use Rattle.zk_hub.specs.declared.request.Outstanding.{Outstanding}
 use Rattle.zk_requests.specs.declared.call.Call.{Call}
 

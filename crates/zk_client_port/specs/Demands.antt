@@ -11,15 +11,15 @@ use Rattle.zk_client_port.specs.declared.expected.Opening.{Opening}
 use Rattle.zk_connections.specs.declared.input.Taken.{Taken}
 use Rattle.zk_connections.specs.declared.input.Taken.TheVariants as taken
 use Rattle.zk_frames.specs.declared.records.ConnectRequest.{ConnectRequest}
-use Rattle.zk_links.specs.declared.ask.Action.{Action}
-use Rattle.zk_links.specs.declared.ask.Action.TheVariants as actions
-use Rattle.zk_links.specs.declared.ask.Ask.{Ask}
-use Rattle.zk_links.specs.declared.ask.Ask.TheVariants as asks
-use Rattle.zk_links.specs.declared.expected_reply.ExpectedReply.{ExpectedReply}
-use Rattle.zk_passwords.specs.Passwords.{password_of}
+use Rattle.zk_client_session.specs.declared.ask.Action.{Action}
+use Rattle.zk_client_session.specs.declared.ask.Action.TheVariants as actions
+use Rattle.zk_client_session.specs.declared.ask.Ask.{Ask}
+use Rattle.zk_client_session.specs.declared.ask.Ask.TheVariants as asks
+use Rattle.zk_client_session.specs.declared.expected_reply.ExpectedReply.{ExpectedReply}
+use Rattle.zk_connections.specs.Passwords.{password_of}
 use Rattle.zk_requests.specs.declared.call.Request.TheVariants as requests
-use Rattle.zk_sessions.specs.Sessions.{has_id}
-use Rattle.zk_sessions.specs.declared.session.Session.{Session}
+use Rattle.zk_connections.specs.Sessions.{has_id}
+use Rattle.zk_connections.specs.declared.session.Session.{Session}
 
 -- ---- who may have a session
 

@@ -19,8 +19,8 @@ use Rattle.zk_connections.specs.Statuses.{text_of}
 use Rattle.zk_connections.specs.declared.connection.Connection.{Connection}
 use Rattle.zk_connections.specs.declared.status.Status.{Status}
 use Rattle.zk_connections.specs.declared.word.Word.{Word}
-use Rattle.zk_delivery.specs.declared.outcome.Outcome.{Outcome}
-use Rattle.zk_delivery.specs.declared.outcome.Outcome.TheVariants.{Known}
+use Rattle.zk_hub.specs.declared.outcome.Outcome.{Outcome}
+use Rattle.zk_hub.specs.declared.outcome.Outcome.TheVariants.{Known}
 use Rattle.zk_host.specs.declared.replica_host.ReplicaHost.{ReplicaHost}
 use Rattle.zk_hub.specs.declared.request.Outstanding.{Outstanding}
 use Rattle.zk_hub.specs.declared.request.Stage.{Stage}

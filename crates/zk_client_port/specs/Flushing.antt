@@ -1,8 +1,8 @@
 -- The replies and reads of a connection, in the order of its requests. ZooKeeper Programmer's Guide,
 -- "Consistency Guarantees": a read is made once the requests before it have their replies.
 use Rattle.std.specs.Prelude.{◌≡◌, ℕ, ℤ, int_lt, true, List, [], ◌∷◌, Some, None, Result, Ok, Err}
-use Rattle.zk_client_reads.specs.Reads.{Reader, reader, last_at, KeepsNodes}
-use Rattle.zk_client_reads.specs.Replies.{reply_to, after_ask, last_seen, IsNear}
+use Rattle.zk_hub.specs.Reads.{Reader, reader, last_at, KeepsNodes}
+use Rattle.zk_hub.specs.Replies.{reply_to, after_ask, last_seen, IsNear}
 use Rattle.zk_client_port.specs.Execution.{Served, served}
 use Rattle.zk_client_port.specs.Results.{with_outcome}
 use Rattle.zk_client_port.specs.declared.admission.Admission.{Admission}
@@ -10,13 +10,13 @@ use Rattle.zk_client_port.specs.declared.expected.Expected.{Expected}
 use Rattle.zk_client_port.specs.declared.expected.Expected.TheVariants.{Read}
 use Rattle.zk_connections.specs.Connections.{lost, with_reply}
 use Rattle.zk_connections.specs.declared.connection.Connection.{Connection}
-use Rattle.zk_delivery.specs.declared.outcome.Outcome.{Outcome}
+use Rattle.zk_hub.specs.declared.outcome.Outcome.{Outcome}
 use Rattle.zk_host.specs.declared.replica_host.ReplicaHost.{ReplicaHost}
 use Rattle.zk_hub.specs.Hubs.{next_read, replies_for, without_read, without_ready}
 use Rattle.zk_hub.specs.declared.request.Reply.{Reply}
-use Rattle.zk_links.specs.declared.ask.Ask.{Ask}
-use Rattle.zk_links.specs.declared.expected_reply.ExpectedReply.{ExpectedReply}
-use Rattle.zk_links.specs.declared.reply.Reply.{Reply as LinkReply}
+use Rattle.zk_client_session.specs.declared.ask.Ask.{Ask}
+use Rattle.zk_client_session.specs.declared.expected_reply.ExpectedReply.{ExpectedReply}
+use Rattle.zk_client_session.specs.declared.reply.Reply.{Reply as LinkReply}
 use Rattle.zk_path.specs.declared.memory.NoMemory.{NoMemory}
 
 -- ---- replies

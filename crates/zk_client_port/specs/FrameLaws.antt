@@ -11,7 +11,7 @@ use Rattle.zk_client_port.specs.declared.admission.Admission.{Admission}
 use Rattle.zk_client_port.specs.declared.expected.Expected.{Expected}
 use Rattle.zk_connections.specs.declared.connection.Connection.{Connection}
 use Rattle.zk_connections.specs.declared.input.Taken.{Taken}
-use Rattle.zk_delivery.specs.declared.outcome.Outcome.{Outcome}
+use Rattle.zk_hub.specs.declared.outcome.Outcome.{Outcome}
 use Rattle.zk_hub.specs.Laws.{Input, Pushes, TakesReplies, TakesRead, after_inputs, sent}
 use Rattle.zk_hub.specs.declared.request.Outstanding.{Outstanding}
 use Rattle.zk_requests.specs.declared.call.Call.{Call}

@@ -1,3 +1,4 @@
+-- The statements of the laws.
 pub mod Demands
 pub mod Execution
 pub mod Flushing
@@ -10,3 +11,4 @@ pub mod Results
 pub mod Serving
 pub mod Sessions
 pub mod Turns
+pub mod Orders

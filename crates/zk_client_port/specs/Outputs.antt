@@ -8,7 +8,7 @@ use Rattle.zk_client_port.specs.declared.expected.Expected.{Expected}
 use Rattle.zk_client_port.specs.declared.result.Attachment.{Attachment}
 use Rattle.zk_connections.specs.Connections.{with_event}
 use Rattle.zk_connections.specs.declared.connection.Connection.{Connection}
-use Rattle.zk_delivery.specs.declared.outcome.Outcome.{Outcome}
+use Rattle.zk_hub.specs.declared.outcome.Outcome.{Outcome}
 use Rattle.zk_hub.specs.declared.news.Output.{Output}
 use Rattle.zk_hub.specs.declared.news.Output.TheVariants.{Event, Reply}
 use Rattle.zk_watch.specs.declared.watch.Fired.{Fired}

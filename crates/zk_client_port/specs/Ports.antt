@@ -7,11 +7,11 @@ use Rattle.zk_client_port.specs.declared.client_port.Selection.TheVariants.{Numb
 use Rattle.zk_client_port.specs.declared.expected.Expected.{Expected}
 use Rattle.zk_connections.specs.Connections.{closing, is_new, is_over, lost, session_of}
 use Rattle.zk_connections.specs.declared.connection.Connection.{Connection}
-use Rattle.zk_delivery.specs.declared.outcome.Outcome.{Outcome}
+use Rattle.zk_hub.specs.declared.outcome.Outcome.{Outcome}
 use Rattle.zk_hub.specs.Hubs.{without_connection}
 use Rattle.zk_hub.specs.declared.request.Outstanding.{Outstanding}
-use Rattle.zk_sessions.specs.Sessions.{is_at, detached, with_first}
-use Rattle.zk_sessions.specs.declared.session.Session.{Session}
+use Rattle.zk_connections.specs.Sessions.{is_at, detached, with_first}
+use Rattle.zk_connections.specs.declared.session.Session.{Session}
 
 abbrev pub is_selected : Selection → Connection → Bool
 is_selected (Number number) it = it.number == number

@@ -10,12 +10,12 @@ use Rattle.zk_client_port.specs.declared.expected.Opening.{Opening}
 use Rattle.zk_client_port.specs.declared.result.Attachment.{Attachment}
 use Rattle.zk_connections.specs.Connections.{with_session, with_no_session, with_reply, with_immediate, closing, lost}
 use Rattle.zk_connections.specs.declared.connection.Connection.{Connection}
-use Rattle.zk_delivery.specs.declared.outcome.Outcome.{Outcome}
-use Rattle.zk_delivery.specs.declared.outcome.Outcome.TheVariants as outcomes
+use Rattle.zk_hub.specs.declared.outcome.Outcome.{Outcome}
+use Rattle.zk_hub.specs.declared.outcome.Outcome.TheVariants as outcomes
 use Rattle.zk_frames.specs.declared.reply.ConnectResponse.{ConnectResponse}
-use Rattle.zk_links.specs.declared.expected_reply.ExpectedReply.{ExpectedReply}
-use Rattle.zk_links.specs.declared.reply.Reply.TheVariants as replies
-use Rattle.zk_passwords.specs.Passwords.{password_of}
+use Rattle.zk_client_session.specs.declared.expected_reply.ExpectedReply.{ExpectedReply}
+use Rattle.zk_client_session.specs.declared.reply.Reply.TheVariants as replies
+use Rattle.zk_connections.specs.Passwords.{password_of}
 use Rattle.zk_requests.specs.Timeouts.{clamp}
 
 -- ---- sessions

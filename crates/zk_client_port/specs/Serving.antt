@@ -13,13 +13,13 @@ use Rattle.zk_connections.specs.Connections.{is_slow, session_of}
 use Rattle.zk_connections.specs.Inputs.{taken_of}
 use Rattle.zk_connections.specs.declared.connection.Connection.{Connection}
 use Rattle.zk_connections.specs.declared.input.Taken.{Taken}
-use Rattle.zk_delivery.specs.declared.outcome.Outcome.{Outcome}
+use Rattle.zk_hub.specs.declared.outcome.Outcome.{Outcome}
 use Rattle.zk_host.specs.declared.replica_host.ReplicaHost.{ReplicaHost}
 use Rattle.zk_hub.specs.Hubs.{is_blocked}
 use Rattle.zk_hub.specs.declared.request.Outstanding.{Outstanding}
 use Rattle.zk_requests.specs.declared.call.Call.{Call}
-use Rattle.zk_sessions.specs.Sessions.{has_id, touched, with_first}
-use Rattle.zk_sessions.specs.declared.session.Session.{Session}
+use Rattle.zk_connections.specs.Sessions.{has_id, touched, with_first}
+use Rattle.zk_connections.specs.declared.session.Session.{Session}
 
 -- ---- when a frame is taken
 

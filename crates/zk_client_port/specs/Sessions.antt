@@ -4,8 +4,8 @@ use Rattle.std.specs.Prelude.{ℕ, ℤ, List, [], ◌∷◌, ◌++◌, find, Opt
 use Rattle.std.specs.Int.{w64, cast_signed}
 use Rattle.zk_client_port.specs.Demands.{is_open}
 use Rattle.zk_client_port.specs.declared.result.Attachment.{Attachment}
-use Rattle.zk_sessions.specs.Sessions.{has_id, new_session, attached, touched, with_first, without_session}
-use Rattle.zk_sessions.specs.declared.session.Session.{Session}
+use Rattle.zk_connections.specs.Sessions.{has_id, new_session, attached, touched, with_first, without_session}
+use Rattle.zk_connections.specs.declared.session.Session.{Session}
 
 abbrev pub opened_if_new : ℤ → ℤ → ℤ → List Session → List Session
 opened_if_new session timeout now sessions =

@@ -14,9 +14,9 @@ use Rattle.zk_client_port.specs.declared.execution.Moment.{Moment}
 use Rattle.zk_client_port.specs.declared.expected.Expected.{Expected}
 use Rattle.zk_connections.specs.Connections.{lost}
 use Rattle.zk_connections.specs.declared.connection.Connection.{Connection}
-use Rattle.zk_delivery.specs.Deliveries.{hub_news, news_at}
-use Rattle.zk_delivery.specs.declared.outcome.Outcome.{Outcome}
-use Rattle.zk_delivery.specs.declared.outcome.Outcome.TheVariants.{Synced}
+use Rattle.zk_hub.specs.Outcomes.{hub_news, news_at}
+use Rattle.zk_hub.specs.declared.outcome.Outcome.{Outcome}
+use Rattle.zk_hub.specs.declared.outcome.Outcome.TheVariants.{Synced}
 use Rattle.zk_host.specs.Delivered.{closed_in, delivered_in}
 use Rattle.zk_host.specs.WatchedTrees.{after_entries}
 use Rattle.zk_host.specs.declared.replica_host.ReplicaHost.{ReplicaHost}
@@ -109,11 +109,14 @@ left_by_release old released requests = left_after (map hub_news (news_at old.tr
 abbrev pub left_by_syncs : {S : Type 0} → ReplicaHost S → List (Outstanding Expected Outcome) → List (Outstanding Expected Outcome)
 left_by_syncs released requests = left_after (map synced released.host.state.caught) requests
 
--- the events and results of the newly delivered entries are written, and then those of syncs
+-- The events and results of the newly delivered entries are written, and then those of syncs. A reply
+-- among the first comes before later events of them: its header is no later than what was written
+-- before, or than its own transaction. So a client that breaks off after it has seen no transaction
+-- whose events it lacks.
 abbrev pub after_release : {S : Type 0} → ℤ → ReplicaHost S → ReplicaHost S → List (Outstanding Expected Outcome) → Clients → Clients
 after_release now old released requests it =
     written released.tree.tree.last now (outputs_of (map synced released.host.state.caught) (left_by_release old released requests))
-    (written released.tree.tree.last now (outputs_of (map hub_news (news_at old.tree old.shown released.host.state)) requests) it)
+    (written old.tree.tree.last now (outputs_of (map hub_news (news_at old.tree old.shown released.host.state)) requests) it)
 
 abbrev pub closed_by : {S : Type 0} → ReplicaHost S → ReplicaHost S → List ℤ
 closed_by old released = closed_in (drop old.shown (delivered_in released.host.state))

@@ -1,12 +1,11 @@
 ghost use Rattle.std.specs.Prelude.{◌≡◌, ◌++◌, ◌∷◌, [], find, OnErr, OnOk};
 ghost use Rattle.zk_client_port.specs.Demands.{is_admitted, is_open, is_right};
 ghost use Rattle.zk_client_port.specs.Sessions.{adopted, adopted_one, after_attach, after_attachments, after_ends, displaced_by, displaced_by_all, holder_at, opened_if_new, renewed};
-ghost use Rattle.zk_sessions.specs.Sessions.{has_id};
+ghost use Rattle.zk_connections.specs.Sessions.{has_id};
 
 use crate::result::Attachment;
-use zk_passwords::{PASSWORD_BYTES, is_password};
+use zk_connections::{ClientSessions, PASSWORD_BYTES, is_password};
 use zk_path::NoMemory;
-use zk_sessions::ClientSessions;
 use zk_txn::Content;
 
 /// What decides whether a client may have a session: the ensemble's sessions, and the secret of

@@ -19,13 +19,11 @@ use std::mem::replace;
 use zab_broadcast::CaughtSyncs;
 use zab_epoch::{Messages, Quorums};
 use zab_host::Storage;
-use zk_connections::Connection;
-use zk_delivery::{Outcome, release};
+use zk_connections::{ClientSessions, Connection};
 use zk_host::{ReleaseFault, ReplicaHost};
-use zk_hub::{Hub, News};
+use zk_hub::{Hub, News, Outcome, release};
 use zk_path::NoMemory;
 use zk_requests::Call;
-use zk_sessions::ClientSessions;
 use zk_watch::Fired;
 
 /// A server's connections, and their outstanding requests.
@@ -131,13 +129,16 @@ impl ClientPort {
             (server host.old self.old.hub self.old.connections.items admission.old)
             (server host.new self.new.hub self.new.connections.items admission.new) it.displaced.items it.closed.items) }
     {
+        // The release's replies are written before the later events of it: their headers go no
+        // further than what has been written before.
+        let before = host.last();
         let mut released = release(alloc, host, &mut self.hub)?;
         let outputs = replace(&mut released.outputs, Vec::new(alloc));
         let closed = replace(&mut released.closed, Vec::new(alloc));
         let messages = replace(&mut released.messages, Messages::new(alloc));
         let mut displaced = Vec::new(alloc);
         let (last, now) = (host.last(), moment.now);
-        self.write(alloc, admission, last, now, outputs, &mut displaced)?;
+        self.write(alloc, admission, before, now, outputs, &mut displaced)?;
         let Ok(synced) = self.synced(alloc, host) else {
             return Err(ReleaseFault::NoMemory);
         };
@@ -308,9 +309,13 @@ fn cut_off_if(connection: &mut Connection, selection: Selection)
 }
 
 /// Ends the connections of sessions that have ended.
+#[tactic(auto, using(crate::proofs::Idle::closed_none))]
 fn close_ended(connections: &mut Vec<Connection>, ended: &[i64])
     ensures { connections.new.items ≡ map (closed_if ended.now) connections.old.items }
 {
+    if ended.is_empty() {
+        return;
+    }
     for index in 0..connections.len() {
         close_if(&mut connections[index], ended);
     }

@@ -5,9 +5,9 @@ use crate::admission::Admission;
 use crate::expected::{Expected, Opening};
 use std::alloc::Global;
 use zk_acl::Ids;
+use zk_client_session::{Action, Ask, ExpectedReply};
 use zk_connections::{Taken, Word};
 use zk_frames::ConnectRequest;
-use zk_links::{Action, Ask, ExpectedReply};
 use zk_requests::Request;
 
 /// What the input of a connection asks of its server.

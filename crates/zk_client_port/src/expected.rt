@@ -1,4 +1,4 @@
-use zk_links::{Ask, ExpectedReply, Immediate};
+use zk_client_session::{Ask, ExpectedReply, Immediate};
 
 /// What a client asked of its session when it connected.
 #[derive(Clone, Copy, Debug, PartialEq, Eq)]

@@ -8,9 +8,8 @@ use crate::expected::Expected;
 use crate::result::{Attachment, write_outcome};
 use std::alloc::Global;
 use zk_connections::Connection;
-use zk_delivery::Outcome;
 use zk_frames::FrameFault;
-use zk_hub::Output;
+use zk_hub::{Outcome, Output};
 use zk_path::NoMemory;
 use zk_watch::Fired;
 

@@ -5,11 +5,10 @@ ghost use Rattle.zk_connections.specs.Connections.{with_session};
 use crate::admission::Admission;
 use crate::expected::{Expected, Opening};
 use std::alloc::Global;
-use zk_connections::Connection;
-use zk_delivery::Outcome;
+use zk_client_session::{ExpectedReply, Reply};
+use zk_connections::{Connection, PASSWORD_BYTES, password_of};
 use zk_frames::{ConnectResponse, FrameFault};
-use zk_links::{ExpectedReply, Reply};
-use zk_passwords::{PASSWORD_BYTES, password_of};
+use zk_hub::Outcome;
 use zk_path::NoMemory;
 use zk_requests::clamp;
 

@@ -1,7 +1,7 @@
 //! What a server does with the input of a connection.
 
 ghost use Rattle.std.specs.Prelude.{◌≡◌, [], OnOk};
-ghost use Rattle.zk_client_reads.specs.Reads.{reader};
+ghost use Rattle.zk_hub.specs.Reads.{reader};
 ghost use Rattle.zk_client_port.specs.Execution.{served};
 ghost use Rattle.zk_client_port.specs.Flushing.{with_replies, HasFlushed, KeepsServer, Reads};
 ghost use Rattle.zk_client_port.specs.Results.{with_outcome};
@@ -16,11 +16,9 @@ use crate::result::write_outcome;
 use std::alloc::Global;
 use zab_epoch::Quorums;
 use zab_host::Storage;
-use zk_client_reads::reply_to;
 use zk_connections::{Connection, Taken};
-use zk_delivery::Outcome;
 use zk_host::{ReadFault, ReplicaHost};
-use zk_hub::{Hub, MOST_OUTSTANDING, Reply};
+use zk_hub::{Hub, MOST_OUTSTANDING, Outcome, Reply, reply_to};
 use zk_path::NoMemory;
 
 /// Writes replies that need no session.
@@ -179,7 +177,7 @@ fn serve_taken<S: Storage, Q: Quorums>(
 }
 
 /// Takes a connection's frames, and executes each. After an error, the connection is lost.
-#[tactic(auto, using(crate::proofs::Frames::none_served, crate::proofs::Frames::one_more))]
+#[tactic(auto, using(crate::proofs::Frames::none_served, crate::proofs::Frames::one_more, crate::proofs::Idle::idle))]
 fn serve_frames<S: Storage, Q: Quorums>(
     alloc: Global,
     host: &mut ReplicaHost<S>,
@@ -194,6 +192,9 @@ fn serve_frames<S: Storage, Q: Quorums>(
         (served host.old hub.old connection.old) admission.old (served host.new hub.new connection.new) admission.new) }
     ensures kept { KeepsTree host.old host.new }
 {
+    if connection.unread_len() == 0 {
+        return Ok(());
+    }
     'frames: for count in 0..=connection.unread_len() {
         if !may_take(hub, connection) {
             return Ok(());

@@ -8,7 +8,7 @@ use Rattle.zk_client_port.specs.declared.client_port.Selection.{Selection}
 use Rattle.zk_client_port.specs.declared.expected.Expected.{Expected}
 use Rattle.zk_client_service.specs.Ports.{Port, at_server, changed_at, connections_in, cut_off, port_of, ports_of, with_port}
 use Rattle.zk_connections.specs.declared.connection.Connection.{Connection}
-use Rattle.zk_delivery.specs.declared.outcome.Outcome.{Outcome}
+use Rattle.zk_hub.specs.declared.outcome.Outcome.{Outcome}
 use Rattle.zk_hub.specs.declared.request.Outstanding.{Outstanding}
 
 pub changed_is : (change : Port → Port) (ports : List ClientPort) (i : ℕ) (before after : ClientPort) → i < length ports → before ≡ get_or ports i before → port_of after ≡ change (port_of before)

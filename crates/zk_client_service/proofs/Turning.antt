@@ -12,7 +12,7 @@ use Rattle.zk_client_service.specs.Ensembles.{Ensemble, moment_at}
 use Rattle.zk_client_service.specs.Expiries.{touching, Closes, ClosesAt, ClosesUp}
 use Rattle.zk_client_service.specs.Ports.{Port, at_server, port_of, ports_of}
 use Rattle.zk_client_service.specs.Rounds.{served_by, FirstTurn, ReceivesTo, Round, Rounds, TurnsHostTo, TurnsPlace, TurnsPort, TurnsTo}
-use Rattle.zk_host.specs.declared.fault.ReleaseFault.{ReleaseFault}
+use Rattle.zk_host.specs.declared.host_fault.ReleaseFault.{ReleaseFault}
 use Rattle.zk_host.specs.declared.replica_host.ReplicaHost.{ReplicaHost}
 use Rattle.zk_peers.specs.Hosts.{setting_for}
 use Rattle.zk_peers.specs.Peers.{place_at, SameAround}

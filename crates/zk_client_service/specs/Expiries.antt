@@ -16,8 +16,8 @@ use Rattle.zk_peers.specs.declared.place.Place.{Place}
 use Rattle.zk_peers.specs.declared.place.Place.TheVariants.{Up}
 use Rattle.zk_requests.specs.Requests.{closing_call}
 use Rattle.zk_requests.specs.declared.call.Call.{Call}
-use Rattle.zk_sessions.specs.Sessions.{expired_at, has_id, touched, with_first}
-use Rattle.zk_sessions.specs.declared.session.Session.{Session}
+use Rattle.zk_connections.specs.Sessions.{expired_at, has_id, touched, with_first}
+use Rattle.zk_connections.specs.declared.session.Session.{Session}
 
 -- ---- the sessions of a host's tree
 

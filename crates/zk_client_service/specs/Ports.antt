@@ -8,7 +8,7 @@ use Rattle.zk_client_port.specs.declared.client_port.Selection.TheVariants.{Numb
 use Rattle.zk_client_port.specs.declared.expected.Expected.{Expected}
 use Rattle.zk_connections.specs.Connections.{new_connection}
 use Rattle.zk_connections.specs.declared.connection.Connection.{Connection}
-use Rattle.zk_delivery.specs.declared.outcome.Outcome.{Outcome}
+use Rattle.zk_hub.specs.declared.outcome.Outcome.{Outcome}
 use Rattle.zk_hub.specs.declared.request.Outstanding.{Outstanding}
 
 pub record Port : Type 0 where

@@ -14,7 +14,7 @@ use Rattle.zk_client_service.specs.Ensembles.{Ensemble, moment_at, server_cut_of
 use Rattle.zk_client_service.specs.Ports.{Port, at_server, without_number}
 use Rattle.zk_client_service.specs.Services.{unserved_cut_off}
 use Rattle.zk_connections.specs.declared.connection.Connection.{Connection}
-use Rattle.zk_host.specs.declared.fault.ReleaseFault.{ReleaseFault}
+use Rattle.zk_host.specs.declared.host_fault.ReleaseFault.{ReleaseFault}
 use Rattle.zk_host.specs.declared.replica_host.ReplicaHost.{ReplicaHost}
 use Rattle.zk_path.specs.declared.memory.NoMemory.{NoMemory}
 use Rattle.zk_peers.specs.Hosts.{setting_for}

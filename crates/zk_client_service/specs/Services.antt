@@ -8,8 +8,8 @@ use Rattle.zk_client_service.specs.Ports.{Port, at_server, cut_off, with_new, wi
 use Rattle.zk_connections.specs.declared.status.Mode.{Mode}
 use Rattle.zk_connections.specs.declared.status.Mode.TheVariants as modes
 use Rattle.zk_host.specs.WatchedTrees.{WatchedTreeView, after_close}
-use Rattle.zk_host.specs.declared.fault.ReleaseFault.{ReleaseFault}
-use Rattle.zk_host.specs.declared.fault.ReleaseFault.TheVariants as releases
+use Rattle.zk_host.specs.declared.host_fault.ReleaseFault.{ReleaseFault}
+use Rattle.zk_host.specs.declared.host_fault.ReleaseFault.TheVariants as releases
 use Rattle.zk_host.specs.declared.replica_host.ReplicaHost.{ReplicaHost}
 use Rattle.zk_peers.specs.Peers.{is_up_at, place_at, serves}
 use Rattle.zk_peers.specs.declared.cut.Cut.{Cut}

@@ -1,4 +1,5 @@
 ghost use Rattle.std.specs.Prelude.{◌≡◌, ◌-◌, ◌<◌, ◌++◌, ◌∷◌, ◌||◌, [], length, map, slice_get, None, IfNone, IfOk, IfSome, OnErr, OnOk};
+ghost use Rattle.std.specs.Ordering.{nat_cmp};
 ghost use Rattle.zk_client_service.specs.Elections.{copies, new_port};
 ghost use Rattle.zk_client_service.specs.Ensembles.{server_cut_off, stopped_with};
 ghost use Rattle.zk_client_port.specs.Ports.{numbers_over};
@@ -10,16 +11,15 @@ use crate::expiry::{adopt, close_in, renew, touch_all};
 use crate::fault::ServiceFault;
 use crate::turn::{cut_off_numbers, has_messages, turn_place};
 use std::alloc::Global;
+use std::cmp::Ordering;
 use zab_epoch::Majority;
 use zab_host::{Storage, StoreFault};
 use zk_client_port::{Admission, ClientPort, Moment, Selection, Turned};
-use zk_connections::{Connection, Mode};
-use zk_host::{ReleaseFault, ReplicaHost};
+use zk_connections::{ClientSessions, Connection, Mode};
+use zk_host::{RecordFault, ReleaseFault, ReplicaHost};
 use zk_model::Event;
 use zk_path::NoMemory;
 use zk_peers::{PeerState, Peers, PeersFault, Place};
-use zk_recorder::RecordFault;
-use zk_sessions::ClientSessions;
 
 /// The most rounds of mail of an election, or of another command.
 const MOST_ROUNDS: usize = 1_000_000;
@@ -50,10 +50,10 @@ impl<S: Storage + Drop> Drop for ClientService<S> {
 }
 
 impl<S: Storage> ClientService<S> {
-    ghost use Rattle.std.specs.Prelude.{◌≡◌, ◌-◌, ◌<◌, [], length, Some, true, false, IfErr, IfNone, IfOk, IfSome, OnErr, OnOk, IsErrOf, IsOk};
+    ghost use Rattle.std.specs.Prelude.{◌≡◌, ◌-◌, ◌<◌, ◌∷◌, [], length, Some, true, false, IfErr, IfNone, IfOk, IfSome, OnErr, OnOk, IsErrOf, IsOk};
     ghost use Rattle.zk_client_service.specs.Elections.{Begins, CrashesAt, CutsLink, ElectsIfNeeded, ElectsLeader, HealsLinks, LeadsFrom, RestartsServer, Settles, StartsEnsemble};
     ghost use Rattle.zk_client_service.specs.Ensembles.{ensemble, moment_at};
-    ghost use Rattle.zk_client_service.specs.Expiries.{detaching, ClosesAt, Expires, RenewsSessions};
+    ghost use Rattle.zk_client_service.specs.Expiries.{detaching, touching, ClosesAt, Expires, RenewsSessions};
     ghost use Rattle.zk_client_service.specs.Ports.{connections_at, over_at, ports_of, with_port, without_ended};
     ghost use Rattle.zk_client_service.specs.Rounds.{has_messages, CutsUnserved, Posts, ReceivesTo, Round, StopsServer, TurnsFor, TurnsHostTo, TurnsTo};
     ghost use Rattle.zk_client_service.specs.Services.{last_in, number_for, opened_then, places_after, places_with, ports_with, stop_at, takes, unserved_cut_off, IsSettled};
@@ -151,9 +151,22 @@ impl<S: Storage> ClientService<S> {
     }
 
     /// A connection of a server, by its number.
-    pub fn connection_mut(&mut self, server: usize, number: u64) -> Option<&mut Connection> {
+    pub fn connection_mut(&mut self, server: usize, number: u64) -> Option<&mut Connection>
+        ensures { IfSome result (λ it. it.now.number ≡ number) }
+    {
         let port = port_at_mut(&mut self.ports, server)?;
-        port.connections.iter_mut().find(|it| it.number() == number)
+        let place = place_of(&port.connections, number)?;
+        let connection = port.connections.get_mut(place)?;
+        if connection.number() != number {
+            return None;
+        }
+        Some(connection)
+    }
+
+    /// A server's connections.
+    pub fn connections_mut(&mut self, server: usize) -> Option<&mut Vec<Connection>> {
+        let port = port_at_mut(&mut self.ports, server)?;
+        Some(&mut port.connections)
     }
 
     /// Removes the connections of a server that are over, and their watches. Returns their numbers.
@@ -357,6 +370,15 @@ impl<S: Storage> ClientService<S> {
     }
 
     // ---- sessions
+
+    /// Records that the client of a session was heard of: its session expires its timeout later.
+    pub fn hear(&mut self, session: i64, now: i64)
+        ensures heard { self.new.admission ≡ touching now (session ∷ []) self.old.admission }
+        ensures rest { (self.new.peers ≡ self.old.peers) × ((ports_of self.new.ports.items ≡ ports_of self.old.ports.items)
+            × ((self.new.opened ≡ self.old.opened) × (self.new.stops ≡ self.old.stops))) }
+    {
+        self.admission.sessions.touch(session, now);
+    }
 
     /// Asks the leader to close the sessions that have expired. After an error, nothing is asked.
     #[tactic(auto, using(crate::proofs::Places::up_has_host))]
@@ -612,6 +634,20 @@ fn keep_stop(stops: &mut Vec<Option<StoreFault>>, server: usize, fault: StoreFau
     {
         *stop = Some(fault);
     }
+}
+
+/// The place of the connection with a number. Numbers rise along the list, since it grows by new
+/// connections alone: a search of halves finds it.
+fn place_of(connections: &[Connection], number: u64) -> Option<usize>
+    ensures { IfSome result (λ place. place < length connections.now) }
+{
+    connections
+        .binary_search_by(
+            |it: &Connection| -> Ordering
+                ensures { result ≡ nat_cmp it.now.number number }
+            { it.number().cmp(&number) },
+        )
+        .ok()
 }
 
 fn port_at_mut(ports: &mut [ClientPort], server: usize) -> Option<&mut ClientPort> {

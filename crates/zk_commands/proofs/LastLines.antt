@@ -1,7 +1,7 @@
 -- The output for a line does not depend on the line that is kept for the next one.
 use Rattle.std.proofs.Common.{ℕ, List, ◌⊎◌, Option, None, Some, String, inl, inr}
 use Rattle.std.specs.Global.{Global}
-use Rattle.zk_debug_script.specs.declared.command.Command.{Command}
+use Rattle.zk_debug.specs.declared.command.Command.{Command}
 use Rattle.zk_commands.specs.Answering.{AnswersCommand, AnswersOther, AnswersOwn, Obeys}
 use Rattle.zk_commands.specs.declared.repl_command.ReplCommand.{ReplCommand}
 use Rattle.zk_commands.specs.declared.repl_command.ReplCommand.TheVariants as owns

@@ -1,4 +1,7 @@
 -- Lemmas of this crate.
+pub mod Parts
+pub mod Pasts
+pub mod Kept
 pub mod DiffLaws
 pub mod ListLaws
 pub mod BytesLaws
@@ -9,3 +12,5 @@ pub mod ScriptLaws
 pub mod OutputTexts
 pub mod Written
 pub mod LastLines
+pub mod Gathered
+pub mod Started

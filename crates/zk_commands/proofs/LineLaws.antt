@@ -1,7 +1,7 @@
 -- Lines that were read in order.
 use Rattle.std.proofs.Common.{◌≡◌, ◌≢◌, ◌∙◌, ℕ, ◌==◌, ◌⊎◌, List, [], ◌∷◌, ◌++◌, Bool, true, false, Option, Some, None, Ok, refl, sym, ap, subst, inl, inr, append_assoc, append-nil}
 use Rattle.std.specs.Io.KnownBytes.{Consumes, IsAtEnd}
-use Rattle.zk_reports.specs.Lines.{begun_by, lines_of}
+use Rattle.zk_listing.specs.Lines.{begun_by, lines_of}
 use Rattle.zk_commands.specs.HearingLines.{HeardAtEnd, Hears}
 use Rattle.zk_commands.specs.Lines.{Holds, HearsLine, HearsLines, HearsPart, IsUnended}
 use Rattle.zk_commands.specs.declared.hearing_lines.ReadLine.{ReadLine}

@@ -3,18 +3,18 @@ use Rattle.std.proofs.Common.{◌≡◌, ◌∙◌, ◌<◌, ◌≤◌, ℕ, Lis
 use Rattle.std.specs.List.{AllByRecursion, flat_map}
 use Rattle.std.specs.String.{string_bytes}
 use Rattle.zk_debug.specs.Debugging.{Debugging}
-use Rattle.zk_debug_script.specs.Answers.{Answers}
-use Rattle.zk_debug_script.specs.Commands.{IsCommand, Says, command_text}
-use Rattle.zk_debug_script.specs.Scripts.{AnswersAll}
-use Rattle.zk_debug_script.specs.declared.command.Command.{Command}
-use Rattle.zk_debug_script.specs.declared.command.Command.TheVariants as commands
-use Rattle.zk_session_lines.specs.Shorthand.{long_form}
-use Rattle.zk_session_lines.specs.Shown.{in_words}
-use Rattle.zk_session_lines.proofs.Kept.{script_line_stays}
+use Rattle.zk_debug.specs.Answers.{Answers}
+use Rattle.zk_debug.specs.Commands.{IsCommand, Says, command_text}
+use Rattle.zk_debug.specs.Scripts.{AnswersAll}
+use Rattle.zk_debug.specs.declared.command.Command.{Command}
+use Rattle.zk_debug.specs.declared.command.Command.TheVariants as commands
+use Rattle.zk_commands.specs.Shorthand.{long_form}
+use Rattle.zk_commands.specs.Shown.{in_words}
+use Rattle.zk_commands.proofs.Kept.{script_line_stays}
 use Rattle.zk_commands.specs.Answering.{AnswersCommand, AnswersOther, repeated}
 use Rattle.zk_commands.specs.declared.session.Session.{Session}
 use Rattle.zk_commands.specs.declared.session.Turn.TheVariants as turns
-use Rattle.zk_reports.specs.Lines.{lines_of}
+use Rattle.zk_listing.specs.Lines.{lines_of}
 use Rattle.zk_commands.specs.Laws.{AnswersEach, IsScriptLine, SessionsAnswerScripts}
 use Rattle.zk_commands.specs.Lines.{most_bytes}
 use Rattle.zk_commands.specs.Talking.{AnswersHeard, Talks}

@@ -3,11 +3,11 @@ use Rattle.std.specs.Prelude.{◌≡◌, ◌==◌, ◌-◌, ◌⊎◌, ℕ, List
 use Rattle.std.specs.Str.{IsUtf8}
 use Rattle.std.specs.String.{string_bytes}
 use Rattle.zk_debug.specs.Debugging.{Debugging, state_at}
-use Rattle.zk_debug_script.specs.Answers.{Answers}
-use Rattle.zk_debug_script.specs.Commands.{Says, SaysNothing}
-use Rattle.zk_debug_script.specs.declared.command.Command.{Command}
-use Rattle.zk_session_lines.specs.Shorthand.{long_form}
-use Rattle.zk_session_lines.specs.Shown.{breakpoints_text, in_words, subtree_text}
+use Rattle.zk_debug.specs.Answers.{Answers}
+use Rattle.zk_debug.specs.Commands.{Says, SaysNothing}
+use Rattle.zk_debug.specs.declared.command.Command.{Command}
+use Rattle.zk_commands.specs.Shorthand.{long_form}
+use Rattle.zk_commands.specs.Shown.{breakpoints_text, in_words, subtree_text}
 use Rattle.std.specs.FinMap as finite
 use Rattle.zk_commands.specs.Diffs.{diff_text}
 use Rattle.zk_commands.specs.Lists.{list_text}

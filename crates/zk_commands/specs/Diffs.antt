@@ -4,10 +4,10 @@ use Rattle.std.specs.Prelude.{ℕ, ◌==◌, List, [], ◌++◌, length, Option,
 use Rattle.std.specs.FinMap as finite
 use Rattle.std.specs.List.{flat_map}
 use Rattle.std.specs.Str.{bytes_eq}
-use Rattle.zk_reports.specs.Reports.{line, tree_node_line}
+use Rattle.zk_listing.specs.Reports.{line, tree_node_line}
 use Rattle.zk_table.specs.States.{NodeMap}
 use Rattle.zk_format.specs.Reports.{node_line}
-use Rattle.zk_session_lines.specs.Shown.{or_none}
+use Rattle.zk_commands.specs.Shown.{or_none}
 use Rattle.zk_tree.specs.declared.entry.Entry.{Entry}
 use Rattle.zk_txn.specs.Nodes.{stat_with}
 use Rattle.zk_txn.specs.declared.node.Node.{Node}

@@ -3,15 +3,15 @@ use Rattle.std.specs.Prelude.{◌≡◌, ◌≤◌, ℕ, List, [], ◌∷◌, le
 use Rattle.std.specs.List.{AllByRecursion, flat_map}
 use Rattle.std.specs.Str.{IsUtf8}
 use Rattle.zk_debug.specs.Debugging.{Debugging}
-use Rattle.zk_debug_script.specs.Answers.{Answers}
-use Rattle.zk_debug_script.specs.Commands.{Says}
-use Rattle.zk_debug_script.specs.Scripts.{RunsScript}
-use Rattle.zk_debug_script.specs.declared.command.Command.{Command}
+use Rattle.zk_debug.specs.Answers.{Answers}
+use Rattle.zk_debug.specs.Commands.{Says}
+use Rattle.zk_debug.specs.Scripts.{RunsScript}
+use Rattle.zk_debug.specs.declared.command.Command.{Command}
 use Rattle.zk_commands.specs.declared.session.Session.{Session}
-use Rattle.zk_reports.specs.Lines.{lines_of}
+use Rattle.zk_listing.specs.Lines.{lines_of}
 use Rattle.zk_commands.specs.Lines.{most_bytes}
 use Rattle.zk_commands.specs.Talking.{Talks}
-use Rattle.zk_session_lines.specs.Shown.{in_words}
+use Rattle.zk_commands.specs.Shown.{in_words}
 
 -- a line that is a command, and short enough to be read
 abbrev pub IsScriptLine : List ℕ → Type 0

@@ -1,4 +1,7 @@
 -- The definitions that this crate's contracts cite.
+-- What the contracts of this crate cite.
+pub mod Shorthand
+pub mod Shown
 pub mod Lists
 pub mod Diffs
 pub mod Words
@@ -16,3 +19,6 @@ pub mod Reports
 pub mod Mends
 pub mod Running
 pub mod Acting
+pub mod Later
+pub mod Outcomes
+pub mod Starts

@@ -2,7 +2,7 @@
 use Rattle.std.specs.Prelude.{◌≡◌, ◌≢◌, ◌==◌, ◌<◌, ◌≤◌, ◌⊎◌, ℕ, List, [], ◌∷◌, ◌++◌, Bool, true, false, length, Option, Some}
 use Rattle.std.specs.Io.KnownBytes.{Consumes}
 use Rattle.std.specs.List.{AllByRecursion}
-use Rattle.zk_reports.specs.Lines.{lines_of}
+use Rattle.zk_listing.specs.Lines.{lines_of}
 use Rattle.zk_commands.specs.declared.line.Line.{Line}
 
 -- a text without a newline

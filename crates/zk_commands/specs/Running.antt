@@ -6,7 +6,7 @@ use Rattle.zk_records.specs.declared.sink.Sink.{Sink}
 use Rattle.zk_log.specs.declared.source.Source.{Source}
 use Rattle.zk_path.specs.declared.memory.NoMemory.{NoMemory}
 use Rattle.zk_run_script.specs.Scripts.{RunsScript}
-use Rattle.zk_reports.specs.declared.fault.ScriptFault.{ScriptFault}
+use Rattle.zk_listing.specs.declared.script_fault.ScriptFault.{ScriptFault}
 use Rattle.zk_log_commands.specs.Answering.{OutputsAnswers}
 use Rattle.zk_log_commands.specs.Reading.{ReadsAll, TellsRead}
 use Rattle.zk_log_commands.specs.Telling.{OutputsNothing, GivesUp}

@@ -1,7 +1,7 @@
 -- The messages of a session: definitions of this project.
 use Rattle.std.specs.Prelude.{ℕ, List, ◌++◌, if◌then◌else◌, codes}
 use Rattle.std.specs.Str.{bytes_eq}
-use Rattle.zk_debug_script.specs.Reading.{word_in}
+use Rattle.zk_debug.specs.Reading.{word_in}
 
 -- what was expected, by the first word of the line
 unfoldable pub expected_for : List ℕ → List ℕ

@@ -2,8 +2,8 @@
 use Rattle.std.specs.Prelude.{ℕ, List, [], ◌∷◌, Option, Some, None, if◌then◌else◌, codes}
 use Rattle.std.specs.Str.{bytes_eq}
 use Rattle.zk_debug.specs.declared.breakpoint.Breakpoint.TheVariants as breakpoints
-use Rattle.zk_debug_script.specs.declared.command.Command.TheVariants as commands
-use Rattle.zk_debug_script.specs.Reading.{looked_up, made, number_from, whole, word_in, field_in}
+use Rattle.zk_debug.specs.declared.command.Command.TheVariants as commands
+use Rattle.zk_debug.specs.Reading.{looked_up, made, number_from, whole, word_in, field_in}
 use Rattle.zk_listing.specs.Reading.{◌>>=◌, path_at}
 use Rattle.zk_commands.specs.declared.repl_command.ReplCommand.{ReplCommand}
 use Rattle.zk_commands.specs.declared.repl_command.ReplCommand.TheVariants as owns

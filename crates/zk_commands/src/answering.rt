@@ -2,7 +2,7 @@
 ghost use Rattle.std.specs.Prelude.{◌≡◌, ◌++◌, Some, IfOk, OnOk};
 ghost use Rattle.std.specs.String.{string_bytes};
 ghost use Rattle.zk_debug.specs.Debugging.{state_at};
-ghost use Rattle.zk_session_lines.specs.Shown.{subtree_text};
+ghost use Rattle.zk_commands.specs.Shown.{subtree_text};
 ghost use Rattle.zk_commands.specs.Answering.{Appends, AppendsLong, AppendsOwn, ObeysInto, changes_from, repeated, seen};
 ghost use Rattle.zk_commands.specs.Texts.{failed_line, told_line};
 ghost use Rattle.zk_commands.specs.Words.{own_from};
@@ -13,9 +13,9 @@ use crate::reading::own_of;
 use crate::repl_command::ReplCommand;
 use crate::session::{Session, Turn};
 use crate::texts::{expected_of, help};
-use zk_debug_script::{Command, CommandFault, read_command, run_command};
+use crate::{long_form, push_breakpoints, push_in_words, push_subtree};
+use zk_debug::{Command, CommandFault, read_command, run_command};
 use zk_path::{NoMemory, Path};
-use zk_session_lines::{long_form, push_breakpoints, push_in_words, push_subtree};
 
 /// Appends the output for one line, without its newline. Returns whether another line is read.
 ///

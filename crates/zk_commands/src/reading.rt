@@ -1,12 +1,11 @@
 //! The lines that are not commands of a script.
 ghost use Rattle.std.specs.Prelude.{◌≡◌, Some};
-ghost use Rattle.zk_debug_script.specs.Reading.{Makes};
+ghost use Rattle.zk_debug.specs.Reading.{Makes};
 ghost use Rattle.zk_commands.specs.Words.{break_by, own_alone, own_break, own_from, own_if, own_with};
 
 use crate::repl_command::ReplCommand;
 use std::alloc::Global;
-use zk_debug::Breakpoint;
-use zk_debug_script::{Command, CommandFault, read_number, read_path};
+use zk_debug::{Breakpoint, Command, CommandFault, read_number, read_path};
 
 /// The number of lines that `list` without a number shows before and after the place.
 const AROUND: u32 = 5;

@@ -1,4 +1,4 @@
-use zk_debug_script::Command;
+use zk_debug::Command;
 use zk_path::Path;
 
 /// A command of a session besides those of a script.

@@ -1,6 +1,6 @@
 //! The messages of a session.
 ghost use Rattle.std.specs.Prelude.{◌≡◌};
-ghost use Rattle.zk_debug_script.specs.Reading.{word_in};
+ghost use Rattle.zk_debug.specs.Reading.{word_in};
 ghost use Rattle.zk_commands.specs.Texts.{expected_for, help_text};
 
 /// What was expected in place of a line that is not a command.

@@ -2,13 +2,13 @@
 
 use crate::session_tests::{read_of, write_of};
 use std::test::Fail;
-use zk_model::{Answer, EnsembleFault, Event};
-use zk_path::NoMemory;
-use zk_requests::Request;
-use zk_service::{
+use zk_front::{
     Ask, HOME, Reply, ReplyKind, ServiceFault, caught_by, event_of, looked_by, next_tag,
     service_fault_of, session_of, sought_by,
 };
+use zk_model::{Answer, EnsembleFault, Event};
+use zk_path::NoMemory;
+use zk_requests::Request;
 use zk_table::{ReadCall, ReadReply};
 
 /// Whether an event is that of an ask with this kind of reply, with this tag and at time 1000.

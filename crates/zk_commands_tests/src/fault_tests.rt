@@ -1,18 +1,17 @@
 //! The lines of faults that no input causes, and the texts of faults that no command prints. The
-//! faults of logs and of listings are in `zk_log_tests` and `zk_core_tests`.
+//! faults of logs and of listings are in `zk_log_tests` and `zk_tree_tests`.
 use std::alloc::Global;
 use std::fmt::Display;
 use zab_model::WorldFault;
 use zk_debug::DebugFault;
-use zk_listing::{ListCause, ListFault};
+use zk_front::FrontFault;
+use zk_listing::{ListCause, ListFault, ScriptFault, script_line};
 use zk_log::LogFault;
 use zk_log_commands::{AsmFault, asm_line, log_line};
 use zk_mend::MendFault;
 use zk_model::EnsembleFault;
 use zk_path::NoMemory;
-use zk_reports::{ScriptFault, script_line};
 use zk_run_script::push_told;
-use zk_service::FrontFault;
 
 /// Faults without a place: commands have lines for them, and never print these.
 static LOG_FAULTS: [LogFault; 4] = [

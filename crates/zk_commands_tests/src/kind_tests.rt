@@ -4,9 +4,9 @@
 
 use crate::memory_tests::{Devices, Ended, GOOD, serves};
 use std::alloc::Global;
+use zk_front::{Ask, Events, FrontFault, Reply, Service, ServiceFault, Told};
 use zk_machine::{Change, ChangeKind};
 use zk_path::{NoMemory, Path};
-use zk_service::{Ask, Events, FrontFault, Reply, Service, ServiceFault, Told};
 use zk_table::{PartResults, ReadReply, TxnResult};
 
 /// The kind of the service's reply.

@@ -2,8 +2,8 @@
 //! 1000.
 
 use std::alloc::Global;
+use zk_front::{Clock, FrontFault, Local, Service, serve_lines};
 use zk_log::{DripIn, DripOut, Sink, Source};
-use zk_service::{Clock, FrontFault, Local, Service, serve_lines};
 
 /// A stopped clock.
 #[derive(Drop)]

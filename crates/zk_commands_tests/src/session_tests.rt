@@ -5,9 +5,9 @@ use crate::memory_tests::Still;
 use std::alloc::Global;
 use std::test::Fail;
 use zk_acl::Ids;
+use zk_front::{Ask, Local, Reply, Service, ServiceFault, Told};
 use zk_path::NoMemory;
 use zk_request_syntax::{Lookup, read_lookup, read_request};
-use zk_service::{Ask, Local, Reply, Service, ServiceFault, Told};
 
 /// The sessions of the first two transactions.
 const ALICE: i64 = 0x1_0000_0001;

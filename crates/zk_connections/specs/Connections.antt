@@ -8,12 +8,12 @@ use Rattle.zk_connections.specs.declared.word.Word.{Word}
 use Rattle.zk_frames.specs.Frames.{framed}
 use Rattle.zk_frames.specs.Replies.{connect_response_of}
 use Rattle.zk_frames.specs.declared.reply.ConnectResponse.{ConnectResponse}
-use Rattle.zk_links.specs.ConnectionWatches.{fires, left_by}
-use Rattle.zk_links.specs.Links.{attached, seeing}
-use Rattle.zk_links.specs.Replies.{after_reply, bytes_of, closes_by, closes_after, event_frame, immediate_bytes}
-use Rattle.zk_links.specs.declared.ask.Immediate.{Immediate}
-use Rattle.zk_links.specs.declared.expected_reply.ExpectedReply.{ExpectedReply}
-use Rattle.zk_links.specs.declared.reply.Reply.{Reply}
+use Rattle.zk_client_session.specs.ConnectionWatches.{fires, left_by, no_watches}
+use Rattle.zk_client_session.specs.Links.{attached, seeing}
+use Rattle.zk_client_session.specs.Replies.{after_reply, bytes_of, closes_by, closes_after, event_frame, immediate_bytes}
+use Rattle.zk_client_session.specs.declared.ask.Immediate.{Immediate}
+use Rattle.zk_client_session.specs.declared.expected_reply.ExpectedReply.{ExpectedReply}
+use Rattle.zk_client_session.specs.declared.reply.Reply.{Reply}
 use Rattle.zk_machine.specs.declared.change.ChangeKind.{ChangeKind}
 
 abbrev pub new_connection : ℕ → Connection
@@ -21,7 +21,7 @@ new_connection number = record {
   number = number;
   peer = None;
   phase = New;
-  watches = [];
+  watches = no_watches;
   input = [];
   output = [];
   listing = None;

@@ -13,11 +13,11 @@ use Rattle.zk_frames.specs.Reading.{connect_request_in}
 use Rattle.zk_frames.specs.declared.fault.FrameFault.{FrameFault}
 use Rattle.zk_frames.specs.declared.records.ConnectRequest.{ConnectRequest}
 use Rattle.zk_jute.specs.declared.fault.JuteFault.{JuteFault}
-use Rattle.zk_links.specs.Links.{action_of}
-use Rattle.zk_links.specs.Replies.{closes_by, closes_after}
-use Rattle.zk_links.specs.declared.ask.Action.{Action}
-use Rattle.zk_links.specs.declared.ask.Action.TheVariants as actions
-use Rattle.zk_links.specs.declared.link.Link.{Link}
+use Rattle.zk_client_session.specs.Links.{action_of}
+use Rattle.zk_client_session.specs.Replies.{closes_by, closes_after}
+use Rattle.zk_client_session.specs.declared.ask.Action.{Action}
+use Rattle.zk_client_session.specs.declared.ask.Action.TheVariants as actions
+use Rattle.zk_client_session.specs.declared.link.Link.{Link}
 
 -- ---- bytes
 

@@ -1,3 +1,5 @@
+pub mod Passwords
+pub mod Sessions
 pub mod Connections
 pub mod Inputs
 pub mod Listings

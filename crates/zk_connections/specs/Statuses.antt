@@ -6,7 +6,7 @@ use Rattle.zk_connections.specs.declared.status.Mode.{Mode}
 use Rattle.zk_connections.specs.declared.status.Mode.TheVariants as modes
 use Rattle.zk_connections.specs.declared.status.Status.{Status}
 use Rattle.zk_connections.specs.declared.word.Word.{Word}
-use Rattle.zk_connections.specs.declared.word.Word.TheVariants.{Ruok, Srvr, Stat, Mntr, Isro, Cons, Dump}
+use Rattle.zk_connections.specs.declared.word.Word.TheVariants.{Ruok, Srvr, Stat, Mntr, Envi, Isro, Cons, Dump}
 
 abbrev pub mode_text : Mode → List ℕ
 mode_text modes.Leader = codes "leader"
@@ -35,6 +35,9 @@ mntr_text status =
     ++ counted (codes "zk_outstanding_requests\t") status.outstanding
     ++ named (codes "zk_server_state\t") (mode_text status.mode) ++ counted (codes "zk_znode_count\t") status.nodes
 
+abbrev pub envi_text : List ℕ
+envi_text = codes "Environment:\nzookeeper.version=3.4\n"
+
 -- from a server that has a leader; the others list what is not in its statistics
 abbrev pub serving_text : Word → Status → Option (List ℕ)
 serving_text Ruok status = Some (codes "imok")
@@ -42,6 +45,7 @@ serving_text Isro status = Some (codes "rw")
 serving_text Srvr status = Some (srvr_text status)
 serving_text Stat status = Some (srvr_text status)
 serving_text Mntr status = Some (mntr_text status)
+serving_text Envi status = Some envi_text
 serving_text Cons status = None
 serving_text Dump status = None
 
@@ -49,6 +53,7 @@ serving_text Dump status = None
 abbrev pub looking_text : Word → List ℕ
 looking_text Ruok = codes "imok"
 looking_text Isro = codes "null"
+looking_text Envi = envi_text
 looking_text other = codes "This ZooKeeper instance is not currently serving requests\n"
 
 abbrev pub text_by : Mode → Word → Status → Option (List ℕ)

@@ -5,7 +5,7 @@ use crate::byte_queue::ByteQueue;
 use crate::word::Word;
 use std::alloc::Global;
 use std::net::SocketAddr;
-use zk_links::{ConnectionWatches, Link};
+use zk_client_session::{ConnectionWatches, Link};
 
 /// How far a connection has come.
 #[derive(Debug, Drop)]

@@ -5,9 +5,9 @@ ghost use Rattle.zk_frames.specs.Frames.{next_frame_in};
 use crate::connection::{Connection, Phase};
 use crate::word::{Word, word_in};
 use std::alloc::Global;
+use zk_client_session::Action;
 use zk_frames::{ConnectRequest, FrameFault, MOST_BYTES, next_frame, read_connect_request};
 use zk_jute::JuteFault;
-use zk_links::Action;
 use zk_path::NoMemory;
 
 /// The bytes of a frame's length.

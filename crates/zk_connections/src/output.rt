@@ -2,13 +2,13 @@ ghost use Rattle.std.specs.Prelude.{◌≡◌, drop, length, OnOk, OnErr, nat_lt
 ghost use Rattle.zk_connections.specs.Connections.{with_event, with_reply, with_immediate, with_session, with_no_session, with_output, awaited, closing, lost, is_over, is_slow, is_new, session_of};
 ghost use Rattle.zk_frames.specs.Frames.{framed};
 ghost use Rattle.zk_frames.specs.Replies.{connect_response_of};
-ghost use Rattle.zk_links.specs.ConnectionWatches.{after_read, has_any, without_any};
+ghost use Rattle.zk_client_session.specs.ConnectionWatches.{after_read, has_any, without_any};
 
 use crate::connection::{Connection, Phase};
 use crate::word::Word;
 use std::alloc::Global;
+use zk_client_session::{ExpectedReply, Immediate, Link, Reply, WatcherType};
 use zk_frames::{ConnectResponse, FrameFault, write_connect_response};
-use zk_links::{ExpectedReply, Immediate, Link, Reply, WatcherType};
 use zk_machine::ChangeKind;
 use zk_path::{NoMemory, Path};
 use zk_txn::{ReadCall, ReadReply};

@@ -1,7 +1,7 @@
 ghost use Rattle.std.specs.Prelude.{◌≡◌, ◌++◌, IfOk, OnOk};
 ghost use Rattle.std.specs.Option.{option_map};
 ghost use Rattle.std.specs.String.{string_bytes};
-ghost use Rattle.zk_connections.specs.Statuses.{counted, named, zxid_line, mode_text, srvr_text, mntr_text, serving_text, looking_text, text_of};
+ghost use Rattle.zk_connections.specs.Statuses.{counted, envi_text, named, zxid_line, mode_text, srvr_text, mntr_text, serving_text, looking_text, text_of};
 
 use crate::word::Word;
 use std::alloc::Global;
@@ -36,6 +36,13 @@ fn mode_text(mode: Mode) -> &'static str
         Mode::Follower => "follower",
         Mode::Looking => "looking",
     }
+}
+
+/// The reply to `envi`, of a server with a leader or without one.
+fn envi_text() -> &'static str
+    ensures { result.now ≡ envi_text }
+{
+    "Environment:\nzookeeper.version=3.4\n"
 }
 
 /// Appends a line with a number.
@@ -93,6 +100,7 @@ fn serving_text(alloc: Global, word: Word, status: &Status) -> Result<Option<Str
         Word::Isro => String::from_str(alloc, "rw")?,
         Word::Srvr | Word::Stat => srvr_text(alloc, status)?,
         Word::Mntr => mntr_text(alloc, status)?,
+        Word::Envi => String::from_str(alloc, envi_text())?,
         Word::Cons | Word::Dump => return Ok(None),
     };
     Ok(Some(text))
@@ -105,6 +113,7 @@ fn looking_text(alloc: Global, word: Word) -> Result<String, NoMemory>
     let text = match word {
         Word::Ruok => "imok",
         Word::Isro => "null",
+        Word::Envi => envi_text(),
         Word::Srvr | Word::Stat | Word::Mntr | Word::Cons | Word::Dump => {
             "This ZooKeeper instance is not currently serving requests\n"
         }

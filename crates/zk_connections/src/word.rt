@@ -14,6 +14,8 @@ pub enum Word {
     Stat,
     /// The server's statistics, as names and values.
     Mntr,
+    /// The server's version.
+    Envi,
     /// Whether the server is read-only.
     Isro,
     /// The server's connections.
@@ -30,6 +32,7 @@ fn word_of(bytes: &[u8]) -> Option<Word>
         b"srvr" => Some(Word::Srvr),
         b"stat" => Some(Word::Stat),
         b"mntr" => Some(Word::Mntr),
+        b"envi" => Some(Word::Envi),
         b"isro" => Some(Word::Isro),
         b"cons" => Some(Word::Cons),
         b"dump" => Some(Word::Dump),

@@ -1,18 +1,26 @@
-ghost use Rattle.std.specs.Prelude.{◌≡◌};
+ghost use Rattle.std.specs.Prelude.{◌≡◌, IfOk};
+ghost use Rattle.zk_store.specs.Books.{book_of};
+ghost use Rattle.zk_store.specs.Holding.{AreClean, MayLeave, MayRecover, seen_of};
+ghost use Rattle.zk_store.specs.Stores.{Files as StoreContents};
+ghost use Rattle.zk_data_files.specs.FileStores.{AreStartsOf};
+ghost use Rattle.zk_data_files.specs.Started.{FindsAll, FindsOnly};
 ghost use Rattle.zk_data_files.specs.Faults.{fault_of};
 
+use crate::data_fault::DataFault;
 use crate::data_store::{DataStore, EpochStore};
 use crate::epoch_files::EpochFiles;
-use crate::fault::DataFault;
 use crate::identity::{Identity, SECRET_BYTES};
+use crate::start::{StoreStart, UnknownStart, starts_of};
+use crate::started::{open_from, started_files};
 use crate::system_files::{PRIVATE, create_directories, create_directory, replace_file};
-use sqlite_disk::Files;
-use sqlite_std_file::{File, Unknown, open};
+use crate::upgrade::upgrade;
+use crate::{FileStore, OpenFault, StoreFile};
+use sqlite_disk::{Disk, Files};
+use sqlite_std_file::open;
 use std::alloc::AllocError;
 use std::fs;
 use std::fs::{OpenOptions, TryLockError};
 use std::io::ErrorKind;
-use zk_file_store::{FileStore, OpenFault};
 use zk_store::StoreFiles;
 
 /// The directory of an ensemble's data, which no other process uses while this lives.
@@ -77,38 +85,53 @@ impl<'a> DataDirectory<'a> {
         self.identity.secret
     }
 
-    /// Opens the store of each server.
-    pub fn open_stores(&self) -> Result<Vec<FileStore<File>>, DataFault> {
-        let mut stores = Vec::new(self.rt.alloc());
-        for server in 1..=usize::from(self.identity.servers) {
-            stores.push(self.open_store(server)?)?;
-        }
-        Ok(stores)
-    }
-
-    /// Opens a server's store, which nothing else has open. It is empty if its files are missing.
-    pub fn open_store(&self, server: usize) -> Result<FileStore<File>, DataFault> {
-        let files = self.open_files(server)?;
-        match FileStore::open(self.rt.alloc(), files) {
+    /// Opens a server's store, which nothing else has open. It is empty if its files are missing. It
+    /// recovers what its files stand for as they are opened, and nothing else.
+    pub fn open_store<S: StoreStart>(
+        &self,
+        start: S,
+        server: usize,
+    ) -> Result<FileStore<StoreFile<S>>, DataFault>
+        ensures all { IfOk result (λ it. AreClean ⟦<StoreFile<S> as Disk>⟧ it.files
+            → FindsAll S.files (MayRecover ⟦<StoreFile<S> as Disk>⟧ it.files)) }
+        ensures only { IfOk result (λ it. FindsOnly S.files
+            (MayRecover ⟦<StoreFile<S> as Disk>⟧ it.files)) }
+        ensures counts { IfOk result (λ it. AreClean ⟦<StoreFile<S> as Disk>⟧ it.files
+            → AreStartsOf (book_of S.files.book) it.counted.book.boots) }
+    {
+        let files = self.open_files(start, server)?;
+        match open_from(self.rt.alloc(), files) {
             Ok(store) => Ok(store),
             Err(unopened) => Err(fault_of(server, unopened.fault)),
         }
     }
 
     /// Opens the store of each server, as [`DataDirectory::open_data_store`].
-    pub fn open_data_stores(&self) -> Result<Vec<DataStore<'a>>, DataFault> {
+    pub fn open_data_stores(&self) -> Result<Vec<DataStore<'a, UnknownStart>>, DataFault> {
         let mut stores = Vec::new(self.rt.alloc());
         for server in 1..=usize::from(self.identity.servers) {
-            stores.push(self.open_data_store(server)?)?;
+            stores.push(self.open_data_store(UnknownStart, server)?)?;
         }
         Ok(stores)
     }
 
     /// Opens a server's store, as [`DataDirectory::open_store`]. It also writes the server's epochs for
     /// other tools.
-    pub fn open_data_store(&self, server: usize) -> Result<DataStore<'a>, DataFault> {
+    pub fn open_data_store<S: StoreStart>(
+        &self,
+        start: S,
+        server: usize,
+    ) -> Result<DataStore<'a, S>, DataFault>
+        ensures all { IfOk result (λ it. AreClean ⟦<StoreFile<S> as Disk>⟧ it.store.files
+            → FindsAll S.files (MayRecover ⟦<StoreFile<S> as Disk>⟧ it.store.files)) }
+        ensures only { IfOk result (λ it. FindsOnly S.files
+            (MayRecover ⟦<StoreFile<S> as Disk>⟧ it.store.files)) }
+        ensures counts { IfOk result (λ it. AreClean ⟦<StoreFile<S> as Disk>⟧ it.store.files
+            → AreStartsOf (book_of S.files.book) it.store.counted.book.boots) }
+    {
         let epochs = EpochFiles::new(self.rt, self.log_directory(server)?);
-        Ok(EpochStore::new(self.open_store(server)?, epochs))
+        let store = self.open_store(start, server)?;
+        Ok(EpochStore { store, epochs })
     }
 
     /// The directory of a server's log.
@@ -117,30 +140,35 @@ impl<'a> DataDirectory<'a> {
         format!(in self.rt.alloc(); "{path}/{server}/version-2")
     }
 
-    /// Opens the files of a server's store. Those that are missing are created, and empty.
-    fn open_files(&self, server: usize) -> Result<StoreFiles<File>, DataFault> {
+    /// Opens the files of a server's store, in the new format. Those that are missing are created, and
+    /// empty.
+    fn open_files<S: StoreStart>(
+        &self,
+        start: S,
+        server: usize,
+    ) -> Result<StoreFiles<StoreFile<S>>, DataFault>
+        ensures seen { IfOk result (λ files. seen_of ⟦<StoreFile<S> as Disk>⟧ files ≡ S.files) }
+        ensures left { IfOk result (λ files. (left : StoreContents)
+            → MayLeave ⟦<StoreFile<S> as Disk>⟧ files left → left ≡ S.files) }
+    {
         let alloc = self.rt.alloc();
         let path = self.path.as_str();
         let directory = format!(in alloc; "{path}/{server}")?;
         let logs = self.log_directory(server)?;
         create_directory(self.rt, directory.as_str())?;
         create_directory(self.rt, logs.as_str())?;
+        upgrade(self.rt, directory.as_str(), logs.as_str())?;
         let log = format!(in alloc; "{path}/{server}/version-2/log.1")?;
         let joining = format!(in alloc; "{path}/{server}/joining")?;
         let book = format!(in alloc; "{path}/{server}/book")?;
-        let Files { db: log, log: tags } = open(self.rt, log.as_str(), Unknown)?;
+        let (log_start, joining_start, book_start) = starts_of(start);
+        let Files { db: log, log: tags } = open(self.rt, log.as_str(), log_start)?;
         let Files {
             db: joining,
             log: joining_tags,
-        } = open(self.rt, joining.as_str(), Unknown)?;
-        let Files { db: book, log: _ } = open(self.rt, book.as_str(), Unknown)?;
-        Ok(StoreFiles {
-            log,
-            tags,
-            joining,
-            joining_tags,
-            book,
-        })
+        } = open(self.rt, joining.as_str(), joining_start)?;
+        let Files { db: book, log: _ } = open(self.rt, book.as_str(), book_start)?;
+        Ok(started_files(log, tags, joining, joining_tags, book))
     }
 }
 
@@ -152,6 +180,7 @@ fn fault_of(server: usize, fault: OpenFault) -> DataFault
         OpenFault::NoMemory => DataFault::NoMemory,
         OpenFault::Disk => DataFault::Store(server),
         OpenFault::NoBook => DataFault::NoBook(server),
+        OpenFault::DamagedBook => DataFault::Book(server),
         OpenFault::Damaged => DataFault::Log(server),
     }
 }

@@ -1,5 +1,5 @@
+use crate::data_fault::DataFault;
 use crate::epochs::{Epochs, epoch_text};
-use crate::fault::DataFault;
 use crate::system_files::{SHARED, replace_file};
 
 /// The files `acceptedEpoch` and `currentEpoch` of a server, as ZooKeeper has them, for other tools.

@@ -1,6 +1,6 @@
 //! Files and directories that a crash does not lose.
 
-use crate::fault::DataFault;
+use crate::data_fault::DataFault;
 use std::fs::OpenOptions;
 use std::io::{ErrorKind, Write};
 use std::os::unix::fs::OpenOptionsExt;
@@ -48,12 +48,46 @@ pub(crate) fn replace_file(
     mode: u32,
     bytes: &[u8],
 ) -> Result<(), DataFault> {
-    let alloc = rt.alloc();
-    let path = format!(in alloc; "{directory}/{name}")?;
-    let draft = format!(in alloc; "{directory}/{name}.new")?;
+    write_draft(rt, directory, name, mode, bytes)?;
+    place_draft(rt, directory, name)
+}
+
+/// Writes the draft of a file, so that a crash does not lose it.
+pub(crate) fn write_draft(
+    rt: &HostRuntime,
+    directory: &str,
+    name: &str,
+    mode: u32,
+    bytes: &[u8],
+) -> Result<(), DataFault> {
+    let draft = format!(in rt.alloc(); "{directory}/{name}.new")?;
     write_synced(rt, draft.as_str(), mode, bytes)?;
-    fs::rename(rt, draft.as_str(), path.as_str())?;
     sync_directory(rt, directory)
+}
+
+/// Puts the draft of a file in its place, if there is one.
+pub(crate) fn place_draft(rt: &HostRuntime, directory: &str, name: &str) -> Result<(), DataFault> {
+    let path = format!(in rt.alloc(); "{directory}/{name}")?;
+    let draft = format!(in rt.alloc(); "{directory}/{name}.new")?;
+    match fs::rename(rt, draft.as_str(), path.as_str()) {
+        Ok(()) => sync_directory(rt, directory),
+        Err(error) if error.kind() == ErrorKind::NotFound => Ok(()),
+        Err(error) => Err(DataFault::System(error)),
+    }
+}
+
+/// Reads a file of a directory; `None` if it is missing.
+pub(crate) fn read_file(
+    rt: &HostRuntime,
+    directory: &str,
+    name: &str,
+) -> Result<Option<Vec<u8>>, DataFault> {
+    let path = format!(in rt.alloc(); "{directory}/{name}")?;
+    match fs::read(rt, path.as_str()) {
+        Ok(bytes) => Ok(Some(bytes)),
+        Err(error) if error.kind() == ErrorKind::NotFound => Ok(None),
+        Err(error) => Err(DataFault::System(error)),
+    }
 }
 
 fn write_synced(rt: &HostRuntime, path: &str, mode: u32, bytes: &[u8]) -> io::Result<()> {

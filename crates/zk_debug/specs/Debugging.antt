@@ -18,8 +18,8 @@ use Rattle.zk_table.specs.States.{State, state_code}
 use Rattle.zk_table.specs.Steps.{step}
 use Rattle.zk_debug.specs.Breakpoints.{is_met}
 use Rattle.zk_debug.specs.declared.breakpoint.Breakpoint.{Breakpoint}
-use Rattle.zk_debug.specs.declared.fault.DebugFault.{DebugFault}
-use Rattle.zk_debug.specs.declared.fault.DebugFault.TheVariants as faults
+use Rattle.zk_debug.specs.declared.debug_fault.DebugFault.{DebugFault}
+use Rattle.zk_debug.specs.declared.debug_fault.DebugFault.TheVariants as faults
 use Rattle.zk_debug.specs.declared.stop.Stop.{Stop}
 
 -- ---- places of a log: a place is a number of applied transactions

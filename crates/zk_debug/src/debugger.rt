@@ -2,13 +2,13 @@ ghost use Rattle.std.specs.Prelude.{◌≡◌, ◌+◌, ◌<◌, ◌≤◌, ℤ,
 ghost use Rattle.std.specs.FinMap as finite;
 ghost use Rattle.std.specs.Option.{option_copied};
 ghost use Rattle.zk_records.specs.Written.{Rises};
-ghost use Rattle.zk_debug.specs.declared.fault.DebugFault.TheVariants as faults;
+ghost use Rattle.zk_debug.specs.declared.debug_fault.DebugFault.TheVariants as faults;
 ghost use Rattle.zk_table.specs.States.{start_state};
 ghost use Rattle.zk_debug.specs.Debugging.{started, state_at, machine_at, result_at, zxid_at, hit_at, moved, broken, steps_to, up_to, Moves, IsRunTo, IsRunBackTo, RefusesOn, RefusesBack, RefusesAny, RefusesSet};
 
 use crate::breakpoint::Breakpoint;
 use crate::breakpoints::Breakpoints;
-use crate::fault::DebugFault;
+use crate::debug_fault::DebugFault;
 use crate::stop::Stop;
 use crate::walk::Walk;
 use indexmap::IndexMap;

@@ -1,2 +1,5 @@
 pub mod Entries
 pub mod Digits
+pub mod FileEntries
+pub mod Joints
+pub mod Resumptions

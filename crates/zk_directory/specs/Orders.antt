@@ -1,5 +1,5 @@
 -- From which log on a directory is read.
-use Rattle.std.specs.Prelude.{ℕ, ◌+◌, ◌-◌, ℤ, pos, ◌-ℤ◌, Bool, ◌||◌, int_le, List, [], ◌∷◌, if◌then◌else◌}
+use Rattle.std.specs.Prelude.{ℕ, ◌-◌, ℤ, pos, ◌-ℤ◌, Bool, ◌||◌, int_le, List}
 use Rattle.std.specs.Ordering.{int_eq}
 use Rattle.std.specs.List.{count_by}
 

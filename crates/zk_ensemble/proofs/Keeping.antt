@@ -2,10 +2,10 @@
 use Rattle.std.proofs.Common.{◌≡◌, ◌≢◌, ℕ, zero, suc, ◌≤◌, ◌⊎◌, inl, inr, List, [], ◌∷◌, ◌++◌, length, replicate, slice_get, Option, Some, None, Result, Ok, Err, OnErr, refl, sym, ap, subst, ◌∙◌, arith}
 use Rattle.std.proofs.Math.Seq.{take-length}
 use Rattle.std.proofs.lemmas.List.{length-append, take-append-le}
-use Rattle.zab_quorums.specs.Shares.{heavy_share}
+use Rattle.zab_epoch.specs.Shares.{heavy_share}
 use Rattle.zab_epoch.specs.declared.history.Entry.{Entry}
 use Rattle.zab_laws.specs.Prefixes.{IsPrefix}
-use Rattle.zab_quorums.specs.Quorums.{is_heavy}
+use Rattle.zab_epoch.specs.Quorums.{is_heavy}
 use Rattle.zab_model.specs.declared.event.Event.{Event as WorldEvent}
 use Rattle.zab_model.specs.declared.event.Moved.{Moved}
 use Rattle.zab_model.specs.declared.fault.WorldFault.{WorldFault}

@@ -1,8 +1,8 @@
 -- The code's ensembles are those of runs.
 use Rattle.std.proofs.Common.{◌≡◌, ◌≢◌, ℕ, ◌≤◌, ◌<◌, inl, inr, Bool, true, false, List, [], ◌∷◌, ◌++◌, length, cond, int_lt, ℤ, Option, Some, None, Result, Ok, Err, OnOk, OnErr, refl, sym, ap, subst, ◌∙◌, arith}
 use Rattle.std.specs.Result.{is_err}
-use Rattle.zab_quorums.specs.Shares.{heavy_share}
-use Rattle.zab_quorums.specs.Quorums.{is_heavy}
+use Rattle.zab_epoch.specs.Shares.{heavy_share}
+use Rattle.zab_epoch.specs.Quorums.{is_heavy}
 use Rattle.std.proofs.lemmas.List.{length-append}
 use Rattle.zab_laws.specs.Prefixes.{IsPrefix}
 use Rattle.zab_agreement_laws.proofs.Deliveries.{down_after_crash}

@@ -1,7 +1,7 @@
 -- Caches of crashed servers in an ensemble: each is over a list that some server had delivered in
 -- its run.
 use Rattle.std.specs.Prelude.{◌≡◌, ◌≤◌, ℕ, List, length, Option}
-use Rattle.zab_quorums.specs.Quorums.{is_heavy}
+use Rattle.zab_epoch.specs.Quorums.{is_heavy}
 use Rattle.zk_ensemble.specs.Views.{Below, IsOfRun}
 use Rattle.zk_replicas.specs.declared.crash_cache.CrashCache.{CrashCache}
 use Rattle.zk_replicas.specs.Keeping.{IsOver, EachKept}

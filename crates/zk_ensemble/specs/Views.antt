@@ -1,7 +1,7 @@
 -- How contracts see the code's ensembles.
 use Rattle.std.specs.Prelude.{◌≡◌, ℕ, Bool, List, [], Option, Some, None, refl}
 use Rattle.std.specs.Coded.{Coded, code_by, coded×, coded_list, coded_bool, coded_ℕ}
-use Rattle.zab_quorums.specs.Quorums.{is_heavy}
+use Rattle.zab_epoch.specs.Quorums.{is_heavy}
 use Rattle.zab_epoch.specs.declared.message.Message.{Message}
 use Rattle.zab_broadcast.specs.declared.state.State.{State as ServerState}
 use Rattle.zab_model.specs.declared.used_tags.UsedTags.{UsedTags}

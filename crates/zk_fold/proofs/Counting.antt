@@ -9,8 +9,8 @@ use Rattle.std.specs.Option.{option_map, option_copied}
 use Rattle.std.specs.Ordering.{eq_by_cmp}
 use Rattle.zk_txn.specs.declared.node.Node.{Node}
 use Rattle.zk_table.specs.States.{NodeMap, path_cmp, is_child_of, changed, changed_found}
-use Rattle.zk_overlay.specs.Overlays.{count_of}
-use Rattle.zk_overlay.proofs.Laying.{some_there}
+use Rattle.zk_requests.specs.Overlays.{count_of}
+use Rattle.zk_requests.proofs.Laying.{some_there}
 use Rattle.zk_tree.specs.Views.{PathKeys}
 use Rattle.zk_tree.proofs.Kept.{path_cmp-IsAntisymmetric}
 use Rattle.zk_tree.proofs.Lists.{same_is, len-keys}

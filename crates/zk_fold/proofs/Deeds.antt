@@ -16,7 +16,7 @@ use Rattle.zk_txn.specs.declared.txn.Txn.{Txn}
 use Rattle.zk_table.specs.Multis.{apply_part, nodes_after}
 use Rattle.zk_table.specs.Operations.{done_unless, create, create_fault, delete, delete_fault, missing_fault, without}
 use Rattle.zk_table.specs.States.{NodeMap, children_of, changed, changed_found, parent_changed}
-use Rattle.zk_overlay.proofs.Recounts.{delete_there, delete_childless}
+use Rattle.zk_requests.proofs.Recounts.{delete_there, delete_childless}
 use Rattle.zk_fold.specs.NodeIndexes.{put_below, put_unless}
 
 pub created_nodes : (f : Option ℤ) (n : NodeMap) (path : List ℕ) (node : Node) (zxid count : ℤ) → put_unless f n path node zxid count ≡ (done_unless f n path (parent_changed (finite.insert n path node) path (with_child zxid count)) None).nodes

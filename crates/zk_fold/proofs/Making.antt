@@ -14,8 +14,8 @@ use Rattle.zk_txn.specs.declared.node.Node.{Node}
 use Rattle.zk_txn.specs.Nodes as nodes
 use Rattle.zk_table.specs.Operations.{create_fault, parent_fault}
 use Rattle.zk_table.specs.States.{NodeMap, path_cmp, is_child_of, is_parent, changed, changed_found, changed_above, parent_changed}
-use Rattle.zk_overlay.specs.Overlays.{count_of}
-use Rattle.zk_overlay.proofs.Counts.{count-insert, count-remove}
+use Rattle.zk_requests.specs.Overlays.{count_of}
+use Rattle.zk_requests.proofs.Counts.{count-insert, count-remove}
 use Rattle.zk_machine.proofs.Families.{childless}
 use Rattle.zk_machine.proofs.Orders.{parent_less}
 use Rattle.zk_machine.proofs.Slashes.{path_begins}

@@ -12,7 +12,7 @@ use Rattle.zk_txn.specs.declared.node.Node.{Node}
 use Rattle.zk_txn.specs.Nodes.{first_node, with_child}
 use Rattle.zk_table.specs.Operations.{create_fault, parent_fault}
 use Rattle.zk_table.specs.States.{NodeMap, path_cmp, start_state, changed_above, changed_found}
-use Rattle.zk_overlay.specs.Overlays.{count_of}
+use Rattle.zk_requests.specs.Overlays.{count_of}
 use Rattle.zk_machine.proofs.Families.{childless}
 use Rattle.zk_tree.proofs.Kept.{path_cmp-IsAntisymmetric, contains_key-insert, get-insert_itself, insert_same}
 use Rattle.zk_tree.proofs.Lists.{same_is}

@@ -7,10 +7,10 @@ use lib.ListN.{get_or}
 use Rattle.zab_model.specs.declared.event.Event.TheVariants.{Lead, Follow, Arrive, Submit, Expire, Sync, Crash, Restart}
 use Rattle.zk_model.specs.declared.event.Event.{Event}
 use Rattle.zk_model.specs.declared.event.Event.TheVariants as events
-use Rattle.zk_chronicle.specs.Calls.{made}
+use Rattle.zk_servers.specs.Calls.{made}
 use Rattle.zk_servers.specs.Turns.{events_of, numbers_of, numbers_told}
-use Rattle.zk_chronicle.specs.declared.record.Receipt.{Receipt}
-use Rattle.zk_chronicle.specs.declared.calls.Made.{Made}
+use Rattle.zk_servers.specs.declared.record.Receipt.{Receipt}
+use Rattle.zk_servers.specs.declared.calls.Made.{Made}
 use Rattle.zk_front.specs.Calling.{Calling, Calls, CallsOne, IsGiven, IsKept}
 
 -- ---- tags

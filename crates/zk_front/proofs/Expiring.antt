@@ -6,8 +6,8 @@ use Rattle.zk_line_protocol.specs.declared.ask.Ask.{Ask}
 use Rattle.zk_line_protocol.specs.declared.ask.Ask.TheVariants as asks
 use Rattle.zk_line_protocol.specs.declared.told.ServiceFault.{ServiceFault}
 use Rattle.zk_line_protocol.specs.declared.told.Told.{Told}
-use Rattle.zk_service.specs.Asks.{event_of, session_of, sought_by}
-use Rattle.zk_service.specs.declared.reply_kind.ReplyKind.{ReplyKind}
+use Rattle.zk_front.specs.Asks.{event_of, session_of, sought_by}
+use Rattle.zk_front.specs.declared.reply_kind.ReplyKind.{ReplyKind}
 use Rattle.zk_prepare.specs.Deadlines.{expired_at}
 use Rattle.zk_model.specs.declared.event.Event.{Event}
 use Rattle.zk_front.specs.Calling.{Calling, Calls, IsGiven}

@@ -1,15 +1,15 @@
 -- A read's reply, and the events of its session.
 use Rattle.std.proofs.Common.{◌≡◌, ℕ, ℤ, List, [], ◌∷◌, ◌++◌, Option, Some, None, refl, sym, subst}
 use Rattle.zk_servers.specs.Looking.{IsToldBefore}
-use Rattle.zk_chronicle.specs.declared.record.Receipt.{Receipt}
+use Rattle.zk_servers.specs.declared.record.Receipt.{Receipt}
 use Rattle.zk_line_protocol.specs.declared.ask.Ask.{Ask}
 use Rattle.zk_ensemble.specs.declared.outcome.Mark.{Mark}
 use Rattle.zk_ensemble.specs.declared.outcome.Outcome.{Outcome}
 use Rattle.zk_machine.specs.declared.change.Change.{Change}
 use Rattle.zk_model.specs.declared.event.Event.{Event}
-use Rattle.zk_service.specs.Asks.{event_of, session_of}
-use Rattle.zk_service.specs.declared.reply_kind.ReplyKind.{ReplyKind}
-use Rattle.zk_service.specs.declared.reply_kind.ReplyKind.TheVariants as seeks
+use Rattle.zk_front.specs.Asks.{event_of, session_of}
+use Rattle.zk_front.specs.declared.reply_kind.ReplyKind.{ReplyKind}
+use Rattle.zk_front.specs.declared.reply_kind.ReplyKind.TheVariants as seeks
 use Rattle.zk_front.specs.Reading.{HasEventsOf, IsRead, IsReadBy, IsToldRead, IsToldReadBy, TellsEvents}
 
 pub is_read : (event : Event) (tag : ℕ) (session : ℤ) (from : Mark) (receipts earlier : List Receipt) (receipt : Receipt) (outcome : Outcome) → receipts ≡ earlier ++ receipt ∷ [] → IsToldBefore event 1 tag session from receipt outcome

@@ -3,9 +3,9 @@ use Rattle.std.specs.Prelude.{◌≡◌, ◌≤◌, ℕ, All, List, [], ◌∷�
 use Rattle.zab_model.specs.declared.event.Event.TheVariants.{Submit, Expire, Sync}
 use Rattle.zk_model.specs.declared.event.Event.{Event}
 use Rattle.zk_model.specs.declared.event.Event.TheVariants as events
-use Rattle.zk_chronicle.specs.declared.record.Receipt.{Receipt}
-use Rattle.zk_chronicle.specs.declared.calls.Made.{Made}
-use Rattle.zk_chronicle.specs.Calls.{made}
+use Rattle.zk_servers.specs.declared.record.Receipt.{Receipt}
+use Rattle.zk_servers.specs.declared.calls.Made.{Made}
+use Rattle.zk_servers.specs.Calls.{made}
 use Rattle.zk_servers.specs.Turns.{events_of, numbers_of, numbers_told}
 
 -- the calls of a seat, a receipt for each, and the last tag that was used

@@ -12,7 +12,7 @@ use Rattle.zk_requests.specs.declared.call.Request.TheVariants as requests
 use Rattle.zk_requests.specs.Timeouts.{clamp}
 use Rattle.zk_txn.specs.declared.result.TxnResult.{TxnResult}
 use Rattle.zk_prepare.specs.Deadlines.{DeadlineMap, touched, forgotten, expired_at}
-use Rattle.zk_service.specs.Asks.{session_of}
+use Rattle.zk_front.specs.Asks.{session_of}
 use Rattle.zk_front.specs.declared.session_table.SessionTable.{SessionTable}
 use Rattle.zk_front.specs.declared.session_effect.SessionEffect.{SessionEffect}
 use Rattle.zk_front.specs.declared.session_effect.SessionEffect.TheVariants as turns

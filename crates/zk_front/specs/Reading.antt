@@ -3,15 +3,15 @@
 -- it. No event overtakes the reply to the read that set its watch.
 use Rattle.std.specs.Prelude.{◌≡◌, ℕ, ℤ, List, [], ◌∷◌, ◌++◌, Option, Some, None}
 use Rattle.zk_servers.specs.Looking.{IsToldBefore}
-use Rattle.zk_chronicle.specs.declared.record.Receipt.{Receipt}
+use Rattle.zk_servers.specs.declared.record.Receipt.{Receipt}
 use Rattle.zk_line_protocol.specs.declared.ask.Ask.{Ask}
 use Rattle.zk_ensemble.specs.declared.outcome.Mark.{Mark}
 use Rattle.zk_ensemble.specs.declared.outcome.Outcome.{Outcome}
 use Rattle.zk_machine.specs.declared.change.Change.{Change}
 use Rattle.zk_model.specs.declared.event.Event.{Event}
-use Rattle.zk_service.specs.Asks.{event_of, session_of}
-use Rattle.zk_service.specs.declared.reply_kind.ReplyKind.{ReplyKind}
-use Rattle.zk_service.specs.declared.reply_kind.ReplyKind.TheVariants as seeks
+use Rattle.zk_front.specs.Asks.{event_of, session_of}
+use Rattle.zk_front.specs.declared.reply_kind.ReplyKind.{ReplyKind}
+use Rattle.zk_front.specs.declared.reply_kind.ReplyKind.TheVariants as seeks
 
 -- the last receipt is a read's, which happened at server 1 with this outcome: that of the ensemble
 -- right before it

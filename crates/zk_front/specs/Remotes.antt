@@ -7,14 +7,14 @@ use Rattle.zk_line_protocol.specs.declared.told.Reply.{Reply}
 use Rattle.zk_line_protocol.specs.declared.told.Reply.TheVariants as replies
 use Rattle.zk_line_protocol.specs.declared.told.ServiceFault.{ServiceFault}
 use Rattle.zk_line_protocol.specs.declared.told.Told.{Told}
-use Rattle.zk_service.specs.Asks.{event_of, session_of, sought_by}
-use Rattle.zk_service.specs.declared.reply_kind.ReplyKind.{ReplyKind}
-use Rattle.zk_service.specs.declared.reply_kind.ReplyKind.TheVariants as seeks
+use Rattle.zk_front.specs.Asks.{event_of, session_of, sought_by}
+use Rattle.zk_front.specs.declared.reply_kind.ReplyKind.{ReplyKind}
+use Rattle.zk_front.specs.declared.reply_kind.ReplyKind.TheVariants as seeks
 use Rattle.zk_prepare.specs.Deadlines.{expired_at}
 use Rattle.zk_model.specs.declared.answer.Answer.TheVariants.{Looked}
 use Rattle.zk_model.specs.declared.event.Event.{Event}
 use Rattle.zk_model.specs.declared.event.Event.TheVariants as events
-use Rattle.zk_chronicle.specs.declared.record.Receipt.{Receipt}
+use Rattle.zk_servers.specs.declared.record.Receipt.{Receipt}
 use Rattle.zk_front.specs.Calling.{Calling, Calls}
 use Rattle.zk_front.specs.Reading.{TellsEvents}
 use Rattle.zk_front.specs.Keeping.{Keeping, KeepsOrNot, all_let_go, heard, keeping_of, keeps_on, ready, turn_of}

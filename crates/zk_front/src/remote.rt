@@ -10,12 +10,12 @@ ghost use Rattle.zk_servers.specs.Turns.{numbers_of, numbers_told};
 use crate::request_driver::RequestDriver;
 use crate::seat_caller::SeatCaller;
 use crate::session_table::SessionTable;
+use crate::{Ask, Clock, Service, ServiceFault, Told};
 use std::alloc::Global;
 use std::sync::Wait;
 use std::sync::ledger::Ledger;
 use std::time;
 use zk_servers::{CallLedger, Mark, Receipt, Seat, Senders, Shared};
-use zk_service::{Ask, Clock, Service, ServiceFault, Told};
 
 /// A service over servers that run as threads: executes each ask at server 1, by calls of a seat,
 /// and keeps a receipt for each call.

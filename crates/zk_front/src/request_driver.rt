@@ -5,23 +5,23 @@ ghost use Rattle.zk_front.specs.Calling.{Calls};
 ghost use Rattle.zk_front.specs.Keeping.{KeepsOrNot, due_once, heard, keeping_of, kept, let_go, settled, turn_of};
 ghost use Rattle.zk_front.specs.Reading.{HasEventsOf, IsFound, IsToldReadBy};
 ghost use Rattle.zk_front.specs.Remotes.{AsksAt, Expires, IsTold, Misses, Stops, expiry, serving};
-ghost use Rattle.zk_service.specs.Asks.{event_of, session_of, sought_by};
-ghost use Rattle.zk_service.specs.declared.reply_kind.ReplyKind.TheVariants as seeks;
+ghost use Rattle.zk_front.specs.Asks.{event_of, session_of, sought_by};
+ghost use Rattle.zk_front.specs.declared.reply_kind.ReplyKind.TheVariants as seeks;
 ghost use Rattle.zk_prepare.specs.Deadlines.{expired_at};
 ghost use Rattle.zk_requests.specs.Timeouts.{clamp};
 
 use crate::seat_caller::SeatCaller;
 use crate::session_effect::{SessionEffect, turn_of};
 use crate::session_table::SessionTable;
+use crate::{
+    Ask, Events, HOME, Reply, ReplyKind, ServiceFault, Told, caught_by, event_of, service_fault_of,
+    session_of, sought_by,
+};
 use std::sync::Wait;
 use std::time;
 use zk_model::{Answered, Event};
 use zk_prepare::clamp;
 use zk_servers::{CallLedger, Mark, Outcome};
-use zk_service::{
-    Ask, Events, HOME, Reply, ReplyKind, ServiceFault, Told, caught_by, event_of, service_fault_of,
-    session_of, sought_by,
-};
 
 /// Executes asks: the calls, the sessions that are kept, and the number of the server's results and
 /// syncs that were read.

@@ -6,12 +6,12 @@ ghost use Rattle.zk_front.specs.Reading.{IsRead, IsReadBy};
 ghost use Rattle.zk_front.specs.Remotes.{TellsIn, TellsLast};
 ghost use Rattle.zk_servers.specs.Turns.{numbers_of, numbers_told};
 
+use crate::{HOME, Reply, ReplyKind, ServiceFault, looked_by, service_fault_of};
 use std::alloc::Global;
 use std::marker::Model;
 use std::sync::Wait;
 use zk_model::{Answer, EnsembleFault, Event};
 use zk_servers::{CallFault, CallLedger, Looked, Mark, Outcome, Receipt, Seat, Senders, Shared};
-use zk_service::{HOME, Reply, ReplyKind, ServiceFault, looked_by, service_fault_of};
 
 /// Calls by a seat, and keeps a receipt for each call.
 #[derive(Drop)]

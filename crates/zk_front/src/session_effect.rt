@@ -1,8 +1,8 @@
 ghost use Rattle.std.specs.Prelude.{◌≡◌};
 ghost use Rattle.zk_front.specs.Keeping.{turn_of};
 
+use crate::Ask;
 use zk_prepare::Request;
-use zk_service::Ask;
 
 /// The effect of a successful write on sessions.
 #[derive(Clone, Copy, Debug, Drop)]

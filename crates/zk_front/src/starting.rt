@@ -7,11 +7,11 @@ ghost use Rattle.zk_front.specs.Starting.{Arrives, Begins, followings};
 ghost use Rattle.zk_model.specs.declared.event.Event.TheVariants as events;
 
 use crate::seat_caller::{SeatCaller, sent_by};
+use crate::{HOME, ServiceFault, service_fault_of};
 use std::sync::Wait;
 use zab_model::Event as WorldEvent;
 use zk_model::{EnsembleFault, Event};
 use zk_servers::CallLedger;
-use zk_service::{HOME, ServiceFault, service_fault_of};
 
 /// The most messages that arrive until the servers are ready.
 const MOST_ARRIVALS: usize = 1_048_576;

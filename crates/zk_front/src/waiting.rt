@@ -1,11 +1,11 @@
 //! Waits for the outcome of a call at the server.
 
 use crate::seat_caller::SeatCaller;
+use crate::{HOME, ReplyKind, ServiceFault};
 use std::sync::Wait;
 use std::time::Duration;
 use std::{thread, time};
 use zk_servers::{CallLedger, Mark, Outcome};
-use zk_service::{HOME, ReplyKind, ServiceFault};
 
 /// The most times that the caller looks for a change.
 const MOST_LOOKS: u32 = 1_048_576;

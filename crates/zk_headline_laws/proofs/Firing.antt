@@ -3,7 +3,7 @@ use Rattle.std.proofs.Common.{◌≡◌, ◌≢◌, ℕ, ◌==◌, inl, inr, Boo
 use Rattle.std.proofs.lemmas.Bool.Decides.{nat_tests}
 use Rattle.std.proofs.lemmas.List.{append-nil, append_assoc}
 use Rattle.zab_epoch.specs.declared.history.Entry.{Entry}
-use Rattle.zab_quorums.specs.Quorums.{IsQuorumSystem}
+use Rattle.zab_epoch.specs.Quorums.{IsQuorumSystem}
 use Rattle.zab_laws.specs.Prefixes.{IsPrefix}
 use Rattle.zab_rule_laws.proofs.Hearing.{CarriesZxid}
 use Rattle.zab_agreement_laws.proofs.Deliveries.{no_deliveries_first, others_stay}

@@ -1,6 +1,6 @@
 -- One ensemble follows another in a run.
 use Rattle.std.proofs.Common.{◌≡◌, ℕ, Bool, List, ◌++◌, refl}
-use Rattle.zab_quorums.specs.Quorums.{IsQuorumSystem}
+use Rattle.zab_epoch.specs.Quorums.{IsQuorumSystem}
 use Rattle.zab_rule_laws.proofs.Telling.{all_append}
 use Rattle.zab_call_laws.proofs.Origins.{tagged_once}
 use Rattle.zab_call_laws.proofs.SyncRuns.{are_caught}

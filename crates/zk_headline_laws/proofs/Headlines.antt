@@ -4,7 +4,7 @@ use Rattle.std.proofs.lemmas.Bool.Decides.{nat_tests}
 use Rattle.std.specs.Int.{w64, cast_unsigned}
 use Rattle.std.proofs.lemmas.Int.{ints}
 use Rattle.zab_epoch.specs.declared.history.Entry.{Entry}
-use Rattle.zab_quorums.specs.Quorums.{IsQuorumSystem}
+use Rattle.zab_epoch.specs.Quorums.{IsQuorumSystem}
 use Rattle.zab_laws.specs.Prefixes.{IsPrefix, Rises}
 use Rattle.zab_laws.proofs.PrefixLaws.{prefix_refl, rises_front, prefix_take}
 use Rattle.zab_rule_laws.proofs.Hearing.{CarriesZxid}

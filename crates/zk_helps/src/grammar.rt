@@ -1,6 +1,8 @@
 //! The command line as `clap` reads it.
 
-use crate::helps::{ASKING, FAULTS, FlagHelp, OptionHelp, OrderHelp, READING, RUNNING, ValueHelp};
+use crate::helps::{
+    ASKING, EXPLAIN, FAULTS, FlagHelp, OptionHelp, OrderHelp, READING, RUNNING, ValueHelp,
+};
 use clap::{Arg, ArgAction, Command};
 use std::alloc::{AllocError, Global};
 
@@ -57,6 +59,7 @@ pub(crate) fn order_command<'a>(
         .after_help(order.notes);
     let command = with_flags(alloc, command, order.flags)?;
     let command = with_options(alloc, command, order.options)?;
+    let command = with_flags(alloc, command, &[EXPLAIN])?;
     with_values(alloc, command, order.values)
 }
 

@@ -63,7 +63,7 @@ pub(crate) const SHOW: OrderHelp = OrderHelp {
             required: true,
         },
     ],
-    flags: &[],
+    flags: &[JSON],
     options: &[LOGS],
 };
 
@@ -73,8 +73,8 @@ const LIST: OrderHelp = OrderHelp {
     about: "Prints the transactions of a data directory or a log, one line each",
     notes: LOG_NOTES,
     values: &[LOGS_OR_LOG],
-    flags: &[],
-    options: &[LOGS],
+    flags: &[JSON, FOLLOW],
+    options: &[TIME, LOGS],
 };
 
 const FILES: OrderHelp = OrderHelp {
@@ -93,7 +93,7 @@ const VERIFY: OrderHelp = OrderHelp {
     about: "Prints what is wrong with a data directory, and what helps",
     notes: VERIFY_NOTES,
     values: &[DIR],
-    flags: &[],
+    flags: &[JSON],
     options: &[LOGS],
 };
 
@@ -110,11 +110,14 @@ pub(crate) const HISTORY: OrderHelp = OrderHelp {
             required: true,
         },
     ],
-    flags: &[FlagHelp {
-        name: "r",
-        help: "Also those of all nodes below it, with the paths of the nodes",
-        without: "",
-    }],
+    flags: &[
+        FlagHelp {
+            name: "r",
+            help: "Also those of all nodes below it, with the paths of the nodes",
+            without: "",
+        },
+        JSON,
+    ],
     options: &[LOGS],
 };
 
@@ -141,7 +144,7 @@ pub(crate) const DIFF: OrderHelp = OrderHelp {
             required: false,
         },
     ],
-    flags: &[],
+    flags: &[JSON],
     options: &[LOGS],
 };
 
@@ -151,7 +154,7 @@ pub(crate) const TOP: OrderHelp = OrderHelp {
     about: "Prints the paths or the sessions of a data directory with the most writes",
     notes: TOP_NOTES,
     values: &[DIR],
-    flags: &[],
+    flags: &[JSON],
     options: &[
         OptionHelp {
             name: "by",
@@ -381,6 +384,34 @@ const LOG: ValueHelp = ValueHelp {
     name: "FILE",
     help: "The log: a path, or @ for standard input",
     required: true,
+};
+
+/// The option of every command that explains errors.
+pub(crate) const EXPLAIN: FlagHelp = FlagHelp {
+    name: "explain",
+    help: "Adds to an error's line a second one, with what it means and what helps",
+    without: "",
+};
+
+/// The option of objects in place of lines.
+const JSON: FlagHelp = FlagHelp {
+    name: "json",
+    help: "Prints one JSON object a line",
+    without: "",
+};
+
+/// The option of a list that goes on.
+const FOLLOW: FlagHelp = FlagHelp {
+    name: "follow",
+    help: "Goes on with what a server writes to the directory, until it is interrupted",
+    without: "",
+};
+
+/// The option of times in UTC.
+const TIME: OptionHelp = OptionHelp {
+    name: "time",
+    value: "FORM",
+    help: "Prints times in UTC, where FORM is iso; without --json",
 };
 
 /// The option that names where the debugger of a directory starts.

@@ -45,6 +45,8 @@ pub fn refusal_of<'a>(alloc: Global, words: &'a [&'a str]) -> Result<Refusal, Al
     let error = match refused_by_clap(alloc, words)? {
         Some(error) if names_any(words, &FORMS) => form_fault(alloc, error)?,
         Some(error) => error,
+        None if names(words, "--explain") => explain_fault(alloc)?,
+        None if words.get(1) == Some(&"list") => form_conflict(alloc)?,
         None if words.get(1) == Some(&"mend") => mend_fault(alloc)?,
         None if words.get(1) == Some(&"serve") => serve_fault(alloc)?,
         None if words.get(1) == Some(&"ensemble") => ensemble_fault(alloc)?,
@@ -64,14 +66,24 @@ fn refused_by_clap<'a>(alloc: Global, words: &'a [&'a str]) -> Result<Option<Err
     Ok(command(alloc)?.try_get_matches_from(words).err())
 }
 
-/// The options of the form of lines, which `clap` does not know: they are read before it.
+/// The options of the form of lines, each of which `clap` knows only where a command has it.
 const FORMS: [&str; 3] = ["--json", "--time", "--follow"];
 
-/// The error of `clap`, or what it means where it does not know an option of the form.
+/// The error of `clap`, or what it means where a command does not have an option of the form.
 fn form_fault(alloc: Global, error: Error) -> Result<Error, AllocError> {
     if error.kind() != ErrorKind::UnknownArgument {
         return Ok(error);
     }
+    form_conflict(alloc)
+}
+
+/// The first of these options was read before.
+fn explain_fault(alloc: Global) -> Result<Error, AllocError> {
+    command(alloc)?.error(ErrorKind::ArgumentConflict, "--explain is given once")
+}
+
+/// Options of the form that do not go together.
+fn form_conflict(alloc: Global) -> Result<Error, AllocError> {
     command(alloc)?.error(
         ErrorKind::ArgumentConflict,
         "--json is for show, list, history, top, verify and diff, --time iso for list without --json, and --follow for list of a directory; each is given once",

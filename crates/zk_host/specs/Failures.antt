@@ -2,10 +2,10 @@
 use Rattle.std.specs.Prelude.{◌≡◌, ◌<◌, true, int_lt, [], length}
 use Rattle.zab_epoch.specs.declared.stable.Stable.{Stable}
 use Rattle.zab_host.specs.Hosts.{IsStored}
-use Rattle.zk_host.specs.declared.fault.ReadFault.{ReadFault}
-use Rattle.zk_host.specs.declared.fault.ReadFault.TheVariants as read_faults
-use Rattle.zk_host.specs.declared.fault.ReleaseFault.{ReleaseFault}
-use Rattle.zk_host.specs.declared.fault.ReleaseFault.TheVariants as release_faults
+use Rattle.zk_host.specs.declared.host_fault.ReadFault.{ReadFault}
+use Rattle.zk_host.specs.declared.host_fault.ReadFault.TheVariants as read_faults
+use Rattle.zk_host.specs.declared.host_fault.ReleaseFault.{ReleaseFault}
+use Rattle.zk_host.specs.declared.host_fault.ReleaseFault.TheVariants as release_faults
 use Rattle.zk_host.specs.declared.replica_host.ReplicaHost.{ReplicaHost}
 use Rattle.zk_host.specs.Delivered.{delivered_in}
 use Rattle.zk_host.specs.WatchedTrees.{WatchedTreeView}

@@ -1,7 +1,8 @@
 use crate::closings::closed_by;
-use crate::fault::{ReadFault, ReleaseFault};
+use crate::host_fault::{ReadFault, ReleaseFault};
 use crate::news::News;
 use crate::watched_tree::WatchedTree;
+use crate::{Fate, RecordFault, Steps, Tape};
 use std::alloc::Global;
 use zab_broadcast::{Caught, CaughtSyncs};
 use zab_epoch::{Message, Messages, Quorums, Role};
@@ -9,7 +10,6 @@ use zab_host::{Host, HostFault, ReceiveFault, Storage, StoreFault, TagIssuer, Vo
 use zk_machine::Machine;
 use zk_model::{Preparer, Question};
 use zk_path::NoMemory;
-use zk_recorder::{Fate, RecordFault, Steps, Tape};
 use zk_requests::Call;
 use zk_table::ReadReply;
 use zk_tree::Tree;
@@ -52,8 +52,8 @@ impl<S: Storage> ReplicaHost<S> {
     ghost use Rattle.zk_host.specs.WatchedTrees.{new_tree, after_entries, after_read, after_close};
     ghost use Rattle.zk_host.specs.Failures.{ReleaseFails, CannotRead};
     ghost use Rattle.zk_table.specs.States.{start_state};
-    ghost use Rattle.zk_host.specs.declared.fault.ReleaseFault.TheVariants as faults;
-    ghost use Rattle.zk_host.specs.declared.fault.ReadFault.TheVariants as read_faults;
+    ghost use Rattle.zk_host.specs.declared.host_fault.ReleaseFault.TheVariants as faults;
+    ghost use Rattle.zk_host.specs.declared.host_fault.ReadFault.TheVariants as read_faults;
 
     /// Starts a host on what its store recovers, with an empty tree. `me` numbers the host from 1;
     /// its tags carry the number's lowest 8 bits.

@@ -13,8 +13,8 @@ use Rattle.zab_model.specs.declared.event.Event.{Event}
 use Rattle.zab_model.specs.ProcessStates.{ProcessState}
 use Rattle.zab_model.specs.Runs.{run, delivered_list, history_list, delivered_of, history_of}
 use Rattle.zab_model.specs.Worlds.{World, Profile, server_at}
-use Rattle.zab_recovery.specs.Hosts.{Network, Step, new_network, after_step, after_steps, MayStepAll, HostsAreARun}
-use Rattle.zab_recovery_laws.specs.Agreement.{HostsAgree}
+use Rattle.zab_host_laws.specs.Hosts.{Network, Step, new_network, after_step, after_steps, MayStepAll, HostsAreARun}
+use Rattle.zab_host_laws.specs.Agreement.{HostsAgree}
 use Rattle.zk_headline_laws.specs.Headline.{last_zxid}
 use Rattle.zk_headline_laws.proofs.ReadLaws.{earlier_is_prefix, last_of_the_list}
 use Rattle.zk_host_laws.specs.HostTrees.{HostEnsemble, new_hosts, Action, Steps, Releases, Forgets, Reads, Closes, Takes, steps_of, MayAct, after_action, after_actions, hosts_after, shown_by}

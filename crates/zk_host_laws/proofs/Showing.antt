@@ -11,8 +11,8 @@ use Rattle.zab_laws.specs.Prefixes.{IsPrefix}
 use Rattle.zab_laws.proofs.PrefixLaws.{prefix_length}
 use Rattle.zab_model.specs.Runs.{delivered_list, delivered_of}
 use Rattle.zab_model.specs.Worlds.{Profile}
-use Rattle.zab_recovery.specs.Hosts as steps
-use Rattle.zab_recovery.specs.Hosts.{Network, Step, new_network, after_step, after_steps, MayStepAll, calls_after, syncs_after}
+use Rattle.zab_host_laws.specs.Hosts as steps
+use Rattle.zab_host_laws.specs.Hosts.{Network, Step, new_network, after_step, after_steps, MayStepAll, calls_after, syncs_after}
 use Rattle.zk_host.specs.declared.news.News.{News}
 use Rattle.zk_host.specs.WatchedTrees.{WatchedTreeView, after_entries, after_read, after_close}
 use Rattle.zk_host_laws.specs.Traces.{TraceItem, Delivers, Answers, Disconnects, trace_entries, unwatched, results_in}

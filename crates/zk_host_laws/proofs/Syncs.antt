@@ -11,7 +11,7 @@ use Rattle.zab_laws.proofs.PrefixLaws.{prefix_by_length, prefix_take}
 use Rattle.zab_model.specs.declared.event.Event.{Event}
 use Rattle.zab_model.specs.Runs.{run, delivered_of, delivered_after, syncs_of}
 use Rattle.zab_model.specs.Worlds.{World, Profile}
-use Rattle.zab_recovery.specs.Hosts.{Network, new_network, after_steps}
+use Rattle.zab_host_laws.specs.Hosts.{Network, new_network, after_steps}
 use Rattle.zk_host_laws.specs.HostTrees.{HostEnsemble, Action, Releases, steps_of, after_action, hosts_after, shown_by}
 use Rattle.zk_host_laws.specs.Guarantees.{SyncsAreShown, SyncedReadsAreCurrent}
 use Rattle.zk_host_laws.proofs.Orders.{network_is}

@@ -3,7 +3,7 @@ use Rattle.std.specs.Prelude.{ℕ, ◌==◌, int_lt, List, [], ◌∷◌, ◌++�
 use Rattle.zab_epoch.specs.declared.history.Entry.{Entry}
 use Rattle.zab_model.specs.Runs.{delivered_of}
 use Rattle.zab_model.specs.Worlds.{Profile}
-use Rattle.zab_recovery.specs.Hosts.{Network, Step, Restarts, new_network, after_step, MayStepAll}
+use Rattle.zab_host_laws.specs.Hosts.{Network, Step, Restarts, new_network, after_step, MayStepAll}
 use Rattle.zk_host.specs.declared.news.News.{News}
 use Rattle.zk_host.specs.WatchedTrees.{WatchedTreeView, new_tree, after_entries, after_read, after_close}
 use Rattle.zk_host_laws.specs.Traces.{TraceItem, Delivers, Answers, Disconnects}

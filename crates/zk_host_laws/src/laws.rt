@@ -3,9 +3,7 @@ ghost use Rattle.zk_model.specs.Ensembles.{profile_by};
 
 use zab_agreement_laws::runs_agree;
 use zab_epoch::Quorums;
-use zab_host_laws::{host_syncs_catch_up, hosts_never_go_back};
-use zab_recovery::hosts_are_a_run;
-use zab_recovery_laws::hosts_agree;
+use zab_host_laws::{host_syncs_catch_up, hosts_agree, hosts_are_a_run, hosts_never_go_back};
 use zk_model::Preparer;
 
 /// A host's tree is the table's over what its server has delivered up to its last release.

@@ -4,14 +4,14 @@ use Rattle.std.specs.String.{string_bytes}
 use Rattle.zk_newer_records.specs.declared.newer_record.NewerRecord.{NewerRecord}
 use Rattle.zk_record_folds.specs.Folds.{AllFollow}
 use Rattle.zk_incidents.specs.Counts.{Counted, counted_all, counted_one}
-use Rattle.zk_incidents.specs.Histories.{Follows, IsHistoryFrom, IsHistoryOf}
+use Rattle.zk_incidents.specs.Histories.{Follows, IsHistoryFrom}
 use Rattle.zk_incidents.specs.Owners.{Owned}
 use Rattle.zk_incidents.specs.Tops.{Counts, all_keys, keys_in, rows_text, top_text}
-use Rattle.zk_incidents.specs.declared.history.History.{History}
+use Rattle.zk_incidents.specs.declared.history_fold.History.{History}
 use Rattle.zk_incidents.specs.declared.range.Range.{Range}
 use Rattle.zk_incidents.specs.declared.scope.Scope.{Scope}
-use Rattle.zk_incidents.specs.declared.top.Key.{Key}
-use Rattle.zk_incidents.specs.declared.top.Top.{Top}
+use Rattle.zk_incidents.specs.declared.top_fold.Key.{Key}
+use Rattle.zk_incidents.specs.declared.top_fold.Top.{Top}
 
 -- ---- a history
 
@@ -27,14 +27,13 @@ told_from start new (newer ∷ records) f =
     let rest = subst (λ (scope : Scope). IsToldFrom scope next.owners records more.0) f.1.scope more.1 in
     (line.0 ++ more.0, (line.0, more.0, line.1, subst (λ (owned : Owned). IsToldFrom start.scope owned records more.0) f.1.owners rest, refl), more.2 ∙ ap (λ l. l ++ more.0) line.2 ∙ append_assoc (string_bytes start.text) line.0 more.0)
 
-told_by : (scope : Scope) (owned : Owned) (records : List NewerRecord) (text told : List ℕ) → owned ≡ [] → text ≡ told → IsToldFrom scope owned records told → IsHistoryOf (string_bytes scope.root) scope.below records text
-told_by scope owned records text told none is h = subst (λ (l : List ℕ). IsToldFrom scope [] records l) (sym is) (subst (λ (o : Owned). IsToldFrom scope o records told) none h)
-
-pub history_told : (root : List ℕ) (start new : History) (records : List NewerRecord) → string_bytes start.scope.root ≡ root → start.owners ≡ [] → string_bytes start.text ≡ [] → AllFollow Follows start records new → IsHistoryOf root start.scope.below records (string_bytes new.text)
-history_told root start new records of none empty f =
+pub history_told : (root : List ℕ) (owned : Owned) (start new : History) (records : List NewerRecord) → string_bytes start.scope.root ≡ root → start.owners ≡ owned → string_bytes start.text ≡ [] → AllFollow Follows start records new
+    → IsHistoryFrom root start.scope.below owned records (string_bytes new.text)
+history_told root owned start new records of from empty f =
     let told = told_from start new records f in
-    subst (λ (l : List ℕ). IsHistoryOf l start.scope.below records (string_bytes new.text)) of
-    (told_by start.scope start.owners records (string_bytes new.text) told.0 none (told.2 ∙ ap (λ l. l ++ told.0) empty) told.1)
+    let text = told.2 ∙ ap (λ l. l ++ told.0) empty in
+    subst (λ (l : List ℕ). IsHistoryFrom l start.scope.below owned records (string_bytes new.text)) of
+    (subst (λ (o : Owned). IsToldFrom start.scope o records (string_bytes new.text)) from (subst (λ (l : List ℕ). IsToldFrom start.scope start.owners records l) (sym text) told.1))
 
 -- ---- counts
 

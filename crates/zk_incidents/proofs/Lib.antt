@@ -3,3 +3,7 @@ pub mod Lined
 pub mod Ranked
 pub mod Repeated
 pub mod Texts
+pub mod Listed
+pub mod Sums
+pub mod Compared
+pub mod Owning

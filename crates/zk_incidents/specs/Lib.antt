@@ -1,8 +1,18 @@
 -- What the contracts of this crate cite.
+-- The statements of the laws.
+pub mod Comparisons
+pub mod Lines
 pub mod Counts
+pub mod FirstOwners
 pub mod Histories
 pub mod Owners
 pub mod Ranges
 pub mod Tops
 pub mod Within
 pub mod Writes
+pub mod CountSums
+pub mod Listings
+pub mod ComparisonReports
+pub mod Reporting
+pub mod HistoryReports
+pub mod TopReports

@@ -7,9 +7,9 @@ use Rattle.zk_incidents.specs.Counts.{Counted, counted_all, ranked_all, rows_of}
 use Rattle.zk_incidents.specs.Ranges.{is_in}
 use Rattle.zk_incidents.specs.Writes.{written}
 use Rattle.zk_incidents.specs.declared.range.Range.{Range}
-use Rattle.zk_incidents.specs.declared.top.Key.{Key}
-use Rattle.zk_incidents.specs.declared.top.Key.TheVariants as keys
-use Rattle.zk_incidents.specs.declared.top.Top.{Top}
+use Rattle.zk_incidents.specs.declared.top_fold.Key.{Key}
+use Rattle.zk_incidents.specs.declared.top_fold.Key.TheVariants as keys
+use Rattle.zk_incidents.specs.declared.top_fold.Top.{Top}
 use Rattle.zk_newer_records.specs.declared.newer_record.NewerRecord.{NewerRecord}
 
 -- ---- the writes

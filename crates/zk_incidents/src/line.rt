@@ -2,21 +2,43 @@
 ghost use Rattle.std.specs.Prelude.{◌≡◌, ◌++◌, ◌∷◌, OnOk, map};
 ghost use Rattle.std.specs.String.{string_bytes};
 ghost use Rattle.zk_format.specs.Spelling.{id_digits};
-ghost use Rattle.zk_incidents.specs.Histories.{AppendsLineBy, entry_text, expiry_of, head_text, op_word, path_text, paths_text};
+ghost use Rattle.zk_incidents.specs.Histories.{AppendsLineBy, create_word, delete_word, entry_text, expiry_of, head_text, is_expiry, op_word, path_text, paths_text};
 
 use zk_format::{push_id, push_quoted};
+use zk_json::push_time;
+use zk_newer_records::{Encoding, NewerRecord};
 use zk_path::NoMemory;
-use zk_times::push_time;
 use zk_txn::{Op, Txn};
 
-/// The word of an operation in a listing.
-fn op_word(op: &Op) -> &'static str
-    ensures { result.now ≡ op_word op.now }
+/// The word of a create, by its encoding.
+fn create_word(form: &Encoding) -> &'static str
+    ensures { result.now ≡ create_word form.now }
+{
+    match form {
+        Encoding::Container => "createContainer",
+        Encoding::Ttl { .. } => "createTtl",
+        _ => "create",
+    }
+}
+
+/// The word of a delete, by its encoding.
+fn delete_word(form: &Encoding) -> &'static str
+    ensures { result.now ≡ delete_word form.now }
+{
+    match form {
+        Encoding::DeletedContainer => "deleteContainer",
+        _ => "delete",
+    }
+}
+
+/// The word of an operation.
+pub fn op_word(op: &Op, form: &Encoding) -> &'static str
+    ensures { result.now ≡ op_word op.now form.now }
 {
     match op {
-        Op::Create { .. } => "create",
+        Op::Create { .. } => create_word(form),
         Op::CreateOld { .. } => "create0",
-        Op::Delete { .. } => "delete",
+        Op::Delete { .. } => delete_word(form),
         Op::SetData { .. } => "setData",
         Op::SetAcl { .. } => "setACL",
         Op::OpenSession { .. } => "createSession",
@@ -27,23 +49,30 @@ fn op_word(op: &Op) -> &'static str
 }
 
 /// Appends a space and the word of an operation.
-fn push_word(text: &mut String, op: &Op) -> Result<(), NoMemory>
-    ensures { OnOk result (string_bytes text.new ≡ string_bytes text.old ++ 32 ∷ op_word op.now) }
+fn push_word(text: &mut String, op: &Op, form: &Encoding) -> Result<(), NoMemory>
+    ensures { OnOk result (string_bytes text.new ≡ string_bytes text.old ++ 32 ∷ op_word op.now form.now) }
 {
     text.push(' ')?;
-    text.push_str(op_word(op))?;
+    text.push_str(op_word(op, form))?;
     Ok(())
+}
+
+/// Whether an operation closes a session that had expired.
+pub fn is_expiry(cxid: i32, op: &Op) -> bool
+    ensures { result ≡ is_expiry cxid op.now }
+{
+    match op {
+        Op::CloseSession => cxid == 0,
+        _ => false,
+    }
 }
 
 /// Appends whether a session that was closed had expired.
 fn push_expiry(text: &mut String, cxid: i32, op: &Op) -> Result<(), NoMemory>
     ensures { OnOk result (string_bytes text.new ≡ string_bytes text.old ++ expiry_of cxid op.now) }
 {
-    match op {
-        Op::CloseSession => if cxid == 0 {
-            text.push_str(" expired")?
-        },
-        _ => {}
+    if is_expiry(cxid, op) {
+        text.push_str(" expired")?;
     }
     Ok(())
 }
@@ -79,39 +108,44 @@ fn push_paths(text: &mut String, below: bool, paths: &[&str]) -> Result<(), NoMe
 }
 
 /// Appends the zxid, the operation and the session.
-fn push_head(text: &mut String, txn: &Txn) -> Result<(), NoMemory>
-    ensures { OnOk result (string_bytes text.new ≡ string_bytes text.old ++ head_text txn.now) }
+fn push_head(text: &mut String, txn: &Txn, form: &Encoding) -> Result<(), NoMemory>
+    ensures { OnOk result (string_bytes text.new ≡ string_bytes text.old ++ head_text txn.now form.now) }
 {
     push_next_id(text, txn.zxid)?;
-    push_word(text, &txn.op)?;
+    push_word(text, &txn.op, form)?;
     push_next_id(text, txn.session)?;
     push_expiry(text, txn.cxid, &txn.op)
 }
 
 /// Appends what follows the time.
 #[tactic(auto, unfolding(crate::specs::Histories::entry_text))]
-fn push_entry(text: &mut String, below: bool, paths: &[&str], txn: &Txn) -> Result<(), NoMemory>
-    ensures { OnOk result (string_bytes text.new ≡ string_bytes text.old ++ entry_text below (map (λ path. path.now) paths.now) txn.now) }
+fn push_entry(
+    text: &mut String,
+    below: bool,
+    paths: &[&str],
+    newer: &NewerRecord,
+) -> Result<(), NoMemory>
+    ensures { OnOk result (string_bytes text.new ≡ string_bytes text.old ++ entry_text below (map (λ path. path.now) paths.now) newer.now) }
 {
-    push_head(text, txn)?;
+    push_head(text, &newer.txn, &newer.form)?;
     push_paths(text, below, paths)?;
     text.push('\n')?;
     Ok(())
 }
 
-/// Appends the line of a transaction that creates, changes or deletes the nodes at these paths; none
-/// for no path.
+/// Appends the line of a record that creates, changes or deletes the nodes at these paths; none for
+/// no path.
 pub(crate) fn push_line(
     text: &mut String,
     below: bool,
     paths: &[&str],
-    txn: &Txn,
+    newer: &NewerRecord,
 ) -> Result<(), NoMemory>
-    ensures { OnOk result (AppendsLineBy below (map (λ path. path.now) paths.now) txn.now (string_bytes text.old) (string_bytes text.new)) }
+    ensures { OnOk result (AppendsLineBy below (map (λ path. path.now) paths.now) newer.now (string_bytes text.old) (string_bytes text.new)) }
 {
     if paths.is_empty() {
         return Ok(());
     }
-    push_time(text, txn.time)?;
-    push_entry(text, below, paths, txn)
+    push_time(text, newer.txn.time)?;
+    push_entry(text, below, paths, newer)
 }

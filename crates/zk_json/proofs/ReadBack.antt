@@ -1,5 +1,5 @@
 -- The objects of lines are read back from their texts: none nests deeper than a reader allows.
-use Rattle.std.proofs.Common.{◌≡◌, ◌≤◌, ℕ, ℤ, suc, Bool, true, false, List, [], ◌∷◌, ◌++◌, Option, Some, None, Result, Ok, Err, OnOk, map, refl, sym, ap, ◌∙◌, subst, append-nil, arith}
+use Rattle.std.proofs.Common.{◌≡◌, ◌≤◌, ℕ, ℤ, suc, Bool, true, false, List, [], ◌∷◌, ◌++◌, ◌++◌, Option, Some, None, Result, Ok, Err, OnOk, map, refl, sym, ap, ◌∙◌, subst, append-nil, arith}
 use Rattle.std.proofs.Math.Nat.{max-le}
 use Rattle.std.specs.Prelude.{codes, decimal, option_and_then}
 use Rattle.std.proofs.lemmas.Result.{on_ok_weaker}
@@ -21,7 +21,7 @@ use Rattle.zk_txn.specs.declared.txn.Op.{Op}
 use Rattle.zk_txn.specs.declared.txn.Op.TheVariants as ops
 use Rattle.zk_txn.specs.declared.txn.Txn.{Txn}
 use Rattle.zk_json.specs.Changes.{AppendsChange, AppendsChangeLine, IsChange, IsLast, IsSide, change_of, fields_of_change, last_fields, last_of}
-use Rattle.zk_json.specs.Incidents.{count_of, history_of}
+use Rattle.zk_json.specs.Incidents.{change_fields, count_of, history_of}
 use Rattle.zk_json.specs.Json.{AppendsLineOf, Fields, acl_entry_fields, acl_entry_of, acl_of, data_of, items_of, members_of, object_of, strings_of, text_by, text_of}
 use Rattle.zk_json.specs.Nodes.{node_fields, node_of}
 use Rattle.zk_json.specs.Objects.{field_of, value_of}
@@ -102,10 +102,10 @@ record_shallow time txn = (zero_le 6, (zero_le 6, (zero_le 6, (zero_le 6, op_sha
 pub record_depth : (time : List ℕ) (txn : Txn) → depth (record_of time txn) ≤ max_depth
 record_depth time txn = let inner = shallow_object 6 (record_fields time txn) (record_shallow time txn) in omega arith
 
-pub history_depth : (time : List ℕ) (paths : List (List ℕ)) (txn : Txn) → depth (history_of time paths txn) ≤ max_depth
-history_depth time paths txn =
+pub history_depth : (time : List ℕ) (paths : List (List ℕ)) (kind : List ℕ) (expired : Bool) (txn : Txn) → depth (history_of time paths kind expired txn) ≤ max_depth
+history_depth time paths kind expired txn =
     let first : depth (strings_of paths) ≤ 6 = (let one = strings_depth paths in omega arith) in
-    let inner = shallow_object 6 ((codes "paths", strings_of paths) ∷ record_fields time txn) (first, record_shallow time txn) in omega arith
+    let inner = shallow_object 6 (change_fields paths kind expired ++ record_fields time txn) (first, (zero_le 6, (zero_le 6, record_shallow time txn))) in omega arith
 
 pub held_depth : (ctime mtime path : List ℕ) (node : Node) (stat : Stat) → depth (node_of ctime mtime path node stat) ≤ 5
 held_depth ctime mtime path node stat =

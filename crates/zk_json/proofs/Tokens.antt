@@ -9,7 +9,7 @@ use Rattle.json.specs.Token.{Token, begin_array, begin_object, end_array, end_ob
 use Rattle.json.specs.Tree.{json_tokens, items_tokens, members_tokens}
 use Rattle.zk_acl.specs.declared.stat.Stat.{Stat}
 use Rattle.zk_path.specs.declared.memory.NoMemory.{NoMemory}
-use Rattle.zk_times.specs.Times.{AppendsTime, IsTimeText}
+use Rattle.zk_json.specs.Times.{AppendsTime, IsTimeText}
 use Rattle.zk_txn.specs.declared.node.Node.{Node}
 use Rattle.zk_json.specs.Changes.{AppendsChange, AppendsLast, AppendsSide, change_of, fields_of_change, last_of}
 use Rattle.zk_json.specs.declared.changes.LastChange.{LastChange}

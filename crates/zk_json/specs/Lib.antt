@@ -1,4 +1,5 @@
 -- What the contracts of this crate cite.
+pub mod Times
 pub mod Json
 pub mod Records
 pub mod Nodes

@@ -3,7 +3,7 @@
 use Rattle.std.specs.Prelude.{◌≡◌, ℕ, ℤ, Bool, List, [], ◌∷◌, ◌++◌, map, codes, Option}
 use Rattle.json.specs.Json.{Json, boolean, string}
 use Rattle.zk_acl.specs.declared.acl.Acl.{Acl}
-use Rattle.zk_times.specs.Times.{IsTimeText}
+use Rattle.zk_json.specs.Times.{IsTimeText}
 use Rattle.zk_txn.specs.declared.sub.Sub.{Sub}
 use Rattle.zk_txn.specs.declared.sub.Sub.TheVariants as subs
 use Rattle.zk_txn.specs.declared.txn.Op.{Op}

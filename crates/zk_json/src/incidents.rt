@@ -4,10 +4,10 @@ ghost use Rattle.std.specs.List.{flat_map};
 ghost use Rattle.std.specs.String.{string_bytes};
 ghost use Rattle.json.specs.Json as values;
 ghost use Rattle.json.specs.Tree.{json_tokens};
-ghost use Rattle.zk_json.specs.Incidents.{AppendsHistoryLine, count_of, history_of};
+ghost use Rattle.zk_json.specs.Incidents.{AppendsHistoryLine, change_fields, count_of, history_of};
 ghost use Rattle.zk_json.specs.Json.{AppendsLineOf, fields_tokens, strings_of};
 
-use crate::fields::{push_count_field, push_text_field};
+use crate::fields::{push_boolean_field, push_count_field, push_text_field};
 use crate::json_text::{JsonText, push_text_line};
 use crate::records::{push_record_fields, time_text};
 use zk_path::NoMemory;
@@ -34,24 +34,53 @@ fn push_paths_field(json: &mut JsonText, paths: &[&str]) -> Result<(), NoMemory>
     json.close_array()
 }
 
-/// Appends a transaction of a history.
-fn push_history(json: &mut JsonText, time: &str, paths: &[&str], txn: &Txn) -> Result<(), NoMemory>
+/// Appends the fields of a change: the nodes, its kind, and whether a session expired.
+fn push_change_fields(
+    json: &mut JsonText,
+    paths: &[&str],
+    kind: &str,
+    expired: bool,
+) -> Result<(), NoMemory>
     ensures { OnOk result (json.new.writer.tokens ≡ json.old.writer.tokens
-        ++ json_tokens (history_of time.now (map (λ path. path.now) paths.now) txn.now)) }
+        ++ fields_tokens (change_fields (map (λ path. path.now) paths.now) kind.now expired)) }
+{
+    push_paths_field(json, paths)?;
+    push_text_field(json, "kind", kind)?;
+    push_boolean_field(json, "expired", expired)
+}
+
+/// Appends a transaction of a history.
+fn push_history(
+    json: &mut JsonText,
+    time: &str,
+    paths: &[&str],
+    kind: &str,
+    expired: bool,
+    txn: &Txn,
+) -> Result<(), NoMemory>
+    ensures { OnOk result (json.new.writer.tokens ≡ json.old.writer.tokens
+        ++ json_tokens (history_of time.now (map (λ path. path.now) paths.now) kind.now expired txn.now)) }
 {
     json.open_object()?;
-    push_paths_field(json, paths)?;
+    push_change_fields(json, paths, kind, expired)?;
     push_record_fields(json, time, txn)?;
     json.close_object()
 }
 
 /// Appends the line of a transaction that creates, changes or deletes the nodes at these paths: an
-/// object with `paths`, and the fields of [`push_record_line`](crate::push_record_line).
-pub fn push_history_line(text: &mut String, paths: &[&str], txn: &Txn) -> Result<(), NoMemory>
-    ensures { OnOk result (AppendsHistoryLine (map (λ path. path.now) paths.now) txn.now (string_bytes text.old) (string_bytes text.new)) }
+/// object with `paths`, `kind` and `expired`, and the fields of
+/// [`push_record_line`](crate::push_record_line).
+pub fn push_history_line(
+    text: &mut String,
+    paths: &[&str],
+    kind: &str,
+    expired: bool,
+    txn: &Txn,
+) -> Result<(), NoMemory>
+    ensures { OnOk result (AppendsHistoryLine (map (λ path. path.now) paths.now) kind.now expired txn.now (string_bytes text.old) (string_bytes text.new)) }
 {
     let time = time_text(*text.allocator(), txn.time)?;
-    push_timed_history(text, time.as_str(), paths, txn)
+    push_timed_history(text, time.as_str(), paths, kind, expired, txn)
 }
 
 /// Appends the line of a transaction of a history, with the text of its time.
@@ -59,12 +88,14 @@ fn push_timed_history(
     text: &mut String,
     time: &str,
     paths: &[&str],
+    kind: &str,
+    expired: bool,
     txn: &Txn,
 ) -> Result<(), NoMemory>
-    ensures { OnOk result (AppendsLineOf (history_of time.now (map (λ path. path.now) paths.now) txn.now) (string_bytes text.old) (string_bytes text.new)) }
+    ensures { OnOk result (AppendsLineOf (history_of time.now (map (λ path. path.now) paths.now) kind.now expired txn.now) (string_bytes text.old) (string_bytes text.new)) }
 {
     let mut json = JsonText::new(*text.allocator())?;
-    push_history(&mut json, time, paths, txn)?;
+    push_history(&mut json, time, paths, kind, expired, txn)?;
     push_text_line(text, json)
 }
 

@@ -4,3 +4,5 @@ pub mod Histories
 pub mod Logs
 pub mod Nodes
 pub mod Tops
+pub mod Differences
+pub mod Verifications

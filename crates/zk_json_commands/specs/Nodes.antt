@@ -3,11 +3,11 @@ use Rattle.std.specs.Prelude.{ℕ, List, Option, Result, Ok, Err, String}
 use Rattle.std.specs.FinMap.{entries}
 use Rattle.std.specs.Global.{Global}
 use Rattle.std.specs.String.{string_bytes}
-use Rattle.zk_directory_commands.specs.Histories.{Holds}
-use Rattle.zk_directory_commands.specs.declared.history.Shown.{Shown}
-use Rattle.zk_directory_commands.specs.declared.upto.Upto.{Upto}
-use Rattle.zk_folder_commands.specs.declared.fault.HistoryFault.{HistoryFault}
-use Rattle.zk_folder_commands.specs.declared.fault.HistoryFault.TheVariants as faults
+use Rattle.zk_directory_state.specs.Histories.{Holds}
+use Rattle.zk_directory_state.specs.declared.history.Shown.{Shown}
+use Rattle.zk_directory_state.specs.declared.upto.Upto.{Upto}
+use Rattle.zk_directory_files.specs.declared.fault.HistoryFault.{HistoryFault}
+use Rattle.zk_directory_files.specs.declared.fault.HistoryFault.TheVariants as faults
 use Rattle.zk_json.specs.Nodes.{AppendsNodeLine, IsNodeLine}
 use Rattle.zk_path.specs.declared.memory.NoMemory.{NoMemory}
 use Rattle.zk_records.specs.declared.sink.Sink.{Sink}

@@ -3,13 +3,13 @@ use Rattle.std.specs.Prelude.{◌≡◌, ◌==◌, ℕ, List, [], ◌∷◌, ◌
 use Rattle.std.specs.Global.{Global}
 use Rattle.std.specs.Str.{bytes_eq}
 use Rattle.std.specs.String.{string_bytes}
-use Rattle.zk_directory_records.specs.Records.{AreRecordsIn, HaveNoRecords}
-use Rattle.zk_folder_commands.specs.declared.fault.HistoryFault.{HistoryFault}
+use Rattle.zk_directory_state.specs.Records.{AreRecordsIn, HaveNoRecords}
+use Rattle.zk_directory_files.specs.declared.fault.HistoryFault.{HistoryFault}
 use Rattle.zk_incidents.specs.Counts.{Counted, counted_all, ranked_all, rows_of}
 use Rattle.zk_incidents.specs.Tops.{all_keys, first_rows}
 use Rattle.zk_incidents.specs.declared.range.Range.{Range}
-use Rattle.zk_incidents.specs.declared.top.Key.{Key}
-use Rattle.zk_incidents.specs.declared.top.Key.TheVariants as keys
+use Rattle.zk_incidents.specs.declared.top_fold.Key.{Key}
+use Rattle.zk_incidents.specs.declared.top_fold.Key.TheVariants as keys
 use Rattle.zk_json.specs.Incidents.{count_of}
 use Rattle.zk_json.specs.Json.{IsLineOf}
 use Rattle.zk_newer_records.specs.declared.newer_record.NewerRecord.{NewerRecord}

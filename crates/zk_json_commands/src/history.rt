@@ -6,10 +6,9 @@ ghost use Rattle.zk_records.specs.Sinks.{write_failures_of};
 use crate::history_lines::HistoryLines;
 use std::alloc::Global;
 use std::io::Write;
-use zk_directory_records::fold_directory;
-use zk_folder::Folder;
-use zk_folder_commands::{HistoryFault, put_text, tell_fault};
-use zk_incidents::Scope;
+use zk_directory_files::{Folder, HistoryFault, put_text, tell_fault};
+use zk_directory_state::fold_directory;
+use zk_incidents::{Scope, first_owners};
 use zk_log::Sink;
 use zk_path::NoMemory;
 
@@ -22,20 +21,22 @@ fn lines_of<S: Folder, L: Folder>(
     path: &str,
     below: bool,
 ) -> Result<String, HistoryFault>
-    ensures { FindsHistory path.now below (S.names_in snapshots.now) (L.names_in logs.now) (L.bytes_in logs.now) result }
+    ensures { FindsHistory path.now below (S.names_in snapshots.now) (S.bytes_in snapshots.now) (L.names_in logs.now) (L.bytes_in logs.now) result }
 {
     let scope = Scope::new(alloc, path, below)?;
-    let mut lines = HistoryLines::new(alloc, scope);
+    let owners = first_owners(alloc, snapshots)?;
+    let mut lines = HistoryLines::new(alloc, scope, owners);
     fold_directory(alloc, snapshots, logs, &mut lines)?;
     Ok(lines.text)
 }
 
 /// Writes a JSON object for each transaction of the second folder's logs that created, changed or
-/// deleted the node at a path, or, if `below`, a node below it: with the paths of these nodes.
-/// Returns the exit status.
+/// deleted the node at a path, or, if `below`, a node below it: with the paths of these nodes, the
+/// word of the history in text, and whether a session expired. Returns the exit status.
 ///
 /// A session's end deletes the nodes that its record lists, as those of 3.6 and later do, or else
-/// the ephemeral nodes that the session created in these logs.
+/// the ephemeral nodes that the session created in these logs, or that it owns in the first
+/// snapshot.
 pub fn history_json<S: Folder, L: Folder, O: Write, E: Write>(
     alloc: Global,
     snapshots: &S,
@@ -47,8 +48,8 @@ pub fn history_json<S: Folder, L: Folder, O: Write, E: Write>(
 ) -> Result<u8, NoMemory>
     requires output { write_failures_of output.old < 2 ^ 64 - 1 }
     requires faults { write_failures_of faults.old < 2 ^ 64 - 1 }
-    ensures { TellsHistory O.contents E.contents path.now below (S.names_in snapshots.now) (L.names_in logs.now)
-        (L.bytes_in logs.now) output.old output.new faults.old faults.new result }
+    ensures { TellsHistory O.contents E.contents path.now below (S.names_in snapshots.now)
+        (S.bytes_in snapshots.now) (L.names_in logs.now) (L.bytes_in logs.now) output.old output.new faults.old faults.new result }
 {
     match lines_of(alloc, snapshots, logs, path, below) {
         Ok(text) => Ok(put_text(text.as_str(), output, faults)),

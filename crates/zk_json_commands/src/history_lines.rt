@@ -1,15 +1,14 @@
 //! The lines of a node's history.
 ghost use Rattle.std.specs.Prelude.{◌≡◌, [], OnOk, map};
 ghost use Rattle.std.specs.String.{string_bytes};
-ghost use Rattle.zk_json_commands.specs.Histories.{AppendsLine, AppendsLineBy, Follows};
+ghost use Rattle.zk_json_commands.specs.Histories.{AppendsLine, AppendsLineBy, AppendsRecordHistory, Follows};
 
 use std::alloc::Global;
-use zk_incidents::{Owners, Scope, covered};
+use zk_incidents::{Owners, Scope, covered, is_expiry, op_word};
 use zk_json::push_history_line;
 use zk_newer_records::NewerRecord;
 use zk_path::NoMemory;
 use zk_record_folds::RecordFold;
-use zk_txn::Txn;
 
 /// A line for each transaction so far that created, changed or deleted one of the nodes.
 #[derive(Drop)]
@@ -21,16 +20,16 @@ pub(crate) struct HistoryLines {
 }
 
 impl HistoryLines {
-    /// No record yet.
-    pub(crate) fn new(alloc: Global, scope: Scope) -> HistoryLines
+    /// No record yet; `owners` are those before the first one.
+    pub(crate) fn new(alloc: Global, scope: Scope, owners: Owners) -> HistoryLines
         ensures scope { result.scope ≡ scope }
-        ensures owners { result.owners ≡ [] }
+        ensures owners { result.owners ≡ owners }
         ensures text { string_bytes result.text ≡ [] }
     {
         HistoryLines {
             alloc,
             scope,
-            owners: Owners::new(alloc),
+            owners,
             text: String::new(alloc),
         }
     }
@@ -58,16 +57,25 @@ fn push_seen(
 {
     let touched = owners.touched(newer)?;
     let seen = covered(alloc, scope, touched.as_slice())?;
-    push_line(text, seen.as_slice(), &newer.txn)
+    push_line(text, seen.as_slice(), newer)
 }
 
-/// Appends the line of a transaction that creates, changes or deletes the nodes at these paths; none
-/// for no path.
-fn push_line(text: &mut String, paths: &[&str], txn: &Txn) -> Result<(), NoMemory>
-    ensures { OnOk result (AppendsLineBy (map (λ path. path.now) paths.now) txn.now (string_bytes text.old) (string_bytes text.new)) }
+/// Appends the line of a record that creates, changes or deletes the nodes at these paths; none for
+/// no path.
+fn push_line(text: &mut String, paths: &[&str], newer: &NewerRecord) -> Result<(), NoMemory>
+    ensures { OnOk result (AppendsLineBy (map (λ path. path.now) paths.now) newer.now (string_bytes text.old) (string_bytes text.new)) }
 {
     if paths.is_empty() {
         return Ok(());
     }
-    push_history_line(text, paths, txn)
+    push_some(text, paths, newer)
+}
+
+/// Appends the line of a record with its kind, and whether it closes an expired session.
+fn push_some(text: &mut String, paths: &[&str], newer: &NewerRecord) -> Result<(), NoMemory>
+    ensures { OnOk result (AppendsRecordHistory (map (λ path. path.now) paths.now) newer.now (string_bytes text.old) (string_bytes text.new)) }
+{
+    let txn = &newer.txn;
+    let kind = op_word(&txn.op, &newer.form);
+    push_history_line(text, paths, kind, is_expiry(txn.cxid, &txn.op), txn)
 }

@@ -6,9 +6,8 @@ ghost use Rattle.zk_records.specs.Sinks.{write_failures_of};
 use crate::node_lines::node_lines;
 use std::alloc::Global;
 use std::io::Write;
-use zk_directory_commands::{Upto, shown_of};
-use zk_folder::Folder;
-use zk_folder_commands::{HistoryFault, put_text, tell_fault};
+use zk_directory_files::{Folder, HistoryFault, put_text, tell_fault};
+use zk_directory_state::{Upto, shown_of};
 use zk_log::Sink;
 use zk_path::NoMemory;
 

@@ -6,3 +6,6 @@ pub mod Texts
 pub mod Turns
 pub mod Vectors
 pub mod Whole
+pub mod Counting
+pub mod Ends
+pub mod Packing

@@ -1,8 +1,8 @@
 -- A field that is a whole text.
 use Rattle.std.proofs.Common.{◌≡◌, ◌==◌, ℕ, Bool, false, true, eqb, List, [], ◌++◌, length, Option, Some, None, Result, Ok, Err, refl, sym, ap, subst, ◌∙◌}
 use Rattle.std.proofs.lemmas.Option.{cond_some}
-use Rattle.zk_listing.specs.declared.fault.ListCause.{ListCause}
-use Rattle.zk_listing.specs.declared.fault.ListCause.TheVariants as causes
+use Rattle.zk_listing.specs.declared.list_fault.ListCause.{ListCause}
+use Rattle.zk_listing.specs.declared.list_fault.ListCause.TheVariants as causes
 use Rattle.zk_listing.specs.Promises.{ReadsFound, ReadsOnly}
 use Rattle.zk_listing.specs.Reading.{Makes, IsEnd}
 use Rattle.zk_listing.proofs.Exact.{IsExact, bind_some}

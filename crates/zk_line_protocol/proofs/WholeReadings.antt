@@ -1,8 +1,8 @@
 -- The reading of a whole text is the value whose form the text has.
 use Rattle.std.proofs.Common.{◌≡◌, ℕ, eqb, List, ◌++◌, length, Option, Some, Result, Ok, Err, sym, ap, subst, ◌∙◌, append-nil}
 use Rattle.std.proofs.lemmas.Option.{cond_some}
-use Rattle.zk_listing.specs.declared.fault.ListCause.{ListCause}
-use Rattle.zk_listing.specs.declared.fault.ListCause.TheVariants as causes
+use Rattle.zk_listing.specs.declared.list_fault.ListCause.{ListCause}
+use Rattle.zk_listing.specs.declared.list_fault.ListCause.TheVariants as causes
 use Rattle.zk_listing.specs.Reading.{Makes}
 use Rattle.zk_listing.proofs.Exact.{bind_some}
 use Rattle.zk_request_syntax.specs.Promises.{ReadsAll}

@@ -3,7 +3,7 @@ use Rattle.std.specs.Prelude.{◌≡◌, ℕ, List, [], ◌∷◌, if◌then◌e
 use Rattle.std.specs.Str.{bytes_eq, is_utf8}
 use Rattle.zk_acl.specs.declared.acl.Id.{Id}
 use Rattle.zk_acl.specs.Digests.{digest_of}
-use Rattle.zk_listing.specs.declared.fault.ListCause.{ListCause}
+use Rattle.zk_listing.specs.declared.list_fault.ListCause.{ListCause}
 use Rattle.zk_listing.specs.Reading.{◌>>=◌, Fails, front_of, back_of, past, quoted_at, path_at}
 use Rattle.zk_requests.specs.declared.call.Part.{Part}
 use Rattle.zk_requests.specs.declared.call.Request.{Request}

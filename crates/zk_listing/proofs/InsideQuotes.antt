@@ -12,8 +12,8 @@ use Rattle.std.proofs.lemmas.List.Sums.{prefix_len-le-length}
 use Rattle.std.proofs.lemmas.Str.{IsCharBoundary-before_ascii, IsCharBoundary-end, encode_ascii, length-encode, len_utf8_bounds}
 use lib.Utf8.{encode}
 use Rattle.zk_listing.specs.Reading.{inside_at, inside, escape_at, braced_at, control_at, control_from, lower_digit, is_brace, past, behind, Fails}
-use Rattle.zk_listing.specs.declared.fault.ListCause.{ListCause}
-use Rattle.zk_listing.specs.declared.fault.ListCause.TheVariants as causes
+use Rattle.zk_listing.specs.declared.list_fault.ListCause.{ListCause}
+use Rattle.zk_listing.specs.declared.list_fault.ListCause.TheVariants as causes
 use Rattle.zk_listing.proofs.Exact.{bind_some, past_is, first_is, second_is, some_is}
 use Rattle.zk_format.specs.Spelling.{is_escaped}
 use Rattle.zk_format.proofs.QuotedBytes.{AllHigh, encode_high}

@@ -1,3 +1,5 @@
+pub mod Rejected
+pub mod Spelling
 pub mod AclLaws
 pub mod DecimalLaws
 pub mod Exact
@@ -11,3 +13,5 @@ pub mod ReaderLaws
 pub mod TextLaws
 pub mod Turns
 pub mod WordLaws
+pub mod ReportLineLaws
+pub mod NodeTexts

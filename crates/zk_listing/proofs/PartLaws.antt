@@ -14,7 +14,7 @@ use Rattle.zk_listing.specs.declared.ops.Created.{Created}
 use Rattle.zk_listing.specs.declared.ops.Written.{Written}
 use Rattle.zk_listing.specs.declared.ops.Word.{Word}
 use Rattle.zk_listing.specs.declared.ops.Word.TheVariants as words
-use Rattle.zk_listing.specs.declared.fault.ListCause.{ListCause}
+use Rattle.zk_listing.specs.declared.list_fault.ListCause.{ListCause}
 use Rattle.zk_format.specs.Spelling.{quoted, content_text, acl_text}
 use Rattle.zk_format.specs.Listings.{ephemeral_text, sub_text, part_text, op_text, IsListedPath, IsListedContent, AreListedAcls, IsListedSub, IsListedOp}
 use Rattle.zk_listing.specs.Reading.{IsEnd, behind, both, spaced, mapped, of_field, int_at, path_at, content_at, content_from, acl_at, ephemeral_at, ephemeral_from, word_at, word_from, semicolon_from, created_of, create_at, create_old_op_at, written_of, set_data_at, set_acl_op_at, check_at, sub_created, sub_written, sub_by, sub_at, part_at, begins_with_space, parts_at, parts_in, op_created, op_written, op_by, op_at, Fails}

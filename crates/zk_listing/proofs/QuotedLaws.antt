@@ -19,7 +19,7 @@ use Rattle.std.proofs.lemmas.Option.{cond_some}
 use Rattle.std.proofs.lemmas.Str.{IsUtf8-string_bytes, is_utf8-from_IsUtf8, IsUtf8-from_is_utf8}
 use Rattle.zk_format.specs.Spelling.{quoted}
 use Rattle.zk_listing.specs.Reading.{inside_at, inside, escape_at, braced_at, control_at, control_from, lower_digit, is_brace, past, behind, quoted_at, path_at, path_from, TakesBy}
-use Rattle.zk_listing.specs.declared.fault.ListCause.{ListCause}
+use Rattle.zk_listing.specs.declared.list_fault.ListCause.{ListCause}
 use Rattle.zk_listing.proofs.Exact.{IsExact, bind_some, past_is, first_is, second_is, some_is}
 use Rattle.zk_listing.proofs.InsideQuotes.{Fails-then}
 use Rattle.zk_format.proofs.QuotedBytes.{escaped_byte, quoted_bytes}

@@ -1,7 +1,7 @@
 -- The contract of a reader with an exact reading.
 use Rattle.std.proofs.Common.{◌≡◌, ℕ, List, ◌++◌, Option, Some, None, Result, Ok, Err, OnOk, sym, ap, ◌∙◌, subst}
-use Rattle.zk_listing.specs.declared.fault.ListCause.{ListCause}
-use Rattle.zk_listing.specs.declared.fault.ListCause.TheVariants as causes
+use Rattle.zk_listing.specs.declared.list_fault.ListCause.{ListCause}
+use Rattle.zk_listing.specs.declared.list_fault.ListCause.TheVariants as causes
 use Rattle.zk_listing.specs.Promises.{ReadsFound, ReadsOnly}
 use Rattle.zk_listing.specs.Reading.{IsEnd, TakesBy, Takes}
 use Rattle.zk_listing.proofs.Exact.{IsExact, first_is, second_is}

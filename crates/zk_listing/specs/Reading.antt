@@ -25,8 +25,8 @@ use Rattle.zk_listing.specs.declared.ops.Created.{Created}
 use Rattle.zk_listing.specs.declared.ops.Written.{Written}
 use Rattle.zk_listing.specs.declared.ops.Word.{Word}
 use Rattle.zk_listing.specs.declared.ops.Word.TheVariants as words
-use Rattle.zk_listing.specs.declared.fault.ListCause.{ListCause}
-use Rattle.zk_listing.specs.declared.fault.ListCause.TheVariants as causes
+use Rattle.zk_listing.specs.declared.list_fault.ListCause.{ListCause}
+use Rattle.zk_listing.specs.declared.list_fault.ListCause.TheVariants as causes
 
 infixl 10 ◌>>=◌
 abbrev pub ◌>>=◌ : {A B : Type 0} → Option A → (A → Option B) → Option B

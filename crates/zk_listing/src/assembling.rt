@@ -6,8 +6,8 @@ ghost use Rattle.zk_format.specs.Listings.{IsListed, listing_of};
 ghost use Rattle.zk_listing.specs.Promises.{ReadsLine, AddsLine, BeginsWithListing, IsFirstFault};
 ghost use Rattle.zk_listing.specs.Reading.{Takes, TakesUnit, past, txn_at};
 
-use crate::fault::{ListCause, ListFault};
 use crate::fields::id;
+use crate::list_fault::{ListCause, ListFault};
 use crate::ops::operation;
 use crate::parts::{space, spaced_id, spaced_int, spaced_long};
 use std::alloc::Global;

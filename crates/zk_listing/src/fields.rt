@@ -5,9 +5,9 @@ ghost use Rattle.std.specs.Int.{w32, w64};
 ghost use Rattle.zk_listing.specs.Reading.{TakesField, Takes, Makes, id_from, id_at, int_from, int_at, content_from, content_at, content_of_digits, count_at, is_plain, is_end};
 ghost use Rattle.std.specs.List.{list_any, position, position_or_len};
 
-use crate::fault::ListCause;
+use crate::list_fault::ListCause;
+use crate::{decode_lower, decode_lower_to};
 use std::alloc::Global;
-use zk_digits::{decode_lower, decode_lower_to};
 use zk_txn::Content;
 
 /// The number of bytes that are searched together for the end of a field.

@@ -2,8 +2,8 @@
 ghost use Rattle.std.specs.Prelude.{◌≡◌};
 ghost use Rattle.zk_listing.specs.Reading.{Takes, TakesUnit, ContinuesParts, of_field, spaced, ephemeral_at, word_from, word_at, create_at, set_data_at, set_acl_op_at, create_old_op_at, check_at, sub_by, sub_at, semicolon_from, part_at, parts_in, op_by, op_at, mapped, sub_created, sub_written, op_created, op_written};
 
-use crate::fault::ListCause;
 use crate::fields::take_field;
+use crate::list_fault::ListCause;
 use crate::parts::{space, spaced_acl, spaced_content, spaced_int, spaced_path};
 use std::alloc::Global;
 use zk_acl::Acls;

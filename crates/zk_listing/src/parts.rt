@@ -4,8 +4,8 @@ ghost use Rattle.std.specs.Int.{w32, w64};
 ghost use Rattle.std.specs.String.{string_bytes};
 ghost use Rattle.zk_listing.specs.Reading.{Takes, TakesBy, Makes, TakesUnit, past, spaced, path_from, path_at, entry_at, acl_at, id_at, int_at, content_at, many_at};
 
-use crate::fault::ListCause;
 use crate::fields::{content, count, id, int, long};
+use crate::list_fault::ListCause;
 use crate::quoting::quoted;
 use std::alloc::Global;
 use zk_acl::{Acl, Acls, Id, Text};

@@ -5,8 +5,8 @@ ghost use Rattle.std.specs.String.{string_bytes};
 ghost use Rattle.zk_format.specs.Spelling.{is_escaped};
 ghost use Rattle.zk_listing.specs.Reading.{TakesBy, Makes, TakesChar, Continues, behind, quoted_at, inside, TakesFirst, escape_at, braced_at, control_at, control_from, lower_digit};
 
-use crate::fault::ListCause;
 use crate::fields::take_field;
+use crate::list_fault::ListCause;
 use std::alloc::Global;
 
 /// A text between quotes, with quotes, backslashes and control characters escaped, and no others.

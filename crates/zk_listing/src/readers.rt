@@ -10,8 +10,8 @@ ghost use Rattle.zk_format.specs.Listings.{IsListedPath, IsListedContent, AreLis
 ghost use Rattle.zk_listing.specs.Promises.{ReadsFound, ReadsOnly};
 ghost use Rattle.zk_format.specs.Spelling.{id_digits, quoted, content_text, acl_text};
 
-use crate::fault::ListCause;
 use crate::fields::{content, id, int, long};
+use crate::list_fault::ListCause;
 use crate::parts::{acl, path};
 use crate::quoting::quoted;
 use std::alloc::Global;

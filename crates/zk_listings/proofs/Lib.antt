@@ -1,1 +1,7 @@
+pub mod FormLaws
+pub mod Finished
+pub mod Following
+pub mod Sights
+pub mod Followed
+pub mod FollowedListings
 pub mod Listed

@@ -1,7 +1,7 @@
 -- The lines of all records, and of all transactions of a log.
 use Rattle.std.proofs.Common.{◌≡◌, ◌++◌, ◌∷◌, ℕ, ℤ, zero, suc, List, [], Option, None, Result, Ok, Err, refl, sym, ap, ◌∙◌, subst, append_assoc, append-nil}
 use Rattle.std.specs.String.{string_bytes}
-use Rattle.zk_form_args.specs.declared.form.Form.{Form}
+use Rattle.zk_listings.specs.declared.form.Form.{Form}
 use Rattle.zk_json_commands.specs.Logs.{OutputsSuch}
 use Rattle.zk_log_commands.specs.Telling.{Outputs}
 use Rattle.zk_newer_records.specs.declared.newer_record.NewerRecord.{NewerRecord}
@@ -9,7 +9,7 @@ use Rattle.zk_path.specs.declared.memory.NoMemory.{NoMemory}
 use Rattle.zk_record_folds.specs.Folds.{AllFollow}
 use Rattle.zk_records.specs.declared.sink.Sink.{Sink}
 use Rattle.zk_txn.specs.declared.txn.Txn.{Txn}
-use Rattle.zk_txn_lines.specs.Lines.{AppendsTxnLines, AreTxnLines}
+use Rattle.zk_listings.specs.Lines.{AppendsTxnLines, AreTxnLines}
 use Rattle.zk_listings.specs.Listings.{AppendsRecord, txns_of}
 use Rattle.zk_listings.specs.declared.lines.RecordLines.{RecordLines}
 

@@ -1,2 +1,8 @@
 -- What the contracts of this crate cite.
+pub mod Forms
+pub mod Lines
+pub mod Tails
+pub mod Growths
+pub mod Followings
+pub mod FollowedListings
 pub mod Listings

@@ -2,9 +2,9 @@
 use Rattle.std.specs.Prelude.{◌≡◌, ℕ, ℤ, List, map, Option, None, Result, Ok, Err, String}
 use Rattle.std.specs.Global.{Global}
 use Rattle.std.specs.String.{string_bytes}
-use Rattle.zk_directory_records.specs.Records.{AreRecordsIn, HaveNoRecords}
-use Rattle.zk_folder_commands.specs.declared.fault.HistoryFault.{HistoryFault}
-use Rattle.zk_form_args.specs.declared.form.Form.{Form}
+use Rattle.zk_directory_state.specs.Records.{AreRecordsIn, HaveNoRecords}
+use Rattle.zk_directory_files.specs.declared.fault.HistoryFault.{HistoryFault}
+use Rattle.zk_listings.specs.declared.form.Form.{Form}
 use Rattle.zk_json_commands.specs.Lines.{OutputsLines}
 use Rattle.zk_json_commands.specs.Logs.{TellsLoaded}
 use Rattle.zk_log.specs.declared.source.Source.{Source}
@@ -12,7 +12,7 @@ use Rattle.zk_newer_records.specs.declared.newer_record.NewerRecord.{NewerRecord
 use Rattle.zk_path.specs.declared.memory.NoMemory.{NoMemory}
 use Rattle.zk_records.specs.declared.sink.Sink.{Sink}
 use Rattle.zk_txn.specs.declared.txn.Txn.{Txn}
-use Rattle.zk_txn_lines.specs.Lines.{AppendsTxnLine, AreTxnLines}
+use Rattle.zk_listings.specs.Lines.{AppendsTxnLine, AreTxnLines}
 use Rattle.zk_listings.specs.declared.lines.RecordLines.{RecordLines}
 
 -- ---- a directory

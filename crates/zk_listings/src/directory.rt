@@ -3,13 +3,12 @@ ghost use Rattle.std.specs.Prelude.{◌≡◌, ◌-◌, ◌<◌, ◌^◌};
 ghost use Rattle.zk_listings.specs.Listings.{FindsLines, TellsLines};
 ghost use Rattle.zk_records.specs.Sinks.{write_failures_of};
 
+use crate::Form;
 use crate::lines::RecordLines;
 use std::alloc::Global;
 use std::io::Write;
-use zk_directory_records::fold_directory;
-use zk_folder::Folder;
-use zk_folder_commands::{HistoryFault, put_text, tell_fault};
-use zk_form_args::Form;
+use zk_directory_files::{Folder, HistoryFault, put_text, tell_fault};
+use zk_directory_state::fold_directory;
 use zk_log::Sink;
 use zk_path::NoMemory;
 

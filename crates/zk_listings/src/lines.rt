@@ -3,12 +3,11 @@ ghost use Rattle.std.specs.Prelude.{◌≡◌, []};
 ghost use Rattle.std.specs.String.{string_bytes};
 ghost use Rattle.zk_listings.specs.Listings.{AppendsRecord};
 
+use crate::{Form, push_txn_line};
 use std::alloc::Global;
-use zk_form_args::Form;
 use zk_newer_records::NewerRecord;
 use zk_path::NoMemory;
 use zk_record_folds::RecordFold;
-use zk_txn_lines::push_txn_line;
 
 /// A line for each record so far.
 #[derive(Drop)]

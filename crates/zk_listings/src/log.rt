@@ -5,17 +5,16 @@ ghost use Rattle.zk_json_commands.specs.Logs.{OutputsSuch};
 ghost use Rattle.zk_listings.specs.Listings.{TellsLogLines};
 ghost use Rattle.zk_log.specs.Devices.{read_failures_of, reads_of};
 ghost use Rattle.zk_records.specs.Sinks.{write_failures_of};
-ghost use Rattle.zk_txn_lines.specs.Lines.{AreTxnLines};
+ghost use Rattle.zk_listings.specs.Lines.{AreTxnLines};
 
+use crate::{Form, push_txn_lines};
 use std::alloc::Global;
 use std::io::{Read, Write};
-use zk_folder_commands::put_text;
-use zk_form_args::Form;
+use zk_directory_files::put_text;
 use zk_log::{LogFault, Sink, Source, load};
 use zk_log_commands::{TURNS, tell_log_fault};
 use zk_path::NoMemory;
 use zk_txn::Txn;
-use zk_txn_lines::push_txn_lines;
 
 /// The lines of transactions.
 #[tactic(auto, using(crate::proofs::Listed::all_told))]

@@ -14,7 +14,7 @@ use Rattle.zk_log.specs.declared.source.Source.{Source}
 use Rattle.zk_log.specs.declared.txn_sink.Head.{Head}
 use Rattle.zk_path.specs.declared.memory.NoMemory.{NoMemory}
 use Rattle.zk_format.specs.Listings.{listing_of}
-use Rattle.zk_reports.specs.Reports.{line, tree_report}
+use Rattle.zk_listing.specs.Reports.{line, tree_report}
 use Rattle.zk_table.specs.Histories.{state_after}
 use Rattle.zk_table.specs.States.{State, start_state}
 use Rattle.zk_txn.specs.declared.txn.Txn.{Txn}

@@ -2,9 +2,9 @@
 use Rattle.std.proofs.Common.{◌≡◌, ℕ, List, Option, Some, None, Result, Ok, Err, subst}
 use Rattle.zk_debug.specs.Debugging.{Debugging, started}
 use Rattle.zk_log.specs.declared.source.Source.{Source}
-use Rattle.zk_debug_script.specs.Scripts.{RunsScript}
-use Rattle.zk_reports.specs.declared.fault.ScriptFault.{ScriptFault}
-use Rattle.zk_reports.specs.declared.fault.ScriptFault.TheVariants as script_faults
+use Rattle.zk_debug.specs.Scripts.{RunsScript}
+use Rattle.zk_listing.specs.declared.script_fault.ScriptFault.{ScriptFault}
+use Rattle.zk_listing.specs.declared.script_fault.ScriptFault.TheVariants as script_faults
 use Rattle.zk_table.specs.States.{State}
 use Rattle.zk_txn.specs.declared.txn.Txn.{Txn}
 use Rattle.zk_log_commands.specs.Debugs.{RunsFromStart}

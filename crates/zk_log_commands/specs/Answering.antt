@@ -2,9 +2,9 @@
 use Rattle.std.specs.Prelude.{ℕ, zero, suc, List, ◌⊎◌, Option, Result, Ok, Err, IsOk, codes}
 use Rattle.zk_records.specs.declared.sink.Sink.{Sink}
 use Rattle.zk_path.specs.declared.memory.NoMemory.{NoMemory}
-use Rattle.zk_reports.specs.Lines.{line_of_script_fault}
-use Rattle.zk_reports.specs.declared.fault.ScriptFault.{ScriptFault}
-use Rattle.zk_reports.specs.declared.fault.ScriptFault.TheVariants as script_faults
+use Rattle.zk_listing.specs.Lines.{line_of_script_fault}
+use Rattle.zk_listing.specs.declared.script_fault.ScriptFault.{ScriptFault}
+use Rattle.zk_listing.specs.declared.script_fault.ScriptFault.TheVariants as script_faults
 use Rattle.zk_log_commands.specs.Telling.{Told, Outputs, GivesUp}
 use Rattle.zk_log_commands.specs.Writing.{LeavesSink, Wrote, BrokeOff}
 

@@ -10,9 +10,9 @@ use Rattle.zk_records.specs.declared.sink.Sink.{Sink}
 use Rattle.zk_log.specs.declared.source.Source.{Source}
 use Rattle.zk_machine.specs.Machines.{MachineView}
 use Rattle.zk_path.specs.declared.memory.NoMemory.{NoMemory}
-use Rattle.zk_debug_script.specs.Scripts.{RunsScript}
-use Rattle.zk_reports.specs.declared.fault.ScriptFault.{ScriptFault}
-use Rattle.zk_reports.specs.declared.fault.ScriptFault.TheVariants as script_faults
+use Rattle.zk_debug.specs.Scripts.{RunsScript}
+use Rattle.zk_listing.specs.declared.script_fault.ScriptFault.{ScriptFault}
+use Rattle.zk_listing.specs.declared.script_fault.ScriptFault.TheVariants as script_faults
 use Rattle.zk_table.specs.States.{State, start_state}
 use Rattle.zk_txn.specs.declared.txn.Txn.{Txn}
 use Rattle.zk_log_commands.specs.Answering.{OutputsAnswers}

@@ -3,14 +3,14 @@ ghost use Rattle.std.specs.Prelude.{◌-◌, ◌<◌, ◌^◌, Ok};
 ghost use Rattle.zk_records.specs.Sinks.{write_failures_of};
 ghost use Rattle.zk_log_commands.specs.Answering.{OutputsAndTells};
 ghost use Rattle.zk_log_commands.specs.Telling.{Outputs};
-ghost use Rattle.zk_reports.specs.Lines.{line_of_script_fault};
+ghost use Rattle.zk_listing.specs.Lines.{line_of_script_fault};
 
 use crate::telling::tell;
 use std::alloc::Global;
 use std::io::Write;
+use zk_listing::script_line;
 use zk_log::Sink;
 use zk_path::NoMemory;
-use zk_reports::script_line;
 
 /// Writes the output for a script. Returns the exit status.
 pub fn put_answers<O: Write, E: Write>(

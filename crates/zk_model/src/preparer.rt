@@ -6,7 +6,7 @@ ghost use Rattle.zk_model.specs.Shortness.{entry_is_short};
 use std::alloc::Global;
 use zab_broadcast::Primary;
 use zab_epoch::{Entries, Entry};
-use zk_archive::Span;
+use zk_jute::Span;
 use zk_machine::Machine;
 use zk_path::NoMemory;
 use zk_prepare::{Call, Prep, closing_call};

@@ -3,7 +3,7 @@ use Rattle.std.proofs.Common.{◌≡◌, ◌<◌, ◌≤◌, ◌+◌, ◌-◌, �
 use Rattle.std.proofs.lemmas.Bool.Decides.{nat_tests}
 use Rattle.std.proofs.lemmas.List.{drop_more, drop_all}
 use Rattle.std.proofs.lemmas.List.Sums.{sum_by-cons}
-use Rattle.zab_quorums.specs.Quorums.{marked, is_majority}
+use Rattle.zab_epoch.specs.Quorums.{marked, is_majority}
 use Rattle.zk_peers.specs.declared.cut.Cut.{Cut}
 use Rattle.zk_peers.specs.declared.place.Place.{Place}
 use Rattle.zk_peers.specs.Peers.{is_heard, heard_by}

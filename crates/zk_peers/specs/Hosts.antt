@@ -9,7 +9,7 @@ use Rattle.zab_host.specs.declared.fault.HostFault.TheVariants as host_faults
 use Rattle.zab_host.specs.Durability.{IsDurable}
 use Rattle.zab_host.specs.Hosts as hosts
 use Rattle.zab_host.specs.Hosts.{HostView, Input, IsFor, StepsTo, acts_of, messages_of, host}
-use Rattle.zab_quorums.specs.Quorums.{is_majority}
+use Rattle.zab_epoch.specs.Quorums.{is_majority}
 use Rattle.zk_host.specs.declared.replica_host.ReplicaHost.{ReplicaHost}
 use Rattle.zk_host.specs.WatchedTrees.{new_tree}
 use Rattle.zk_model.specs.Ensembles.{profile_by}

@@ -8,8 +8,8 @@ use Rattle.zab_epoch.specs.declared.role.Role.TheVariants.{Looking, Following as
 use Rattle.zab_epoch.specs.declared.stable.Stable.{Stable}
 use Rattle.zab_host.specs.declared.vote.Vote.{Vote}
 use Rattle.zab_host.specs.Votes.{vote_of}
-use Rattle.zab_lone_leader.specs.LoneLeaders.{own_messages}
-use Rattle.zab_quorums.specs.Quorums.{is_majority}
+use Rattle.zab_host.specs.LoneLeaders.{own_messages}
+use Rattle.zab_epoch.specs.Quorums.{is_majority}
 use Rattle.zk_host.specs.declared.replica_host.ReplicaHost.{ReplicaHost}
 use Rattle.zk_peers.specs.declared.cut.Cut.{Cut}
 use Rattle.zk_peers.specs.declared.peers.Peers.{Peers}

@@ -11,8 +11,7 @@ use crate::fault::PeersFault;
 use std::alloc::Global;
 use zab_epoch::{Majority, Message, Messages};
 use zab_host::{HostFault, ReceiveFault, Storage, is_append_only};
-use zk_host::ReplicaHost;
-use zk_recorder::Record;
+use zk_host::{Record, ReplicaHost};
 use zk_requests::Call;
 
 /// A host receives the messages that arrive at it, in order.

@@ -9,12 +9,10 @@ use crate::state::PeerState;
 use std::alloc::Global;
 use std::mem::replace;
 use zab_epoch::{Messages, Role};
-use zab_host::{Storage, Vote};
-use zab_lone_leader::own_messages;
-use zk_host::ReplicaHost;
+use zab_host::{Storage, Vote, own_messages};
+use zk_host::{Record, RecordFault, ReplicaHost};
 use zk_model::Event;
 use zk_path::NoMemory;
-use zk_recorder::{Record, RecordFault};
 use zk_requests::Call;
 
 /// The least and the greatest number of servers.

@@ -6,8 +6,7 @@ use crate::mail::receive_all;
 use std::alloc::Global;
 use zab_epoch::{Majority, Messages};
 use zab_host::{HostFault, Storage, StoreFault};
-use zk_host::ReplicaHost;
-use zk_recorder::Record;
+use zk_host::{Record, ReplicaHost};
 use zk_requests::Call;
 
 /// A server of the ensemble.

@@ -1,7 +1,7 @@
 //! All servers' places.
 
 ghost use Rattle.std.specs.Prelude.{◌≡◌, ◌≤◌, length, true, OnErr, OnOk};
-ghost use Rattle.zab_quorums.specs.Quorums.{marked};
+ghost use Rattle.zab_epoch.specs.Quorums.{marked};
 ghost use Rattle.zk_peers.specs.Peers.{is_heard, heard_by, is_server, TakesRoleAt, FirstTakeRoles, RejoinsIf, FirstRejoin};
 ghost use Rattle.zk_peers.specs.Hosts.{setting_for};
 ghost use Rattle.zk_peers.specs.Links.{is_cut, mail_for};
@@ -14,7 +14,7 @@ use std::alloc::Global;
 use std::mem::replace;
 use zab_epoch::{Majority, Messages};
 use zab_host::Storage;
-use zk_recorder::Record;
+use zk_host::Record;
 use zk_requests::Call;
 
 /// The number of servers that are up and whose link to this one is not cut.

@@ -1,12 +1,12 @@
 -- What a connection hears of its socket, and what is sent to it. ZooKeeper Programmer's Guide,
 -- "ZooKeeper Sessions".
-use Rattle.std.specs.Prelude.{◌≡◌, ℕ, ◌+◌, ◌≤◌, ◌⊎◌, ◌==◌, ◌&&◌, nat_lt, not, List, length, take, drop, Option, Result, Ok, Err, if◌then◌else◌}
+use Rattle.std.specs.Prelude.{◌≡◌, ℕ, ◌+◌, ◌≤◌, ◌⊎◌, ◌==◌, ◌&&◌, nat_lt, not, Bool, List, length, take, drop, is_some, Option, Result, Ok, Err, if◌then◌else◌}
 use Rattle.std.specs.Io.KnownBytes.{Appends, ReadConsumes}
 use Rattle.std.specs.IoError.{error_kind}
 use Rattle.std.specs.declared.io.Error.{Error}
 use Rattle.std.specs.declared.io.ErrorKind.{ErrorKind}
 use Rattle.std.specs.declared.io.ErrorKind.TheVariants as kinds
-use Rattle.zk_connections.specs.Connections.{lost}
+use Rattle.zk_connections.specs.Connections.{lost, session_of}
 use Rattle.zk_connections.specs.Inputs.{heard}
 use Rattle.zk_connections.specs.declared.connection.Connection.{Connection}
 use Rattle.zk_reactor.specs.declared.outcome.Outcome.{Outcome}
@@ -32,10 +32,10 @@ HearsOutcome outcomes.Waits chunk old new = new ≡ old
 HearsOutcome outcomes.Interrupted chunk old new = new ≡ old
 HearsOutcome outcomes.Failed chunk old new = new ≡ lost old
 
--- of a socket with these bytes before and after, at most 65,536 are read and heard
+-- of a socket with these bytes before and after, at most 8,192 are read and heard
 pub record HearsFrom (before after : Option (List ℕ)) (old new : Connection) : Type 0 where
   pub chunk : List ℕ
-  pub few : length chunk ≡ 65536
+  pub few : length chunk ≡ 8192
   pub returned : Result ℕ Error
   pub consumes : ReadConsumes before after returned chunk
   pub hears : HearsOutcome (outcome_of returned) chunk old new
@@ -63,10 +63,14 @@ pub record SendsTo (before after : Option (List ℕ)) (old new : Connection) : T
 
 -- ---- ticks
 
--- the ticks since a connection has been closing, up to 5
-abbrev pub ticks_after : ℕ → Connection → ℕ
-ticks_after ticks it = if it.closes then (if nat_lt ticks 5 then ticks + 1 else ticks) else 0
+-- it has a session, and does not close
+abbrev pub has_settled : Connection → Bool
+has_settled it = not it.closes && is_some (session_of it)
 
--- its client does not read the rest
+-- the ticks since a connection has been closing, or has had no session, up to 5
+abbrev pub ticks_after : ℕ → Connection → ℕ
+ticks_after ticks it = if has_settled it then 0 else (if nat_lt ticks 5 then ticks + 1 else ticks)
+
+-- its client does not read the rest, or asks for no session
 abbrev pub after_tick : ℕ → Connection → Connection
-after_tick ticks it = if it.closes && not (nat_lt ticks 5) then lost it else it
+after_tick ticks it = if has_settled it then it else (if nat_lt ticks 5 then it else lost it)

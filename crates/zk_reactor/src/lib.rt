@@ -4,6 +4,7 @@
 
 mod client;
 mod clients;
+mod clock;
 mod command;
 mod commands;
 mod lines;

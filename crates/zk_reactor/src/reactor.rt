@@ -3,15 +3,16 @@ use crate::clients::Clients;
 use crate::commands::execute;
 use crate::lines::Lines;
 use crate::script::Script;
-use crate::setup::{ReactorFault, Settings};
+use crate::setup::{MOST_EVENTS, ReactorFault, Settings};
 use crate::stops::Stops;
 use crate::stores::Stores;
-use mio::net::TcpListener;
+use mio::net::{TcpListener, TcpStream};
 use mio::unix::SourceFd;
 use mio::{Events, Interest, Poll, Token};
 use std::alloc::Global;
 use std::io::{ErrorKind, Read, Write};
-use std::net::{Net, SocketAddr};
+use std::mem::replace;
+use std::net::{IpAddr, Net, SocketAddr};
 use std::time::Duration;
 use zab_host::Storage;
 use zk_client_service::ClientService;
@@ -28,6 +29,10 @@ const FIRST_CONNECTION: usize = 16;
 /// More connections than the system lets wait to be accepted. Each one that waits is accepted, or
 /// closed: the system reports the listener again only when another comes.
 const MOST_ACCEPTED: usize = 65_536;
+
+/// How often the system is asked which sockets are ready, before those are read: it reports
+/// [`MOST_EVENTS`] at once.
+const MOST_POLLS: usize = 64;
 
 /// The time of a tick in milliseconds: half of a session's shortest timeout.
 const TICK: i64 = 2000;
@@ -46,6 +51,9 @@ pub(crate) struct Reactor<S: Storage> {
     alloc: Global,
     poll: Poll,
     listeners: Vec<TcpListener>,
+    /// The servers whose listeners may have connections that wait: the system had no room for them.
+    waiting: Vec<usize>,
+    most_per_address: usize,
     clients: Clients,
     service: ClientService<S>,
     stops: Stops,
@@ -68,6 +76,8 @@ impl<S: Storage + Drop> Drop for Reactor<S> {
             alloc: _,
             poll: _,
             listeners: _,
+            waiting: _,
+            most_per_address: _,
             clients: _,
             service: _,
             stops: _,
@@ -111,6 +121,8 @@ impl<S: Storage + Drop> Reactor<S> {
             alloc,
             poll,
             listeners,
+            waiting: Vec::new(alloc),
+            most_per_address: settings.most_per_address(),
             clients: Clients::new(alloc, settings.most_connections),
             service: ClientService::start(alloc, storages, secret, now)?,
             stops: Stops::new(alloc),
@@ -132,14 +144,36 @@ impl<S: Storage + Drop> Reactor<S> {
         self.has_ended
     }
 
+    /// Waits until a socket is ready, or a pause is over. Records all sockets that are ready, and
+    /// accepts connections.
+    pub(crate) fn hear(&mut self, events: &mut Events<Global>) -> Result<(), ReactorFault> {
+        for _ in 0..MOST_POLLS {
+            self.wait(events)?;
+            if self.note_all(events)? < MOST_EVENTS {
+                break;
+            }
+        }
+        Ok(())
+    }
+
     /// Waits until a socket is ready, or a pause is over.
-    pub(crate) fn wait(&mut self, events: &mut Events<Global>) -> Result<(), ReactorFault> {
+    fn wait(&mut self, events: &mut Events<Global>) -> Result<(), ReactorFault> {
         let pause = if self.has_work() { 0 } else { PAUSE };
         match self.poll.poll(events, Some(Duration::from_millis(pause))) {
             Ok(()) => Ok(()),
             Err(error) if error.kind() == ErrorKind::Interrupted => Ok(()),
             Err(_) => Err(ReactorFault::Listen),
         }
+    }
+
+    /// Records the sources of events. Returns the number of these.
+    fn note_all(&mut self, events: &Events<Global>) -> Result<usize, ReactorFault> {
+        let mut count: usize = 0;
+        for event in events.iter() {
+            self.note(event.token())?;
+            count = count.saturating_add(1);
+        }
+        Ok(count)
     }
 
     /// Whether something was left undone, for the sake of others.
@@ -150,7 +184,7 @@ impl<S: Storage + Drop> Reactor<S> {
     }
 
     /// Records that a source is ready, and accepts connections.
-    pub(crate) fn note(&mut self, token: Token) -> Result<(), ReactorFault> {
+    fn note(&mut self, token: Token) -> Result<(), ReactorFault> {
         let Token(token) = token;
         if token == INPUT {
             self.is_typed = true;
@@ -160,7 +194,7 @@ impl<S: Storage + Drop> Reactor<S> {
             return self.accept_all(token);
         }
         self.clients
-            .note(token.saturating_sub(FIRST_CONNECTION) as u64);
+            .note(token.saturating_sub(FIRST_CONNECTION) as u64)?;
         Ok(())
     }
 
@@ -174,21 +208,51 @@ impl<S: Storage + Drop> Reactor<S> {
         Ok(())
     }
 
+    /// Accepts the connections that waited while the system had no room for them.
+    fn accept_waiting(&mut self) -> Result<(), ReactorFault> {
+        let none = Vec::new(self.alloc);
+        for server in replace(&mut self.waiting, none) {
+            self.accept_all(server)?;
+        }
+        Ok(())
+    }
+
     /// Accepts a connection. Returns whether another may wait.
     fn accept(&mut self, server: usize) -> Result<bool, ReactorFault> {
         let Some(listener) = self.listeners.get(server.saturating_sub(1)) else {
             return Ok(false);
         };
-        let (mut stream, peer) = match listener.accept() {
-            Ok(accepted) => accepted,
-            Err(error) => return Ok(may_accept_more(error.kind())),
-        };
-        // The connections beyond the most are closed at once.
-        if !self.clients.has_room() {
-            return Ok(true);
+        match listener.accept() {
+            Ok((stream, peer)) => {
+                self.open(server, stream, peer)?;
+                Ok(true)
+            }
+            Err(error) => match error.kind() {
+                ErrorKind::ConnectionAborted | ErrorKind::Interrupted => Ok(true),
+                ErrorKind::WouldBlock => Ok(false),
+                // The process may have as many sockets as it is allowed.
+                _ => {
+                    self.waiting.push(server)?;
+                    Ok(false)
+                }
+            },
+        }
+    }
+
+    /// Opens a connection. Those beyond the most, of all clients or of one address, are closed at
+    /// once.
+    fn open(
+        &mut self,
+        server: usize,
+        stream: TcpStream,
+        peer: SocketAddr,
+    ) -> Result<(), ReactorFault> {
+        let mut stream = stream;
+        if !self.clients.has_room() || !self.has_room_for(peer.ip()) {
+            return Ok(());
         }
         let Some(number) = self.service.open(server)? else {
-            return Ok(true);
+            return Ok(());
         };
         let _ = stream.set_nodelay(true);
         if let Some(connection) = self.service.connection_mut(server, number) {
@@ -203,35 +267,44 @@ impl<S: Storage + Drop> Reactor<S> {
             if let Some(connection) = self.service.connection_mut(server, number) {
                 connection.cut_off();
             }
-            return Ok(true);
+            return Ok(());
         }
         self.clients.push(Client {
             server,
             number,
+            address: peer.ip(),
             stream,
             readable: true,
             ticks: 0,
         })?;
-        Ok(true)
+        Ok(())
+    }
+
+    /// Whether another connection of an address may be open.
+    fn has_room_for(&self, address: IpAddr) -> bool {
+        self.clients.count_at(address) < self.most_per_address
     }
 
     /// Reads what clients have sent, executes it, writes what it gives, and closes the connections
-    /// that are over. Returns the lines on servers that have stopped by themselves, or run again.
+    /// that are over. All that had arrived at the time `heard` is read before deadlines are compared
+    /// with that time. Returns the lines on servers that have stopped by themselves, or run again.
     pub(crate) fn turn<O: Stores<S>, W: Write + Drop>(
         &mut self,
         stores: &O,
         script: &mut Script<W>,
+        heard: i64,
         now: i64,
     ) -> Result<String, ReactorFault> {
         let mut notices = String::new(self.alloc);
-        self.clients.read(&mut self.service);
+        self.accept_waiting()?;
+        self.clients.read(&mut self.service, now)?;
         if now.saturating_sub(self.ticked) >= TICK {
             self.ticked = now;
             self.stops
                 .restart(&mut self.service, stores, now, &mut notices)?;
             self.clients.tick(&mut self.service);
             self.service.elect_if_lost(now)?;
-            self.service.expire(now)?;
+            self.service.expire(heard)?;
         }
         self.is_unsettled = self.service.turn_for(ROUNDS, now)?;
         self.stops.note(&mut self.service, &mut notices)?;
@@ -299,11 +372,6 @@ impl<S: Storage + Drop> Reactor<S> {
         }
         Ok(())
     }
-}
-
-/// Whether another connection may wait after an error of `accept`.
-fn may_accept_more(kind: ErrorKind) -> bool {
-    matches!(kind, ErrorKind::ConnectionAborted | ErrorKind::Interrupted)
 }
 
 fn token_of(number: u64) -> usize {

@@ -1,6 +1,7 @@
 ghost use Rattle.std.specs.Prelude.{◌≡◌};
-ghost use Rattle.zk_reactor.specs.Ports.{port_at};
+ghost use Rattle.zk_reactor.specs.Ports.{most_per_address, port_at};
 
+use crate::clock::Clock;
 use crate::reactor::Reactor;
 use crate::script::Script;
 use crate::stores::Stores;
@@ -9,15 +10,14 @@ use std::alloc::{AllocError, AllocFailed, Global};
 use std::fs;
 use std::io::{Read, Write};
 use std::net::{Ipv4Addr, Net};
-use std::time::{SystemTime, UNIX_EPOCH};
 use thiserror::Error;
-use zab_host::{Storage, StoreFault};
+use zab_host::{DeviceStorage, StoreFault};
 use zk_client_service::ServiceFault;
 use zk_path::NoMemory;
 use zk_peers::PeersFault;
 
 /// The events that are taken of the system at once.
-const MOST_EVENTS: usize = 1024;
+pub(crate) const MOST_EVENTS: usize = 1024;
 
 /// An ensemble whose servers listen.
 #[derive(Clone, Copy, Debug)]
@@ -38,6 +38,13 @@ impl Settings {
         ensures { result ≡ port_at self.now index }
     {
         self.port.checked_add(u16::try_from(index).ok()?)
+    }
+
+    /// The most connections of one address: all but a sixteenth, which are for others.
+    pub fn most_per_address(&self) -> usize
+        ensures { result ≡ most_per_address self.now }
+    {
+        self.most_connections - self.most_connections / 16
     }
 }
 
@@ -94,7 +101,7 @@ impl From<ServiceFault> for ReactorFault {
 /// the process ends. A store that has failed is opened again by `stores`. The passwords of sessions
 /// come from the secret. What the servers do is written to `record`, as a run script; there are
 /// several servers then, on new stores.
-pub fn run<N: Net, S: Storage + Drop, O: Stores<S>, W: Write + Drop>(
+pub fn run<N: Net, S: DeviceStorage + Drop, O: Stores<S>, W: Write + Drop>(
     rt: &HostRuntime,
     net: &N,
     settings: &Settings,
@@ -104,19 +111,19 @@ pub fn run<N: Net, S: Storage + Drop, O: Stores<S>, W: Write + Drop>(
     record: Option<W>,
 ) -> Result<(), ReactorFault> {
     let alloc = rt.alloc();
-    let mut now = time(rt, 0);
+    let clock = Clock::start(rt);
+    let mut now = clock.now(rt, 0);
     let mut reactor = Reactor::start(net, alloc, settings, storages, secret, now)?;
     let mut script = reactor.begin_script(record);
     print(rt, serving_line(alloc, settings)?.as_str())?;
     let mut events = Events::with_capacity(alloc, MOST_EVENTS)?;
     let mut input = rt.reader();
     for _ in 0..u64::MAX {
-        reactor.wait(&mut events)?;
-        now = time(rt, now);
-        for event in events.iter() {
-            reactor.note(event.token())?;
-        }
-        report(rt, reactor.turn(stores, &mut script, now)?.as_str());
+        let heard = now;
+        reactor.hear(&mut events)?;
+        now = clock.now(rt, now);
+        let notices = reactor.turn(stores, &mut script, heard, now)?;
+        report(rt, notices.as_str());
         let printed = reactor.obey(&mut input, stores, &mut script, now)?;
         report(rt, script.take_notice());
         print(rt, printed.as_str())?;
@@ -155,18 +162,6 @@ fn serving_line(alloc: Global, settings: &Settings) -> Result<String, NoMemory> 
     }
     line.push_str("\n")?;
     Ok(line)
-}
-
-/// The system's time in milliseconds since 1970; the last known time if it returns none, or an
-/// earlier one.
-fn time(rt: &HostRuntime, last: i64) -> i64 {
-    let Ok(now) = SystemTime::now(rt) else {
-        return last;
-    };
-    let Ok(since) = now.duration_since(UNIX_EPOCH) else {
-        return last;
-    };
-    i64::try_from(since.as_millis()).unwrap_or(last).max(last)
 }
 
 /// A new secret of sessions' passwords: random bytes of the system.

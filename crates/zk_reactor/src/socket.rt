@@ -2,16 +2,17 @@
 ghost use Rattle.std.specs.Prelude.{◌≡◌, ◌≤◌, ◌==◌, true, false, length, not};
 ghost use Rattle.std.specs.Io.{ReadsAtMost};
 ghost use Rattle.zk_connections.specs.Inputs.{wants_input};
-ghost use Rattle.zk_reactor.specs.Sockets.{HearsFrom, HearsOutcome, SendsTo, after_tick, after_write, ticks_after};
+ghost use Rattle.zk_reactor.specs.Sockets.{HearsFrom, HearsOutcome, SendsTo, after_tick, after_write, has_settled, ticks_after};
 
 use crate::outcome::{Outcome, outcome_of};
 use std::io::{Read, Write};
 use zk_connections::Connection;
 
 /// The bytes that are read of a client before the others have their turn.
-pub(crate) const CHUNK: usize = 65_536;
+pub(crate) const CHUNK: usize = 8192;
 
-/// The ticks for which a connection that closes waits for its client to read the rest.
+/// The ticks for which a connection that closes waits for its client to read the rest, and one without
+/// a session for its client to ask for one.
 const MOST_TICKS: u8 = 5;
 
 /// Reads once, if the connection takes more. Returns whether there may be more bytes.
@@ -101,13 +102,13 @@ fn take_outcome(connection: &mut Connection, outcome: Outcome)
     }
 }
 
-/// Counts a tick of a connection that closes. Cuts it off after [`MOST_TICKS`]. Returns the new
-/// count.
+/// Counts a tick of a connection that closes, or has no session. Cuts it off after [`MOST_TICKS`].
+/// Returns the new count.
 pub(crate) fn linger(connection: &mut Connection, ticks: u8) -> u8
     ensures ticks { result ≡ ticks_after ticks connection.old }
     ensures connection { connection.new ≡ after_tick ticks connection.old }
 {
-    if !connection.is_closing() {
+    if has_settled(connection) {
         return 0;
     }
     if ticks < MOST_TICKS {
@@ -115,4 +116,11 @@ pub(crate) fn linger(connection: &mut Connection, ticks: u8) -> u8
     }
     connection.cut_off();
     ticks
+}
+
+/// Whether a connection has a session, and does not close.
+fn has_settled(connection: &Connection) -> bool
+    ensures { result ≡ has_settled connection.now }
+{
+    !connection.is_closing() && connection.session().is_some()
 }

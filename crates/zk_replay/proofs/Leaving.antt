@@ -1,9 +1,9 @@
 -- The first record after a window.
 use Rattle.std.proofs.Common.{◌≡◌, ℤ, false, Result, Ok, Err, sym, subst}
 use Rattle.std.specs.Prelude.{IfOk, int_le}
-use Rattle.zk_base.specs.Bases.{IsSettled}
-use Rattle.zk_base.specs.declared.draft.Draft.{Draft}
-use Rattle.zk_base.specs.declared.fault.BaseFault.{BaseFault}
+use Rattle.zk_replay.specs.Bases.{IsSettled}
+use Rattle.zk_replay.specs.declared.draft.Draft.{Draft}
+use Rattle.zk_replay.specs.declared.fault.BaseFault.{BaseFault}
 use Rattle.zk_newer_records.specs.declared.newer_record.NewerRecord.{NewerRecord}
 use Rattle.zk_replay.specs.Restoring.{IsTableIn, TakesInWindow, Takes}
 use Rattle.zk_replay.specs.declared.stage.Stage.{Stage}

@@ -1,2 +1,13 @@
+pub mod Drafting
+pub mod Failing
+pub mod Maps
+pub mod Turning
 pub mod Leaving
 pub mod Turns
+pub mod Frames
+pub mod Givens
+pub mod Outside
+pub mod Owned
+pub mod Whole
+pub mod Moves
+pub mod Tallied

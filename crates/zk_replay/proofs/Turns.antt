@@ -1,7 +1,7 @@
 -- Paths and parts in order, as loops iterate over them.
 use Rattle.std.proofs.Common.{◌≡◌, ℕ, ℤ, ◌+◌, ◌<◌, ◌≤◌, Bool, true, false, ◌||◌, List, [], ◌∷◌, length, drop, get_or, refl, sym, ap, ◌∙◌}
-use Rattle.zk_base.proofs.Turning.{next_is, at_end}
-use Rattle.zk_base.specs.Drafts.{DraftMap}
+use Rattle.zk_replay.proofs.Turning.{next_is, at_end}
+use Rattle.zk_replay.specs.Drafts.{DraftMap}
 use Rattle.zk_replay.specs.Rules.{delete, delete_all, apply_part, apply_parts}
 use Rattle.zk_replay.specs.Windows.{part_is_done, some_part_is_done}
 use Rattle.zk_txn.specs.declared.sub.Sub.{Sub}

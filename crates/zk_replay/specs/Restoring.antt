@@ -4,9 +4,9 @@ use Rattle.std.specs.Prelude.{◌≡◌, ℤ, Bool, true, false, int_le, Option,
 use Rattle.zk_table.specs.States.{State}
 use Rattle.zk_table.specs.Steps.{step}
 use Rattle.zk_newer_records.specs.declared.newer_record.NewerRecord.{NewerRecord}
-use Rattle.zk_base.specs.Bases.{IsSettled, draft_fault}
-use Rattle.zk_base.specs.declared.draft.Draft.{Draft}
-use Rattle.zk_base.specs.declared.fault.BaseFault.{BaseFault}
+use Rattle.zk_replay.specs.Bases.{IsSettled, draft_fault}
+use Rattle.zk_replay.specs.declared.draft.Draft.{Draft}
+use Rattle.zk_replay.specs.declared.fault.BaseFault.{BaseFault}
 use Rattle.zk_replay.specs.Rules.{nodes_replayed, sessions_replayed}
 use Rattle.zk_replay.specs.declared.stage.Stage.{Stage}
 use Rattle.zk_replay.specs.declared.stage.Stage.TheVariants as stages

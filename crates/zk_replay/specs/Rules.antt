@@ -16,7 +16,7 @@ use Rattle.zk_txn.specs.Parts.{is_error}
 use Rattle.zk_table.specs.States.{SessionMap}
 use Rattle.zk_newer_records.specs.NewerRecords.{listed_of}
 use Rattle.zk_newer_records.specs.declared.newer_record.NewerRecord.{NewerRecord}
-use Rattle.zk_base.specs.Drafts.{DraftMap, fresh, with_child, without_child, written, guarded, changed, removed, owned_by}
+use Rattle.zk_replay.specs.Drafts.{DraftMap, fresh, with_child, without_child, written, guarded, changed, removed, owned_by}
 
 -- ---- one operation
 

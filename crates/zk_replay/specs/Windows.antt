@@ -13,8 +13,8 @@ use Rattle.zk_txn.specs.declared.txn.Txn.{Txn}
 use Rattle.zk_txn.specs.Parts.{is_error}
 use Rattle.zk_newer_records.specs.NewerRecords.{listed_of}
 use Rattle.zk_newer_records.specs.declared.newer_record.NewerRecord.{NewerRecord}
-use Rattle.zk_base.specs.Drafts.{DraftMap}
-use Rattle.zk_base.specs.declared.draft_node.DraftNode.{DraftNode}
+use Rattle.zk_replay.specs.Drafts.{DraftMap}
+use Rattle.zk_replay.specs.declared.draft_node.DraftNode.{DraftNode}
 use Rattle.zk_replay.specs.Rules.{apply_part}
 
 -- ---- one operation

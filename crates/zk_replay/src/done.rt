@@ -9,7 +9,7 @@ ghost use Rattle.zk_replay.specs.Windows.{acl_is_set, create_is_done, data_is_se
 
 use crate::rules::apply_part;
 use crate::window::replay;
-use zk_base::{Draft, DraftNodes};
+use crate::{Draft, DraftNodes};
 use zk_newer_records::NewerRecord;
 use zk_path::{NoMemory, Path};
 use zk_table::{Op, Sub, Txn, hold_error};

@@ -1,11 +1,11 @@
 //! The effect of one operation on a draft.
 
 ghost use Rattle.std.specs.Prelude.{◌≡◌, OnOk};
-ghost use Rattle.zk_base.specs.Drafts.{fresh, changed, written, guarded};
+ghost use Rattle.zk_replay.specs.Drafts.{fresh, changed, written, guarded};
 ghost use Rattle.zk_replay.specs.Rules.{create, delete, delete_all, close, apply_part, apply_parts};
 
+use crate::{DraftNode, DraftNodes};
 use zk_acl::Acls;
-use zk_base::{DraftNode, DraftNodes};
 use zk_path::{NoMemory, Path};
 use zk_table::{Content, Node, Sub, Txn};
 

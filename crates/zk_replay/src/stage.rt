@@ -2,12 +2,12 @@
 
 ghost use Rattle.std.specs.Prelude.{◌≡◌, false, IfOk, None};
 ghost use Rattle.zk_table.specs.Steps.{step};
-ghost use Rattle.zk_base.specs.Bases.{FailsBy};
+ghost use Rattle.zk_replay.specs.Bases.{FailsBy};
 ghost use Rattle.zk_replay.specs.Restoring.{Takes, IsTableIn, IsRestored, take_fault, finish_fault};
 
 use crate::window::replay;
+use crate::{BaseFault, Draft, settle};
 use std::alloc::Global;
-use zk_base::{BaseFault, Draft, settle};
 use zk_fold::Fold;
 use zk_newer_records::NewerRecord;
 

@@ -4,7 +4,7 @@ ghost use Rattle.std.specs.Prelude.{◌≡◌, OnOk};
 ghost use Rattle.zk_replay.specs.Rules.{nodes_replayed, sessions_replayed};
 
 use crate::rules::{apply_parts, close, create, delete, set_acl, set_data};
-use zk_base::{Draft, DraftNodes};
+use crate::{Draft, DraftNodes};
 use zk_fold::Sessions;
 use zk_newer_records::NewerRecord;
 use zk_path::NoMemory;

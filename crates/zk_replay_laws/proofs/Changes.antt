@@ -10,9 +10,9 @@ use Rattle.zk_txn.specs.declared.txn.Txn.{Txn}
 use Rattle.zk_txn.specs.Nodes as nodes
 use Rattle.zk_table.specs.States.{NodeMap, changed}
 pub use Rattle.zk_replay_laws.specs.Windows.{Field, Content, Acls, Czxid, Mzxid, Pzxid, Ctime, Mtime, Version, Creates, Aversion, Owner, Value, value, cell, draft_cell}
-use Rattle.zk_base.specs.Drafts as drafts
+use Rattle.zk_replay.specs.Drafts as drafts
 use Rattle.zk_replay.specs.Rules as rules
-use Rattle.zk_base.specs.Drafts.{DraftMap, later}
+use Rattle.zk_replay.specs.Drafts.{DraftMap, later}
 
 -- ---- changes
 

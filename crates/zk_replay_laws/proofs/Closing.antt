@@ -11,7 +11,7 @@ use Rattle.zk_txn.specs.Nodes.{without_child}
 use Rattle.zk_table.specs.Operations.{without, without_all}
 use Rattle.zk_table.specs.States.{NodeMap, path_cmp, changed_above}
 use Rattle.zk_replay.specs.Rules as rules
-use Rattle.zk_base.specs.Drafts.{DraftMap}
+use Rattle.zk_replay.specs.Drafts.{DraftMap}
 use Rattle.zk_replay_laws.proofs.Paths.{none_some}
 use Rattle.zk_replay_laws.proofs.Gets.{paths_equal, cases_path}
 use Rattle.zk_replay_laws.proofs.Changes.{Change, Deletes, applied, Deleted}

@@ -5,8 +5,8 @@ use Rattle.std.specs.FinMap.{get, entries, entries_sorted, find, is_sorted, get-
 use Rattle.std.specs.Ordering.{int_eq, eq_by_cmp}
 use Rattle.zk_table.proofs.Sorted.{to_true}
 use Rattle.zk_table.specs.States.{path_cmp}
-use Rattle.zk_base.specs.declared.draft_node.DraftNode.{DraftNode}
-use Rattle.zk_base.specs.Drafts.{DraftMap, owned_in, owned_by}
+use Rattle.zk_replay.specs.declared.draft_node.DraftNode.{DraftNode}
+use Rattle.zk_replay.specs.Drafts.{DraftMap, owned_in, owned_by}
 use Rattle.zk_replay_laws.proofs.Paths.{some_inj, none_some}
 use Rattle.zk_replay_laws.proofs.Gets.{same_path, paths_equal}
 use Rattle.zk_replay_laws.proofs.Removals.{IsDraftTree}

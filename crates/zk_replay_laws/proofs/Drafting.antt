@@ -9,13 +9,13 @@ use Rattle.zk_table.specs.States.{path_cmp}
 use Rattle.zk_snapshot.specs.declared.snapshot.Access.{Access}
 use Rattle.zk_snapshot.specs.declared.snapshot.Contents.{Contents}
 use Rattle.zk_snapshot.specs.declared.snapshot.Stored.{Stored}
-use Rattle.zk_base.specs.declared.draft_node.DraftNode.{DraftNode}
-use Rattle.zk_base.specs.declared.draft.Draft.{Draft}
-use Rattle.zk_base.specs.declared.fault.BaseFault.{BaseFault}
-use Rattle.zk_base.specs.declared.fault.BaseFault.TheVariants as faults
-use Rattle.zk_base.specs.Drafts as drafts
-use Rattle.zk_base.specs.Drafts.{DraftMap, as_parent}
-use Rattle.zk_base.specs.Bases.{IsDraftOf, acl_of, draft_of, draft_found, drafted, drafted_fault, parent_fault, parent_marked, snapshot_fault, stored_fault, with_stored}
+use Rattle.zk_replay.specs.declared.draft_node.DraftNode.{DraftNode}
+use Rattle.zk_replay.specs.declared.draft.Draft.{Draft}
+use Rattle.zk_replay.specs.declared.fault.BaseFault.{BaseFault}
+use Rattle.zk_replay.specs.declared.fault.BaseFault.TheVariants as faults
+use Rattle.zk_replay.specs.Drafts as drafts
+use Rattle.zk_replay.specs.Drafts.{DraftMap, as_parent}
+use Rattle.zk_replay.specs.Bases.{IsDraftOf, acl_of, draft_of, draft_found, drafted, drafted_fault, parent_fault, parent_marked, snapshot_fault, stored_fault, with_stored}
 use Rattle.zk_replay_laws.specs.Windows.{ArePaths}
 use Rattle.zk_replay_laws.proofs.Paths.{some_inj, none_some}
 use Rattle.zk_replay_laws.proofs.Gets.{cases_path, get_inserted, get_inserted_elsewhere, draft_changed_at, draft_changed_elsewhere}

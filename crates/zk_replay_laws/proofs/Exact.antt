@@ -13,11 +13,11 @@ use Rattle.zk_table.specs.Histories.{state_after, tree_of}
 use Rattle.zk_table.specs.Steps.{step, step_by}
 use Rattle.zk_table.specs.Multis.{told_parts, answers_unapplied, answers_of, nodes_after}
 use Rattle.zk_newer_records.specs.declared.newer_record.NewerRecord.{NewerRecord}
-use Rattle.zk_base.specs.Bases.{IsSettled, settled}
-use Rattle.zk_base.specs.declared.draft.Draft.{Draft}
+use Rattle.zk_replay.specs.Bases.{IsSettled, settled}
+use Rattle.zk_replay.specs.declared.draft.Draft.{Draft}
 use Rattle.zk_snapshot.specs.declared.snapshot.Contents.{Contents}
-use Rattle.zk_restore.specs.States as restored
-use Rattle.zk_restore.specs.States.{IsStateFrom, in_window, after_window, last_of}
+use Rattle.zk_directory_state.specs.States as restored
+use Rattle.zk_directory_state.specs.States.{IsStateFrom, in_window, after_window, last_of}
 use Rattle.zk_replay_laws.specs.Windows.{IsTakenWithin, IsAlike, ReplayIsExact, ReplayIsExactButPzxids}
 use Rattle.zk_replay_laws.specs.Histories.{Closings, Listed, Unlisted}
 use Rattle.zk_replay_laws.proofs.Simulation.{AllSeen, Matches}

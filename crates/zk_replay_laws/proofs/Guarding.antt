@@ -5,9 +5,9 @@ use Rattle.zk_acl.specs.declared.acl.Acl.{Acl}
 use Rattle.zk_txn.specs.declared.node.Node.{Node}
 use Rattle.zk_txn.specs.Nodes as nodes
 use Rattle.zk_table.specs.States.{NodeMap}
-use Rattle.zk_base.specs.Drafts as drafts
-use Rattle.zk_base.specs.declared.draft_node.DraftNode.{DraftNode}
-use Rattle.zk_base.specs.Drafts.{DraftMap, later, fresh}
+use Rattle.zk_replay.specs.Drafts as drafts
+use Rattle.zk_replay.specs.declared.draft_node.DraftNode.{DraftNode}
+use Rattle.zk_replay.specs.Drafts.{DraftMap, later, fresh}
 use Rattle.zk_replay_laws.specs.Histories.{Closings}
 use Rattle.zk_replay_laws.proofs.Gets.{cases_path, changed_at, changed_elsewhere, draft_changed_at, draft_changed_elsewhere, draft_changed_absent}
 use Rattle.zk_replay_laws.proofs.Changes.{Field, Acls, Pzxid, Content, Czxid, Mzxid, Ctime, Mtime, Version, Creates, Aversion, Owner, Value, value, cell, draft_cell, Change, Guards, applied, replayed, There}

@@ -4,9 +4,9 @@ use Rattle.std.specs.FinMap.{get}
 use Rattle.zk_txn.specs.declared.node.Node.{Node}
 use Rattle.zk_txn.specs.Nodes as nodes
 use Rattle.zk_table.specs.States.{NodeMap}
-use Rattle.zk_base.specs.Drafts as drafts
-use Rattle.zk_base.specs.declared.draft_node.DraftNode.{DraftNode}
-use Rattle.zk_base.specs.Drafts.{DraftMap, later, fresh}
+use Rattle.zk_replay.specs.Drafts as drafts
+use Rattle.zk_replay.specs.declared.draft_node.DraftNode.{DraftNode}
+use Rattle.zk_replay.specs.Drafts.{DraftMap, later, fresh}
 use Rattle.zk_replay_laws.specs.Histories.{Closings}
 use Rattle.zk_replay_laws.proofs.Paths.{IsBelow, absent_below, none_some}
 use Rattle.zk_replay_laws.proofs.Gets.{cases_path, cases_below}

@@ -7,8 +7,8 @@ use Rattle.std.specs.Ordering.{eq_by_cmp}
 use Rattle.std.specs.Prelude.{nat_eq}
 use Rattle.zk_path.specs.Paths.{parent_of}
 use Rattle.zk_table.specs.States.{path_cmp}
-use Rattle.zk_base.specs.declared.draft_node.DraftNode.{DraftNode}
-use Rattle.zk_base.specs.Drafts.{DraftMap, starting_in, without_below, removed, had_children}
+use Rattle.zk_replay.specs.declared.draft_node.DraftNode.{DraftNode}
+use Rattle.zk_replay.specs.Drafts.{DraftMap, starting_in, without_below, removed, had_children}
 use Rattle.zk_replay_laws.proofs.Paths.{IsBelow, parent_below, some_inj, none_some}
 use Rattle.zk_replay_laws.proofs.Gets.{paths_equal, paths_differ, get_removed_at, get_removed_elsewhere, get_remove_all, starts_below, begins}
 

@@ -4,9 +4,9 @@ use Rattle.std.proofs.lemmas.Bool.{cond-true, cond-false, false_from_ne_true}
 use Rattle.std.specs.FinMap.{get, insert}
 use Rattle.zk_path.specs.Paths.{parent_of, is_root}
 use Rattle.zk_txn.specs.declared.node.Node.{Node}
-use Rattle.zk_base.specs.Drafts as drafts
-use Rattle.zk_base.specs.declared.draft_node.DraftNode.{DraftNode}
-use Rattle.zk_base.specs.Drafts.{DraftMap, removed, fresh, with_child, without_child}
+use Rattle.zk_replay.specs.Drafts as drafts
+use Rattle.zk_replay.specs.declared.draft_node.DraftNode.{DraftNode}
+use Rattle.zk_replay.specs.Drafts.{DraftMap, removed, fresh, with_child, without_child}
 use Rattle.zk_replay_laws.proofs.Paths.{IsBelow, below_parent, filled_is_not_root, some_inj, none_some}
 use Rattle.zk_replay_laws.proofs.Gets.{cases_path, cases_below, get_inserted, get_inserted_elsewhere, draft_changed_at, draft_changed_elsewhere, draft_changed_absent}
 use Rattle.zk_replay_laws.proofs.Changes.{Makes, Deletes, replayed}

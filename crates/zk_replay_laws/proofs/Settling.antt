@@ -7,9 +7,9 @@ use Rattle.std.specs.Ordering.{eq_by_cmp}
 use Rattle.zk_table.proofs.Sorted.{to_true}
 use Rattle.zk_table.specs.States.{path_cmp, NodeMap}
 use Rattle.zk_txn.specs.declared.node.Node.{Node}
-use Rattle.zk_base.specs.declared.draft_node.DraftNode.{DraftNode}
-use Rattle.zk_base.specs.Drafts.{DraftMap}
-use Rattle.zk_base.specs.Bases.{settled}
+use Rattle.zk_replay.specs.declared.draft_node.DraftNode.{DraftNode}
+use Rattle.zk_replay.specs.Drafts.{DraftMap}
+use Rattle.zk_replay.specs.Bases.{settled}
 use Rattle.zk_replay_laws.proofs.Paths.{some_inj, none_some}
 use Rattle.zk_replay_laws.proofs.Gets.{same_path, path_is_itself, get_inserted, get_inserted_elsewhere, path_cmp-antisymmetric}
 use Rattle.zk_replay_laws.proofs.Changes.{Field, Content, Acls, Czxid, Mzxid, Pzxid, Ctime, Mtime, Version, Creates, Aversion, Owner, value, cell, draft_cell}

@@ -6,9 +6,9 @@ use Rattle.std.specs.FinMap.{get, int_cmp-IsAntisymmetric}
 use Rattle.std.specs.Prelude.{int_lt}
 use Rattle.zk_txn.specs.declared.node.Node.{Node}
 use Rattle.zk_table.specs.States.{NodeMap}
-use Rattle.zk_base.specs.declared.draft_node.DraftNode.{DraftNode}
+use Rattle.zk_replay.specs.declared.draft_node.DraftNode.{DraftNode}
 pub use Rattle.zk_replay_laws.specs.Windows.{LacksList as Lacks}
-use Rattle.zk_base.specs.Drafts.{DraftMap, later}
+use Rattle.zk_replay.specs.Drafts.{DraftMap, later}
 use Rattle.zk_replay_laws.specs.Histories.{Closings, Unlisted}
 use Rattle.zk_replay_laws.proofs.Paths.{some_inj, none_some}
 use Rattle.zk_replay_laws.proofs.Changes.{Field, Content, Acls, Czxid, Mzxid, Pzxid, Ctime, Mtime, Version, Creates, Aversion, Owner, cell, draft_cell, Change, applied, There}

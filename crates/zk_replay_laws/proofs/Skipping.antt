@@ -7,8 +7,8 @@ use Rattle.zk_path.specs.Paths.{parent_of}
 use Rattle.zk_txn.specs.declared.node.Node.{Node}
 use Rattle.zk_txn.specs.Nodes as nodes
 use Rattle.zk_table.specs.States.{NodeMap}
-use Rattle.zk_base.specs.Drafts.{DraftMap}
-use Rattle.zk_base.specs.declared.draft_node.DraftNode.{DraftNode}
+use Rattle.zk_replay.specs.Drafts.{DraftMap}
+use Rattle.zk_replay.specs.declared.draft_node.DraftNode.{DraftNode}
 use Rattle.zk_replay_laws.specs.Histories.{Closings, Unlisted}
 use Rattle.zk_replay_laws.proofs.Paths.{some_inj, none_some}
 use Rattle.zk_replay_laws.proofs.Gets.{cases_path, cases_below, paths_differ, paths_equal, path_is_itself}

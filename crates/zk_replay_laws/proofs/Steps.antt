@@ -1,7 +1,7 @@
 -- Replaying a change keeps a draft seen.
 use Rattle.std.proofs.Common.{List, ◌∷◌}
 use Rattle.zk_table.specs.States.{NodeMap}
-use Rattle.zk_base.specs.Drafts.{DraftMap}
+use Rattle.zk_replay.specs.Drafts.{DraftMap}
 use Rattle.zk_replay_laws.specs.Histories.{Closings}
 use Rattle.zk_replay_laws.proofs.Changes.{Change, Makes, Deletes, Writes, Guards, applied, replayed}
 use Rattle.zk_replay_laws.proofs.Timelines.{IsHistory}

@@ -20,7 +20,7 @@ use Rattle.zk_table.specs.Operations.{done_unless, create, create_fault, parent_
 use Rattle.zk_table.specs.Multis.{apply_part, nodes_after, answers_of, first_refusal}
 use Rattle.zk_tree.proofs.Kept.{tests_alike}
 use Rattle.zk_replay.specs.Rules as rules
-use Rattle.zk_base.specs.Drafts.{DraftMap}
+use Rattle.zk_replay.specs.Drafts.{DraftMap}
 use Rattle.zk_replay_laws.specs.Histories.{IsCountedPart}
 use Rattle.zk_replay_laws.proofs.Paths.{some_inj, none_some}
 use Rattle.zk_replay_laws.proofs.Gets.{path_is_itself, same_path}

@@ -4,7 +4,7 @@ use Rattle.std.proofs.lemmas.Bool.{cond-true, cases_Bool, both_ways, and_right}
 use Rattle.zk_path.specs.Paths.{parent_of, fault_of, is_root}
 use Rattle.zk_path.proofs.Slashes.{begins_with_slash}
 use Rattle.zk_table.specs.States.{NodeMap}
-use Rattle.zk_base.specs.Drafts.{DraftMap}
+use Rattle.zk_replay.specs.Drafts.{DraftMap}
 use Rattle.zk_replay_laws.proofs.Paths.{below_parent, none_some}
 use Rattle.zk_replay_laws.proofs.Changes.{Change, applied, replayed}
 use Rattle.zk_replay_laws.proofs.Replays.{below_longer}

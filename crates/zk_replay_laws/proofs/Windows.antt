@@ -23,9 +23,9 @@ use Rattle.zk_table.specs.Steps.{step, step_by}
 use Rattle.zk_acl.specs.declared.acl.Acl.{Acl}
 use Rattle.zk_newer_records.specs.NewerRecords.{listed_of}
 use Rattle.zk_newer_records.specs.declared.newer_record.NewerRecord.{NewerRecord}
-use Rattle.zk_base.specs.declared.draft_node.DraftNode.{DraftNode}
-use Rattle.zk_base.specs.Drafts as drafts
-use Rattle.zk_base.specs.Drafts.{DraftMap, owned_in}
+use Rattle.zk_replay.specs.declared.draft_node.DraftNode.{DraftNode}
+use Rattle.zk_replay.specs.Drafts as drafts
+use Rattle.zk_replay.specs.Drafts.{DraftMap, owned_in}
 use Rattle.zk_replay.specs.Rules as rules
 use Rattle.zk_replay.specs.Rules.{nodes_replayed}
 use Rattle.zk_replay_laws.specs.Histories.{Closings, Listed, Unlisted, ListsAs, ListsIfClosed, ListsNodes, IsCounted, IsInWindow, AreInWindow, CreatesNone, creates, is_create, AreRising, EndsIfClosed}

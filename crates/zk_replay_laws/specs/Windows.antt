@@ -11,11 +11,11 @@ use Rattle.zk_table.specs.States.{State, start_state}
 use Rattle.zk_newer_records.specs.declared.newer_record.NewerRecord.{NewerRecord}
 use Rattle.zk_snapshot.specs.declared.snapshot.Contents.{Contents}
 use Rattle.zk_snapshot.specs.declared.snapshot.Stored.{Stored}
-use Rattle.zk_base.specs.declared.draft.Draft.{Draft}
-use Rattle.zk_base.specs.declared.draft_node.DraftNode.{DraftNode}
-use Rattle.zk_base.specs.Bases.{IsDraftOf, snapshot_fault}
-use Rattle.zk_base.specs.Drafts.{DraftMap}
-use Rattle.zk_restore.specs.States.{IsStateFrom, in_window, txn_of}
+use Rattle.zk_replay.specs.declared.draft.Draft.{Draft}
+use Rattle.zk_replay.specs.declared.draft_node.DraftNode.{DraftNode}
+use Rattle.zk_replay.specs.Bases.{IsDraftOf, snapshot_fault}
+use Rattle.zk_replay.specs.Drafts.{DraftMap}
+use Rattle.zk_directory_state.specs.States.{IsStateFrom, in_window, txn_of}
 use Rattle.zk_replay_laws.specs.Histories.{Closings, Listed, Unlisted, AreInWindow, AreLogged, AreRising}
 
 -- ---- the fields of a node

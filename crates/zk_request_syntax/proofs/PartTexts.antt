@@ -6,7 +6,7 @@ use Rattle.std.specs.List.{AllByRecursion, flat_map}
 use Rattle.std.specs.Option.{option_and_then}
 use Rattle.std.specs.Str.{chars}
 use Rattle.zk_acl.specs.declared.acl.Acl.{Acl}
-use Rattle.zk_listing.specs.declared.fault.ListCause.{ListCause}
+use Rattle.zk_listing.specs.declared.list_fault.ListCause.{ListCause}
 use Rattle.zk_listing.specs.Reading.{IsEnd, front_of, back_of, behind, both, spaced, Fails}
 use Rattle.zk_listing.proofs.Exact.{bind_some, first_is, second_is}
 use Rattle.zk_listing.proofs.InsideQuotes.{Fails-then}

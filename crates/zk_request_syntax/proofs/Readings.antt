@@ -7,8 +7,8 @@ use Rattle.std.proofs.lemmas.Slice.Eq.{bytes_eq-Decides}
 use Rattle.std.specs.List.{AllByRecursion}
 use Rattle.std.specs.Option.{option_and_then}
 use Rattle.std.specs.Str.{bytes_eq}
-use Rattle.zk_listing.specs.declared.fault.ListCause.{ListCause}
-use Rattle.zk_listing.specs.declared.fault.ListCause.TheVariants as causes
+use Rattle.zk_listing.specs.declared.list_fault.ListCause.{ListCause}
+use Rattle.zk_listing.specs.declared.list_fault.ListCause.TheVariants as causes
 use Rattle.zk_listing.specs.Reading.{IsEnd, front_of, back_of, past, spaced, both, mapped, Takes}
 use Rattle.zk_listing.proofs.Exact.{IsExact, bind_some, some_is, first_is, second_is, past_is, front-back}
 use Rattle.zk_request_syntax.specs.Promises.{ReadsAll}

@@ -1,7 +1,7 @@
 -- What the readers of whole texts accept: exactly the texts of the form.
 use Rattle.std.specs.Prelude.{◌≡◌, ℕ, List, Result, Ok, Err}
-use Rattle.zk_listing.specs.declared.fault.ListCause.{ListCause}
-use Rattle.zk_listing.specs.declared.fault.ListCause.TheVariants as causes
+use Rattle.zk_listing.specs.declared.list_fault.ListCause.{ListCause}
+use Rattle.zk_listing.specs.declared.list_fault.ListCause.TheVariants as causes
 
 -- a text is read as the one thing that it stands for, or rejected if there is none
 abbrev pub ReadsAll : {X : Type 0} → (X → List ℕ → Type 0) → List ℕ → Result X ListCause → Type 0

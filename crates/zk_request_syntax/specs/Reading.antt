@@ -7,8 +7,8 @@ use Rattle.std.specs.Str.{bytes_eq}
 use Rattle.std.specs.Str.Parse.{digits_value}
 use Rattle.zk_acl.specs.declared.acl.Acl.{Acl}
 use Rattle.zk_acl.specs.declared.acl.Id.{Id}
-use Rattle.zk_listing.specs.declared.fault.ListCause.{ListCause}
-use Rattle.zk_listing.specs.declared.fault.ListCause.TheVariants as causes
+use Rattle.zk_listing.specs.declared.list_fault.ListCause.{ListCause}
+use Rattle.zk_listing.specs.declared.list_fault.ListCause.TheVariants as causes
 use Rattle.zk_listing.specs.Reading.{◌>>=◌, is_end, front_of, back_of, of_field, past, spaced, both, mapped, behind, many_at, id_at, int_at, quoted_at, content_at, acl_at, Fails}
 use Rattle.zk_path.specs.Paths.{fault_of}
 use Rattle.zk_requests.specs.declared.call.Part.{Part}

@@ -1,1 +1,4 @@
+pub mod Counts
+pub mod Laying
+pub mod Recounts
 pub mod Slashless

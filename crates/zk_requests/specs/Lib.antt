@@ -1,3 +1,4 @@
+pub mod Overlays
 pub mod Refusals
 pub mod Requests
 pub mod Timeouts

@@ -5,12 +5,12 @@ ghost use Rattle.std.specs.String.{string_bytes};
 ghost use Rattle.zk_requests.specs.Refusals.{Gives};
 ghost use Rattle.zk_requests.specs.Requests.{are_flags, is_persistent, is_ephemeral, is_sequential, numbered, path_in, place_below, create_below, create};
 
+use crate::Overlay;
 use crate::refusal::Refusal;
 use crate::texts::{demand, is_legible, kept_acl, path_in, text_above};
 use crate::versions::one_more;
 use std::alloc::Global;
 use zk_acl::{Acls, CREATE, Id, allows};
-use zk_overlay::Overlay;
 use zk_path::{NoMemory, Path, sequence};
 use zk_table::codes::{BAD_ARGUMENTS, NO_AUTH, NO_CHILDREN_FOR_EPHEMERALS, NO_NODE, NODE_EXISTS};
 use zk_table::{Content, Node, Sub};

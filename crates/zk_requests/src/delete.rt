@@ -4,11 +4,11 @@ ghost use Rattle.std.specs.Prelude.{◌≡◌};
 ghost use Rattle.zk_requests.specs.Refusals.{Gives};
 ghost use Rattle.zk_requests.specs.Requests.{may_go, delete};
 
+use crate::Overlay;
 use crate::refusal::Refusal;
 use crate::texts::{demand, is_first_path, path_in, text_above};
 use crate::versions::matches;
 use zk_acl::{DELETE, Id, allows};
-use zk_overlay::Overlay;
 use zk_table::Sub;
 use zk_table::codes::{BAD_ARGUMENTS, BAD_VERSION, NO_AUTH, NO_NODE, NOT_EMPTY};
 

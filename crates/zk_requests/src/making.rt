@@ -6,6 +6,7 @@ ghost use Rattle.zk_txn.specs.declared.sub.Sub.{Sub};
 ghost use Rattle.zk_txn.specs.declared.txn.Op.TheVariants as ops;
 ghost use Rattle.zk_requests.specs.Requests.{alone, op_of, op_on, parts_on, opens, is_open, header_of, asked_on, within_limit, meaning_of};
 
+use crate::Overlay;
 use crate::call::{Call, Part, Request};
 use crate::create::create;
 use crate::delete::delete;
@@ -17,7 +18,6 @@ use crate::versions::{set_acl, set_data};
 use std::alloc::Global;
 use zk_acl::Id;
 use zk_machine::Machine;
-use zk_overlay::Overlay;
 use zk_path::NoMemory;
 use zk_records::size;
 use zk_table::codes::{BAD_ARGUMENTS, SESSION_EXPIRED};

@@ -4,13 +4,13 @@ ghost use Rattle.std.specs.Prelude.{◌≡◌, IfOk};
 ghost use Rattle.zk_requests.specs.Refusals.{Gives};
 ghost use Rattle.zk_requests.specs.Requests.{part_on, next_part, parts_on};
 
+use crate::Overlay;
 use crate::call::Part;
 use crate::create::create;
 use crate::delete::delete;
 use crate::refusal::Refusal;
 use crate::versions::{check, set_data};
 use zk_acl::Id;
-use zk_overlay::Overlay;
 use zk_path::NoMemory;
 use zk_table::codes::RUNTIME_INCONSISTENCY;
 use zk_table::{Sub, Txn};

@@ -4,10 +4,10 @@ ghost use Rattle.std.specs.Prelude.{◌≡◌};
 ghost use Rattle.zk_requests.specs.Refusals.{Gives};
 ghost use Rattle.zk_requests.specs.Requests.{matches, one_more, next_version, next_aversion, set_data, check, set_acl};
 
+use crate::Overlay;
 use crate::refusal::Refusal;
 use crate::texts::{demand, kept_acl, path_in};
 use zk_acl::{ADMIN, Acls, Id, READ, WRITE, allows};
-use zk_overlay::Overlay;
 use zk_table::codes::{BAD_VERSION, NO_AUTH, NO_NODE};
 use zk_table::{Content, Op, Sub};
 

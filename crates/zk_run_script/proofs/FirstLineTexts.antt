@@ -5,12 +5,12 @@ use Rattle.std.proofs.lemmas.Bool.Decides.{nat_tests}
 use Rattle.std.specs.Prelude.{if◌then◌else◌, IfOk, IfErr, codes, is_none}
 use Rattle.std.specs.Fmt.{decimal}
 use Rattle.std.specs.List.{flat_map}
-use Rattle.zab_quorums.specs.declared.fault.WeightFault.{WeightFault}
-use Rattle.zab_quorums.specs.declared.fault.WeightFault.TheVariants as faults
-use Rattle.zab_quorums.specs.Weights.{weight_fault}
+use Rattle.zab_epoch.specs.declared.weight_fault.WeightFault.{WeightFault}
+use Rattle.zab_epoch.specs.declared.weight_fault.WeightFault.TheVariants as faults
+use Rattle.zab_epoch.specs.Weights.{weight_fault}
 use Rattle.zk_listing.specs.Reading.{IsEnd, front_of, back_of, spaced, Fails}
-use Rattle.zk_listing.specs.declared.fault.ListCause.{ListCause}
-use Rattle.zk_listing.specs.declared.fault.ListCause.TheVariants as causes
+use Rattle.zk_listing.specs.declared.list_fault.ListCause.{ListCause}
+use Rattle.zk_listing.specs.declared.list_fault.ListCause.TheVariants as causes
 use Rattle.zk_listing.proofs.Exact.{bind_some, first_is, second_is}
 use Rattle.zk_request_syntax.specs.Reading.{number_at}
 use Rattle.zk_request_syntax.proofs.Readings.{TakesBehind, by_word_takes, ReadsWhole, nothing_left}

@@ -4,3 +4,5 @@ pub mod Weights
 pub mod FirstLineTexts
 pub mod Kept
 pub mod PlaysLaws
+pub mod Pieces
+pub mod Spelled

@@ -2,15 +2,15 @@
 use Rattle.std.proofs.Common.{◌≡◌, ℕ, ◌+◌, ◌≤◌, ◌<◌, List, [], ◌∷◌, ◌++◌, length, Result, Ok, Err, refl, sym, ap, subst, ◌∙◌, inl, inr, append_assoc, length-append, arith}
 use Rattle.std.proofs.lemmas.List.{append-nil}
 use Rattle.zk_ensemble.specs.Views.{EnsembleView}
-use Rattle.zk_listing.specs.declared.fault.ListCause.{ListCause}
-use Rattle.zk_listing.specs.declared.fault.ListCause.TheVariants as causes
+use Rattle.zk_listing.specs.declared.list_fault.ListCause.{ListCause}
+use Rattle.zk_listing.specs.declared.list_fault.ListCause.TheVariants as causes
 use Rattle.zk_path.specs.declared.memory.NoMemory.{NoMemory}
 use Rattle.zk_run_script.specs.FirstLines.{SaysServers, ReadsServers}
 use Rattle.zk_run_script.specs.Commands.{Says, SaysNothing, ReadsCommand}
 use Rattle.zk_run_script.specs.declared.command.Command.{Command}
-use Rattle.zk_reports.specs.Lines.{lines_of}
-use Rattle.zk_reports.specs.declared.fault.ScriptFault.{ScriptFault}
-use Rattle.zk_reports.specs.declared.fault.ScriptFault.TheVariants as faults
+use Rattle.zk_listing.specs.Lines.{lines_of}
+use Rattle.zk_listing.specs.declared.script_fault.ScriptFault.{ScriptFault}
+use Rattle.zk_listing.specs.declared.script_fault.ScriptFault.TheVariants as faults
 use Rattle.zk_run_script.specs.Playing.{Answers, Obeys}
 use Rattle.zk_run_script.specs.Scripts.{SayAll, AnswersAll, EndsScript, Plays}
 

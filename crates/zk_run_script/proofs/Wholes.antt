@@ -2,8 +2,8 @@
 use Rattle.std.proofs.Common.{◌≡◌, ◌==◌, ◌&&◌, eqb, ℕ, Bool, true, false, cond, List, [], ◌∷◌, ◌++◌, length, Option, Some, None, Result, Ok, Err, refl, sym, ap, subst, ◌∙◌, append_assoc}
 use Rattle.std.proofs.lemmas.List.{append-nil}
 use Rattle.std.specs.Option.{option_and_then}
-use Rattle.zk_listing.specs.declared.fault.ListCause.{ListCause}
-use Rattle.zk_listing.specs.declared.fault.ListCause.TheVariants as causes
+use Rattle.zk_listing.specs.declared.list_fault.ListCause.{ListCause}
+use Rattle.zk_listing.specs.declared.list_fault.ListCause.TheVariants as causes
 use Rattle.zk_listing.specs.Reading.{IsEnd, past, spaced, both, mapped, Takes}
 use Rattle.zk_listing.proofs.Exact.{bind_some, first_is, second_is, past_is}
 use Rattle.zk_request_syntax.proofs.Readings.{Reads, Next, NextThen, TakesBehind, ReadsWhole, reads_last, nothing_left}

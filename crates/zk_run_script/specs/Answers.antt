@@ -13,7 +13,7 @@ use Rattle.zk_model.specs.declared.answer.Answer.TheVariants.{Moved as HasMoved,
 use Rattle.zk_model.specs.declared.answer.Answered.{Answered}
 use Rattle.zk_model.specs.declared.fault.EnsembleFault.{EnsembleFault}
 use Rattle.zk_model.specs.declared.fault.EnsembleFault.TheVariants as faults
-use Rattle.zk_reports.specs.Reports.{line, tree_report}
+use Rattle.zk_listing.specs.Reports.{line, tree_report}
 use Rattle.zk_format.specs.Listings.{line_of}
 use Rattle.zk_format.specs.Reports.{result_line}
 use Rattle.zk_format.specs.Spelling.{sixteen_digits, id_digits, quoted}

@@ -1,6 +1,6 @@
 -- How the first line of a run script is read: a word, and the fields after it.
 use Rattle.std.specs.Prelude.{◌^◌, ◌==◌, ◌&&◌, nat_lt, nat_le, ℕ, List, [], ◌∷◌, Bool, if◌then◌else◌, length, replicate, codes, Option, Some, None, is_none}
-use Rattle.zab_quorums.specs.Weights.{weight_fault}
+use Rattle.zab_epoch.specs.Weights.{weight_fault}
 use Rattle.zk_listing.specs.Reading.{◌>>=◌, spaced, many_at}
 use Rattle.zk_request_syntax.specs.Reading.{by_word, number_at}
 

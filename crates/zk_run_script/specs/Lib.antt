@@ -6,3 +6,4 @@ pub mod FirstLineReading
 pub mod FirstLines
 pub mod Playing
 pub mod Scripts
+pub mod Lines

@@ -16,7 +16,7 @@ use Rattle.zk_model.specs.declared.fault.EnsembleFault.TheVariants as faults
 use Rattle.zk_model.specs.Counting.{counted, IsAnswered}
 use Rattle.zk_model.specs.Ensembles.{Told, fresh, replica_at}
 use Rattle.zk_model.specs.Runs.{after}
-use Rattle.zk_reports.specs.Reports.{line}
+use Rattle.zk_listing.specs.Reports.{line}
 use Rattle.zk_txn.specs.Codes.{bad_arguments}
 
 -- a new ensemble with one server for each weight

@@ -4,9 +4,9 @@ use Rattle.zk_ensemble.specs.Views.{EnsembleView}
 use Rattle.zk_run_script.specs.FirstLines.{SaysServers}
 use Rattle.zk_run_script.specs.Commands.{Says, SaysNothing}
 use Rattle.zk_run_script.specs.declared.command.Command.{Command}
-use Rattle.zk_reports.specs.Lines.{lines_of}
-use Rattle.zk_reports.specs.declared.fault.ScriptFault.{ScriptFault}
-use Rattle.zk_reports.specs.declared.fault.ScriptFault.TheVariants as faults
+use Rattle.zk_listing.specs.Lines.{lines_of}
+use Rattle.zk_listing.specs.declared.script_fault.ScriptFault.{ScriptFault}
+use Rattle.zk_listing.specs.declared.script_fault.ScriptFault.TheVariants as faults
 use Rattle.zk_run_script.specs.Playing.{started, Answers}
 
 -- each line has its command

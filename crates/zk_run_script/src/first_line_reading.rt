@@ -6,7 +6,7 @@ ghost use Rattle.zk_run_script.specs.FirstLineReading.{servers_at, weight_at, li
 
 use crate::server_weights::{MOST_SERVERS, ServerWeights};
 use std::alloc::Global;
-use zab_quorums::{WeightFault, Weighted};
+use zab_epoch::{WeightFault, Weighted};
 use zk_listing::ListCause;
 use zk_request_syntax::{spaced_number, take_space, take_word};
 

@@ -6,7 +6,7 @@ ghost use Rattle.zab_model.specs.Runs.{history_of};
 ghost use Rattle.zk_request_syntax.specs.ReplyLines.{refusal_text};
 ghost use Rattle.zk_run_script.specs.Answers.{listing_report};
 ghost use Rattle.zk_run_script.specs.Playing.{Obeys, report_text};
-ghost use Rattle.zk_reports.specs.Reports.{line};
+ghost use Rattle.zk_listing.specs.Reports.{line};
 ghost use Rattle.zk_txn.specs.Codes.{bad_arguments};
 
 use crate::command::{Command, Report};

@@ -6,11 +6,10 @@ ghost use Rattle.zk_run_script.specs.Answers.{lines_line, listing_report, answer
 ghost use Rattle.zk_format.specs.Listings.{line_of};
 
 use zk_ensemble::Caught;
-use zk_listing::{push_digits, push_line, push_quoted, push_result_line};
+use zk_listing::{push_digits, push_line, push_quoted, push_result_line, push_tree};
 use zk_machine::{ChangeKind, Machine};
 use zk_model::Answered;
 use zk_path::NoMemory;
-use zk_reports::push_tree;
 use zk_table::Txn;
 use zk_watch::Fired;
 

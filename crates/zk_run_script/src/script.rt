@@ -9,8 +9,7 @@ use crate::playing::run_command;
 use std::alloc::Global;
 use zab_epoch::Weighted;
 use zk_ensemble::Ensemble;
-use zk_listing::ListCause;
-use zk_reports::{ScriptFault, next_line};
+use zk_listing::{ListCause, ScriptFault, next_line};
 
 /// Executes the lines of a script one after the other, with an ensemble of the servers that the
 /// first line names, and appends the answers, up to the first line that is no command. A newline

@@ -3,7 +3,7 @@ ghost use Rattle.std.specs.Prelude.{◌≡◌, ◌++◌, OnErr, OnOk};
 ghost use Rattle.std.specs.String.{string_bytes};
 ghost use Rattle.zk_run_script.specs.Answers.{numbers_text, moved_text, fault_text, told_text};
 ghost use Rattle.zk_model.specs.declared.fault.EnsembleFault.TheVariants as faults;
-ghost use Rattle.zk_reports.specs.Reports.{line};
+ghost use Rattle.zk_listing.specs.Reports.{line};
 
 use zab_model::Moved;
 use zk_listing::push_id;

@@ -1,11 +1,11 @@
 -- How the command ends if the chronicle is rejected, by the seats and receipts that were closed.
 use Rattle.std.proofs.Common.{◌≡◌, ℕ, List, inl, inr, refl, subst}
-use Rattle.zk_chronicle.specs.Closing.{IsRefusal}
-use Rattle.zk_chronicle.specs.declared.calls.Made.{Made}
-use Rattle.zk_chronicle.specs.declared.fault.CloseFault.{CloseFault}
-use Rattle.zk_chronicle.specs.declared.fault.CloseFault.TheVariants as faults
-use Rattle.zk_chronicle.specs.declared.record.Receipt.{Receipt}
-use Rattle.zk_chronicle.specs.declared.record.Record.{Record}
+use Rattle.zk_servers.specs.Closing.{IsRefusal}
+use Rattle.zk_servers.specs.declared.calls.Made.{Made}
+use Rattle.zk_servers.specs.declared.fault.CloseFault.{CloseFault}
+use Rattle.zk_servers.specs.declared.fault.CloseFault.TheVariants as faults
+use Rattle.zk_servers.specs.declared.record.Receipt.{Receipt}
+use Rattle.zk_servers.specs.declared.record.Record.{Record}
 use Rattle.zk_serve.specs.Closing.{Closes}
 use Rattle.zk_serve.specs.declared.accepting.Served.{Served}
 use Rattle.zk_serve.specs.declared.accepting.Served.TheVariants as served

@@ -1,10 +1,10 @@
 -- How the command ends once its servers have: by their calls and receipts, and the chronicle.
 use Rattle.std.specs.Prelude.{◌≡◌, ◌⊎◌, ℕ, List}
-use Rattle.zk_chronicle.specs.Closing.{IsRefusal, IsWhole}
-use Rattle.zk_chronicle.specs.declared.calls.Made.{Made}
-use Rattle.zk_chronicle.specs.declared.fault.CloseFault.TheVariants as faults
-use Rattle.zk_chronicle.specs.declared.record.Receipt.{Receipt}
-use Rattle.zk_chronicle.specs.declared.record.Record.{Record}
+use Rattle.zk_servers.specs.Closing.{IsRefusal, IsWhole}
+use Rattle.zk_servers.specs.declared.calls.Made.{Made}
+use Rattle.zk_servers.specs.declared.fault.CloseFault.TheVariants as faults
+use Rattle.zk_servers.specs.declared.record.Receipt.{Receipt}
+use Rattle.zk_servers.specs.declared.record.Record.{Record}
 use Rattle.zk_serve.specs.declared.accepting.Served.{Served}
 use Rattle.zk_serve.specs.declared.accepting.Served.TheVariants as served
 

@@ -1,8 +1,8 @@
 -- The results of threads, in three lists.
 use Rattle.std.proofs.Common.{◌≡◌, ℕ, suc, ◌+◌, ◌<◌, List, [], ◌∷◌, length, map, refl, sym, ap, subst, ◌∙◌, arith}
 use Rattle.zk_model.specs.declared.event.Event.{Event}
-use Rattle.zk_chronicle.specs.declared.record.Receipt.{Receipt}
-use Rattle.zk_chronicle.specs.declared.calls.Made.{Made}
+use Rattle.zk_servers.specs.declared.record.Receipt.{Receipt}
+use Rattle.zk_servers.specs.declared.calls.Made.{Made}
 use Rattle.zk_servers.specs.declared.serving.Worker.{Worker}
 use Rattle.zk_servers.specs.declared.serving.Worked.{Worked}
 use Rattle.zk_servers.specs.Running.{AllDid, AllServed, AreWorkers, DidRun, IsRunOf, told_by}

@@ -1,3 +1,7 @@
+pub mod Chronicles
+pub mod Delivering
+pub mod Marks
+pub mod Scans
 pub mod Fronts
 pub mod Keeping
 pub mod Looking

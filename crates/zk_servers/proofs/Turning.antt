@@ -6,9 +6,9 @@ use lib.ListN.{get_or}
 use Rattle.zk_model.specs.declared.event.Event.{Event}
 use Rattle.zab_model.specs.declared.event.Event.TheVariants.{Arrive}
 use Rattle.zk_model.specs.declared.event.Event.TheVariants as events
-use Rattle.zk_chronicle.specs.declared.record.Receipt.{Receipt}
-use Rattle.zk_chronicle.specs.declared.calls.Made.{Made}
-use Rattle.zk_chronicle.specs.Calls.{made}
+use Rattle.zk_servers.specs.declared.record.Receipt.{Receipt}
+use Rattle.zk_servers.specs.declared.calls.Made.{Made}
+use Rattle.zk_servers.specs.Calls.{made}
 use Rattle.zk_servers.specs.Turns.{IsAllBut, IsArrival, AreOfTurns, DidTurns, events_of, numbers_of, numbers_told}
 
 all_but_made : (passed : ℕ) (xs ys : List Event) (x : Event) → IsAllBut passed xs ys → IsAllBut passed (xs ++ x ∷ []) (ys ++ x ∷ [])

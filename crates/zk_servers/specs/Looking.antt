@@ -2,8 +2,8 @@
 -- "ZooKeeper Watches": a client gets the event of a change before it sees the change, and never
 -- before the reply to the read that set the watch.
 use Rattle.std.specs.Prelude.{ℕ, ℤ}
-use Rattle.zk_chronicle.specs.Chronicles.{ChronicleView, IsOutcomeIn, IsRecorded}
-use Rattle.zk_chronicle.specs.declared.record.Receipt.{Receipt}
+use Rattle.zk_servers.specs.Chronicles.{ChronicleView, IsOutcomeIn, IsRecorded}
+use Rattle.zk_servers.specs.declared.record.Receipt.{Receipt}
 use Rattle.zk_ensemble.specs.declared.outcome.Mark.{Mark}
 use Rattle.zk_ensemble.specs.declared.outcome.Outcome.{Outcome}
 use Rattle.zk_model.specs.declared.event.Event.{Event}

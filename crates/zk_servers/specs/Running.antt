@@ -1,8 +1,8 @@
 -- The effect of all servers' threads.
 use Rattle.std.specs.Prelude.{◌≡◌, ◌<◌, ℕ, List, [], ◌∷◌, ◌++◌, length, map, slice_index_or}
 use Rattle.zk_model.specs.declared.event.Event.{Event}
-use Rattle.zk_chronicle.specs.declared.record.Receipt.{Receipt}
-use Rattle.zk_chronicle.specs.declared.calls.Made.{Made}
+use Rattle.zk_servers.specs.declared.record.Receipt.{Receipt}
+use Rattle.zk_servers.specs.declared.calls.Made.{Made}
 use Rattle.zk_servers.specs.declared.serving.Worker.{Worker}
 use Rattle.zk_servers.specs.declared.serving.Worked.{Worked}
 use Rattle.zk_servers.specs.declared.running.Turns.{Turns}

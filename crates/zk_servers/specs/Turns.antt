@@ -3,8 +3,8 @@ use Rattle.std.specs.Prelude.{◌≡◌, ◌⊎◌, ◌+◌, ℕ, All, List, [],
 use Rattle.zk_model.specs.declared.event.Event.{Event}
 use Rattle.zk_model.specs.declared.event.Event.TheVariants as events
 use Rattle.zab_model.specs.declared.event.Event.TheVariants.{Arrive}
-use Rattle.zk_chronicle.specs.declared.record.Receipt.{Receipt}
-use Rattle.zk_chronicle.specs.declared.calls.Made.{Made}
+use Rattle.zk_servers.specs.declared.record.Receipt.{Receipt}
+use Rattle.zk_servers.specs.declared.calls.Made.{Made}
 
 -- these are the events in order, except `n` that are passed over
 abbrev pub IsAllBut : ℕ → List Event → List Event → Type 0

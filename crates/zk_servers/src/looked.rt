@@ -1,4 +1,4 @@
-use zk_chronicle::{Outcome, Receipt};
+use crate::{Outcome, Receipt};
 
 /// A read that happened, with the events that its session gets with the reply.
 #[derive(Drop)]

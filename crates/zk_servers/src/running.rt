@@ -2,6 +2,7 @@ ghost use Rattle.std.specs.Prelude.{◌≡◌, length, map, IfOk, vec_len};
 ghost use Rattle.zk_servers.specs.Running.{AllDid, ArePromised, AreWorkers, DidRun, IsRunOf};
 ghost use Rattle.zk_servers.specs.Turns.{DidTurns};
 
+use crate::Receipt;
 use crate::inbox::{Inbox, Post, Senders};
 use crate::ledger::CallLedger;
 use crate::seat::Seat;
@@ -13,7 +14,6 @@ use std::sync::Wait;
 use std::sync::ledger::Ledger;
 use std::thread;
 use std::thread::{Promise, PromisedHandle, Scope, Threads};
-use zk_chronicle::Receipt;
 use zk_model::Event;
 use zk_path::NoMemory;
 

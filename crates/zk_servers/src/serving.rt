@@ -1,7 +1,8 @@
 ghost use Rattle.std.specs.Prelude.{◌≡◌, ◌++◌, ◌∷◌, [], true, false};
-ghost use Rattle.zk_chronicle.specs.Calls.{made};
+ghost use Rattle.zk_servers.specs.Calls.{made};
 ghost use Rattle.zk_servers.specs.Turns.{DidTurns};
 
+use crate::Receipt;
 use crate::inbox::{Inbox, Senders};
 use crate::ledger::CallLedger;
 use crate::seat::Seat;
@@ -9,7 +10,6 @@ use crate::shared::Shared;
 use std::alloc::Global;
 use std::sync::Wait;
 use std::sync::ledger::Ledger;
-use zk_chronicle::Receipt;
 use zk_model::Event;
 
 /// Each thread passes it before each of its turns.

@@ -1,6 +1,6 @@
 ghost use Rattle.std.specs.Prelude.{◌^◌, All, length, map, ◌≡◌, ◌+◌, ◌<◌, ◌++◌, ◌∷◌, [], replicate, IfErr, IfOk, OnErr};
-ghost use Rattle.zk_chronicle.specs.Calls.{made};
-ghost use Rattle.zk_chronicle.specs.Closing.{IsRefusal, IsWhole};
+ghost use Rattle.zk_servers.specs.Calls.{made};
+ghost use Rattle.zk_servers.specs.Closing.{IsRefusal, IsWhole};
 ghost use Rattle.zk_servers.specs.Looking.{IsToldBefore};
 ghost use Rattle.zk_views.specs.Catching.{AreOfOneView};
 
@@ -12,12 +12,12 @@ use crate::looked::Looked;
 use crate::pausing::pause;
 use crate::seat::Seat;
 use crate::shared_state::SharedState;
+use crate::{CallFault, Chronicle, CloseFault, Mark, Outcome, Receipt};
 use std::alloc::Global;
 use std::array;
 use std::sync::atomic::{AtomicU64, Ordering};
 use std::sync::ledger::{Blank, Ledger, Share};
 use std::sync::{Mutex, MutexGuard, Wait};
-use zk_chronicle::{CallFault, Chronicle, CloseFault, Mark, Outcome, Receipt};
 use zk_model::Event;
 use zk_path::NoMemory;
 use zk_views::{Reader, Viewed, views_of};

@@ -1,3 +1,15 @@
+pub mod FileParts
+pub mod Blocks
+pub mod BookFiles
+pub mod Bytes
+pub mod Torn
+mod Disks
+pub mod Logs
+mod Readers
+mod LogReading
+mod Zeros
+mod OldFiles
+mod Flips
 mod Parts
 mod Prefixes
 mod Creations

@@ -2,7 +2,8 @@
 
 use sqlite_disk::{Crash, Disk, Fuse, Memory};
 use std::alloc::Global;
-use zk_book::{Book, Join, StoredBook, create, recover, replace};
+use zk_store::book_storing::{create, recover};
+use zk_store::{Book, BookFault, Join, StoredBook, replace};
 
 const FIRST: Book = Book {
     promised: 0,
@@ -20,13 +21,16 @@ const SECOND: Book = Book {
     join: Some(Join { keep: 9, added: 10 }),
 };
 
-/// The file after `FIRST` was created and `SECOND` replaced it: a block of each, and the selector.
-const FILE: [u8; 75] = [
-    0, 0, 0, 0, 0, 0, 0, 0, 0, 0, 0, 1, 0, 0, 0, 0, 0, 0, 0, 0, 0, 0, 0, 0, 0, 0, 0, 0, 0, 0, 0, 0,
-    0, 0, 0, 0, 0, // the second block
-    1, 2, 3, 4, 0, 0, 0, 5, 0, 0, 0, 6, 0, 0, 0, 0, 0, 0, 7, 8, 1, 0, 0, 0, 0, 0, 0, 0, 9, 0, 0, 0,
-    0, 0, 0, 0, 10, // selected
-    1,
+/// The blocks of both books: their numbers, and the Adler-32 checksum that Python's `zlib` finds.
+const BLOCKS: [[u8; 41]; 2] = [
+    [
+        0, 0, 0, 0, 0, 0, 0, 0, 0, 0, 0, 1, 0, 0, 0, 0, 0, 0, 0, 0, 0, 0, 0, 0, 0, 0, 0, 0, 0, 0,
+        0, 0, 0, 0, 0, 0, 0, 0, 63, 0, 2,
+    ],
+    [
+        1, 2, 3, 4, 0, 0, 0, 5, 0, 0, 0, 6, 0, 0, 0, 0, 0, 0, 7, 8, 1, 0, 0, 0, 0, 0, 0, 0, 9, 0,
+        0, 0, 0, 0, 0, 0, 10, 4, 54, 0, 57,
+    ],
 ];
 
 type Stopping = Fuse<Memory>;
@@ -83,13 +87,63 @@ fn crash_at_each_call_leaves_one_book(rt: HostRuntime) {
     assert!(rt; stops_with(rt.alloc(), 12, second));
 }
 
-/// Whether both books are stored as these bytes.
+/// Whether a file has these bytes at an offset.
+fn has_at(file: &[u8], at: usize, bytes: &[u8]) -> bool {
+    matches!(file.get(at..at + bytes.len()), Some(found) if found == bytes)
+}
+
+/// Whether both books are stored as these bytes, each in a sector of its own, and then what selects
+/// the second one.
 fn is_file(alloc: Global) -> bool {
     let mut disk = Fuse::new(Memory::new(alloc), 12);
-    count_steps(alloc, &mut disk) == 2 && disk.inner().bytes() == FILE.as_slice()
+    let stored = count_steps(alloc, &mut disk) == 2;
+    let file = disk.inner().bytes();
+    stored
+        && file.len() == 8195
+        && has_at(file, 0, BLOCKS[0].as_slice())
+        && has_at(file, 4096, BLOCKS[1].as_slice())
+        && has_at(file, 8192, &[1, 1, 1])
 }
 
 #[test]
 fn book_has_these_bytes(rt: HostRuntime) {
     assert!(rt; is_file(rt.alloc()));
+}
+
+/// What is found in a file in which one byte of two books was changed.
+fn found_after(alloc: Global, at: usize, byte: u8) -> Result<Option<StoredBook>, BookFault> {
+    let mut disk = Memory::new(alloc);
+    if !disk.may_be_used() {
+        return Ok(None);
+    }
+    let mut held = create(alloc, &mut disk, FIRST)?;
+    replace(alloc, &mut disk, &mut held, SECOND)?;
+    if !disk.may_be_used() {
+        return Ok(None);
+    }
+    disk.write_at(at, &[byte])?;
+    recover(&mut disk)
+}
+
+/// Whether the second book is still found.
+fn is_kept(alloc: Global, at: usize, byte: u8) -> bool {
+    matches!(found_after(alloc, at, byte), Ok(Some(held)) if held.book == SECOND)
+}
+
+/// Whether the change is an error.
+fn is_noticed(alloc: Global, at: usize, byte: u8) -> bool {
+    matches!(found_after(alloc, at, byte), Err(BookFault::Damaged))
+}
+
+#[test]
+fn a_changed_byte_is_noticed_or_harmless(rt: HostRuntime) {
+    // The number of entries, and the checksum of the selected block.
+    assert!(rt; is_noticed(rt.alloc(), 4096 + 19, 9));
+    assert!(rt; is_noticed(rt.alloc(), 4096 + 40, 58));
+    // The other block, and each byte that selects.
+    assert!(rt; is_kept(rt.alloc(), 19, 9));
+    for at in 8192..8195 {
+        assert!(rt; is_kept(rt.alloc(), at, 0));
+        assert!(rt; is_kept(rt.alloc(), at, 254));
+    }
 }

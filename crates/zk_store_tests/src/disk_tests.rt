@@ -2,7 +2,7 @@
 
 use sqlite_disk::{Crash, Memory};
 use std::alloc::Global;
-use zk_disk::{cut_and_sync, write_and_sync};
+use zk_store::{cut_and_sync, write_and_sync};
 
 /// Whether bytes are written and cut, and a crash leaves them.
 fn survives_a_crash(alloc: Global) -> bool {

@@ -3,9 +3,8 @@
 use sqlite_disk::{Crash, Disk, Fuse, Memory};
 use std::alloc::Global;
 use zk_log::Journal;
-use zk_log_store::{
-    LogStoreFault, StoredLog, append, can_append, create, read_prefix, recover, truncate,
-};
+use zk_store::log_storing::{create, recover};
+use zk_store::{LogStoreFault, StoredLog, append, can_append, read_prefix, truncate};
 
 /// A log of three entries, at the offsets 16, 65 and 154, after "The 3.4 server's transaction log".
 pub(crate) const FIRST_LOG: [u8; 199] = [

@@ -6,15 +6,15 @@ use crate::log_store_tests::FIRST_LOG;
 use sqlite_disk::{Crash, Disk, Fuse, Memory};
 use std::alloc::Global;
 use zab_epoch::{History, Stable};
-use zk_book::StoredBook;
 use zk_store::{
-    FilesFault, StoreFiles, count_boot, create, extend, is_front, read_entries, recover,
-    replace_history,
+    FilesFault, StoreFiles, StoredBook, count_boot, create, extend, is_front, read_entries,
+    recover, replace_history,
 };
 
 /// The tags of the first log's entries.
-const TAGS: [u8; 24] = [
-    0, 0, 0, 0, 0, 0, 0, 7, 0, 0, 0, 0, 0, 0, 0, 8, 0, 0, 0, 0, 0, 0, 0, 9,
+const TAGS: [u8; 36] = [
+    0, 0, 0, 0, 0, 0, 0, 7, 0, 23, 0, 8, 0, 0, 0, 0, 0, 0, 0, 8, 0, 33, 0, 10, 0, 0, 0, 0, 0, 0, 0,
+    9, 0, 43, 0, 12,
 ];
 
 type Stopping = Fuse<Memory>;
@@ -128,7 +128,7 @@ fn recovered(
     if !files.may_be_used() {
         return Err(FilesFault::Damaged);
     }
-    let Some(mut counted) = zk_book::recover(&mut files.book)? else {
+    let Some(mut counted) = zk_store::book_storing::recover(&mut files.book)? else {
         return Ok(None);
     };
     let stable = recover(alloc, files, &mut counted)?;
@@ -218,7 +218,7 @@ fn all_are_stored(alloc: Global) -> bool {
     let steps = count_steps(alloc, &mut files, &parts);
     steps == 5
         && files.log.inner().bytes() == FIRST_LOG.split_at(154).0
-        && TAGS.split_at(16).0 == first_of(files.tags.inner().bytes(), 16)
+        && TAGS.split_at(24).0 == first_of(files.tags.inner().bytes(), 24)
         && matches!(recovered(alloc, &mut files), Ok(found) if is_after(5, &found))
 }
 

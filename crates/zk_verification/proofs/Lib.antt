@@ -1,1 +1,4 @@
 pub mod Surveying
+pub mod Follow
+pub mod Followed
+pub mod Loaded

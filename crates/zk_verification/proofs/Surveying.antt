@@ -1,9 +1,9 @@
 -- The survey, entry by entry and log by log.
 use Rattle.std.proofs.Common.{◌≡◌, ℕ, ℤ, ◌+◌, ◌<◌, ◌≤◌, true, List, [], ◌∷◌, length, drop, get_or, Result, Ok, Err, OnOk, refl, sym, ap, ◌∙◌, subst}
-use Rattle.zk_base.proofs.Turning.{next_is, at_end}
-use Rattle.zk_log_files.specs.LogFiles.{IsLogFile}
-use Rattle.zk_log_files.specs.declared.file.FileEntry.{FileEntry}
-use Rattle.zk_log_files.specs.declared.file.LogFile.{LogFile}
+use Rattle.zk_replay.proofs.Turning.{next_is, at_end}
+use Rattle.zk_directory.specs.LogFiles.{IsLogFile}
+use Rattle.zk_directory.specs.declared.file.FileEntry.{FileEntry}
+use Rattle.zk_directory.specs.declared.file.LogFile.{LogFile}
 use Rattle.zk_path.specs.declared.memory.NoMemory.{NoMemory}
 use Rattle.zk_verification.specs.Surveys.{AreSurveyed, Surveyed, Surveys, SurveysBy, survey_entries, survey_entry, survey_file}
 use Rattle.zk_verification.specs.declared.log_bytes.LogBytes.{LogBytes}

@@ -3,3 +3,6 @@ pub mod Helps
 pub mod Marks
 pub mod Reports
 pub mod Surveys
+pub mod Following
+pub mod Outcomes
+pub mod Verifications

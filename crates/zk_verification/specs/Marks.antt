@@ -2,10 +2,10 @@
 -- restored, and what is wrong.
 use Rattle.std.specs.Prelude.{◌-◌, ℕ, ℤ, Bool, true, false, List, length, slice_get, Option, Some, None, Result, Ok, Err}
 use Rattle.std.specs.List.{count_by}
-use Rattle.zk_log_files.specs.declared.file.FileEntry.{FileEntry}
-use Rattle.zk_log_files.specs.declared.file.LogFile.{LogFile}
+use Rattle.zk_directory.specs.declared.file.FileEntry.{FileEntry}
+use Rattle.zk_directory.specs.declared.file.LogFile.{LogFile}
 use Rattle.zk_log.specs.declared.loaded.Ending.{Ending}
-use Rattle.zk_log_files.specs.declared.file.LogFileFault.{LogFileFault}
+use Rattle.zk_directory.specs.declared.file.LogFileFault.{LogFileFault}
 use Rattle.zk_verification.specs.declared.mark.Mark.{Mark}
 use Rattle.zk_verification.specs.declared.mark.Mark.TheVariants as marks
 

@@ -2,11 +2,11 @@
 use Rattle.std.specs.Prelude.{ℕ, ℤ, nat_eq, List, [], ◌∷◌, ◌++◌, Option, Some, None, codes, if◌then◌else◌}
 use Rattle.std.specs.Fmt.{decimal}
 use Rattle.std.specs.List.{flat_map}
-use Rattle.zk_base.specs.declared.exact.Exact.{Exact}
-use Rattle.zk_digests.specs.declared.count.DigestCount.{DigestCount}
-use Rattle.zk_folder.specs.Files.{exact_text}
-use Rattle.zk_folder.specs.Names.{log_name, snapshot_name}
-use Rattle.zk_folder_commands.specs.FaultLines.{fault_line}
+use Rattle.zk_replay.specs.declared.exact.Exact.{Exact}
+use Rattle.zk_replay.specs.declared.count.DigestCount.{DigestCount}
+use Rattle.zk_directory_files.specs.Files.{exact_text}
+use Rattle.zk_directory_files.specs.Names.{log_name, snapshot_name}
+use Rattle.zk_directory_files.specs.FaultLines.{fault_line}
 use Rattle.zk_format.specs.Spelling.{id_digits}
 use Rattle.zk_log.specs.declared.loaded.Ending.{Ending}
 use Rattle.zk_log.specs.declared.loaded.Ending.TheVariants.{Whole, Padding, Torn}

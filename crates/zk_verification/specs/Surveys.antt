@@ -7,13 +7,13 @@ use Rattle.zk_directory.specs.declared.chain.ChainFault.{ChainFault}
 use Rattle.zk_directory.specs.declared.chain.ChainFault.TheVariants as chains
 use Rattle.zk_directory.specs.declared.chain.Turn.{Turn}
 use Rattle.zk_directory.specs.declared.names.FileName.TheVariants as names
-use Rattle.zk_folder_commands.specs.declared.fault.HistoryFault.{HistoryFault}
-use Rattle.zk_folder_commands.specs.declared.fault.HistoryFault.TheVariants as faults
+use Rattle.zk_directory_files.specs.declared.fault.HistoryFault.{HistoryFault}
+use Rattle.zk_directory_files.specs.declared.fault.HistoryFault.TheVariants as faults
 use Rattle.zk_log.specs.declared.loaded.Ending.{Ending}
-use Rattle.zk_log_files.specs.LogFiles.{IsLogFile}
-use Rattle.zk_log_files.specs.declared.file.FileEntry.{FileEntry}
-use Rattle.zk_log_files.specs.declared.file.LogFile.{LogFile}
-use Rattle.zk_log_files.specs.declared.file.LogFileFault.{LogFileFault}
+use Rattle.zk_directory.specs.LogFiles.{IsLogFile}
+use Rattle.zk_directory.specs.declared.file.FileEntry.{FileEntry}
+use Rattle.zk_directory.specs.declared.file.LogFile.{LogFile}
+use Rattle.zk_directory.specs.declared.file.LogFileFault.{LogFileFault}
 use Rattle.zk_verification.specs.Marks.{log_mark}
 use Rattle.zk_verification.specs.declared.log_bytes.LogBytes.{LogBytes}
 use Rattle.zk_verification.specs.declared.mark.Mark.{Mark}

@@ -3,7 +3,7 @@ ghost use Rattle.std.specs.Prelude.{◌≡◌};
 ghost use Rattle.zk_verification.specs.Helps.{has_kind, help_line, is_kind, is_of, kind_of};
 
 use crate::mark::Mark;
-use zk_folder_commands::HistoryFault;
+use zk_directory_files::HistoryFault;
 
 /// The kinds of what can be wrong, by what helps.
 #[derive(Clone, Copy, Debug, PartialEq, Eq)]
@@ -50,6 +50,8 @@ fn kind_of(fault: &HistoryFault) -> Kind
         HistoryFault::Differs { .. } => Kind::Differs,
         HistoryFault::Short { .. } => Kind::Window,
         HistoryFault::Early { .. } => Kind::Window,
+        HistoryFault::Beyond { .. } => Kind::Unreadable,
+        HistoryFault::NoTransaction => Kind::Unreadable,
         HistoryFault::Unreadable(_) => Kind::Unreadable,
         HistoryFault::Empty => Kind::Unreadable,
         HistoryFault::Read => Kind::Unreadable,

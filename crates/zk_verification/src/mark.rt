@@ -2,11 +2,10 @@
 ghost use Rattle.std.specs.Prelude.{◌≡◌};
 ghost use Rattle.zk_verification.specs.Marks.{is_wrong, log_mark, span_of};
 
-use zk_base::Exact;
-use zk_digests::DigestCount;
-use zk_folder_commands::HistoryFault;
+use zk_directory::{FileEntry, LogFile};
+use zk_directory_files::HistoryFault;
 use zk_log::Ending;
-use zk_log_files::{FileEntry, LogFile};
+use zk_replay::{DigestCount, Exact};
 
 /// What is said of a file of a data directory, or what is wrong.
 #[derive(Clone, Copy, Debug, PartialEq, Eq)]

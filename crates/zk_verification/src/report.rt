@@ -2,20 +2,18 @@
 ghost use Rattle.std.specs.Prelude.{◌≡◌, ◌++◌, IfOk, OnOk};
 ghost use Rattle.std.specs.List.{flat_map};
 ghost use Rattle.std.specs.String.{string_bytes};
-ghost use Rattle.zk_folder.specs.Files.{exact_text};
+ghost use Rattle.zk_directory_files.specs.Files.{exact_text};
 ghost use Rattle.zk_verification.specs.Marks.{wrong_in};
 ghost use Rattle.zk_verification.specs.Reports.{base_text, ending_text, help_text, log_text, mark_text, mismatch_text, numbers_text, other_text, report_of, span_text, states_text, verdict_text};
 
 use crate::help::{KINDS, Kind, has_kind, help_line};
 use crate::mark::Mark;
 use std::alloc::Global;
-use zk_base::Exact;
-use zk_digests::DigestCount;
-use zk_folder::{push_log_name, push_snapshot_name};
-use zk_folder_commands::fault_line;
+use zk_directory_files::{fault_line, push_log_name, push_snapshot_name};
 use zk_format::push_id;
 use zk_log::Ending;
 use zk_path::NoMemory;
+use zk_replay::{DigestCount, Exact};
 
 /// How many marks say that something is wrong.
 pub fn count_wrong(marks: &[Mark]) -> usize

@@ -6,10 +6,11 @@ ghost use Rattle.zk_verification.specs.Surveys.{AreSurveyed, Surveys, is_marked,
 use crate::log_bytes::LogBytes;
 use crate::mark::{Mark, log_mark};
 use std::alloc::Global;
-use zk_directory::{Chain, ChainFault, FileName, LogEntry};
-use zk_folder_commands::HistoryFault;
+use zk_directory::{
+    Chain, ChainFault, FileEntry, FileName, LogEntry, LogFile, LogFileFault, read_log_file,
+};
+use zk_directory_files::HistoryFault;
 use zk_log::Ending;
-use zk_log_files::{FileEntry, LogFile, LogFileFault, read_log_file};
 use zk_path::NoMemory;
 
 /// The logs so far.

@@ -6,7 +6,7 @@ use crate::reader::Reader;
 use std::alloc::Global;
 use std::mem::ManuallyDrop;
 use std::sync::Wait;
-use zk_archive::Span;
+use zk_jute::Span;
 use zk_path::NoMemory;
 
 /// The view of a server. It is late if an allocation failed in the last try to publish.

@@ -8,7 +8,7 @@ use core::mem::replace_with;
 use std::alloc::{AllocError, Global};
 use std::marker::Model;
 use std::sync::Wait;
-use zk_archive::Span;
+use zk_jute::Span;
 use zk_path::NoMemory;
 use zk_table::Txn;
 

@@ -1,7 +1,7 @@
 use Rattle.std.proofs.Common.{◌≡◌, Ok}
 use Rattle.std.proofs.lemmas.Result.{IfOk-weaker}
 use Rattle.zab_model.specs.Worlds.{profile_of, world, arrives, message_at}
-use Rattle.zab_process.specs.Rollbacks.{fallen_by}
+use Rattle.zab_world.specs.Rollbacks.{fallen_by}
 use Rattle.zab_world.proofs.Adoptions.{joined_falls, steps_fall}
 use Rattle.zab_world.proofs.adoption.advance.Goals as goal
 

@@ -3,7 +3,7 @@ use Rattle.zab_model.specs.declared.event.Event.TheVariants.{Crash}
 use Rattle.zab_model.specs.Worlds.{World, Answer, profile_of, world, happens}
 use Rattle.zab_model.specs.Movers.{mover}
 use Rattle.zab_model.specs.Running.{is_running}
-use Rattle.zab_process.specs.Rollbacks.{note_of}
+use Rattle.zab_world.specs.Rollbacks.{note_of}
 use Rattle.zab_world.specs.Outputs.{sent}
 use Rattle.zab_world.proofs.Back.{leads_back, noted, is_it}
 use Rattle.zab_world.proofs.Living.{acted_by, happened, no_restart}

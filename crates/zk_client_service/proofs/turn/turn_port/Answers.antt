@@ -3,7 +3,7 @@ use Rattle.zk_client_port.specs.Turns.{server, Turns}
 use Rattle.zk_client_port.specs.declared.expected.Expected.{Expected}
 use Rattle.zk_client_service.specs.Ports.{port_of}
 use Rattle.zk_client_service.specs.Rounds.{served_by}
-use Rattle.zk_delivery.specs.declared.outcome.Outcome.{Outcome}
+use Rattle.zk_hub.specs.declared.outcome.Outcome.{Outcome}
 use Rattle.zk_hub.specs.declared.request.Outstanding.{Outstanding}
 use Rattle.zk_peers.specs.Hosts.{setting_for}
 use Rattle.zk_client_service.proofs.turn.turn_port.Goals as goal

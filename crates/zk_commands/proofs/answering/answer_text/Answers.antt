@@ -1,7 +1,7 @@
 use Rattle.std.proofs.Common.{◌≡◌, ◌∙◌, ◌⊎◌, ℕ, List, ap, inl, subst}
 use Rattle.std.specs.String.{string_bytes}
 use Rattle.zk_commands.specs.Answering.{Appends, AnswersCommand, AnswersOther}
-use Rattle.zk_session_lines.specs.Shorthand.{long_form}
+use Rattle.zk_commands.specs.Shorthand.{long_form}
 use Rattle.zk_commands.proofs.LastLines.{answers_kept}
 use Rattle.zk_commands.proofs.answering.answer_text.Goals as goal
 

@@ -1,6 +1,6 @@
 use Rattle.std.proofs.Common.{◌≡◌, None, refl, lit<}
-use Rattle.zk_debug_script.specs.Reading.{Makes}
-use Rattle.zk_debug_script.proofs.Words.{by_word_alone, by_word_and_field}
+use Rattle.zk_debug.specs.Reading.{Makes}
+use Rattle.zk_debug.proofs.Words.{by_word_alone, by_word_and_field}
 use Rattle.zk_commands.specs.Words.{break_by, own_break}
 use Rattle.zk_commands.proofs.reading.own_break.Goals as goal
 

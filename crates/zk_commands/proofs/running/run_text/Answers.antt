@@ -1,11 +1,11 @@
 use Rattle.std.proofs.Common.{◌≡◌, ℕ, List, [], Result, Ok, Err, refl, subst, rules}
 use Rattle.std.specs.String.{string_bytes}
 use Rattle.zk_log_commands.specs.Answering.{OutputsAndTells}
-use Rattle.zk_reports.specs.Lines.{line_of_script_fault}
+use Rattle.zk_listing.specs.Lines.{line_of_script_fault}
 use Rattle.zk_log_commands.specs.Telling.{Outputs}
 use Rattle.zk_run_script.specs.Scripts.{RunsScript}
-use Rattle.zk_reports.specs.declared.fault.ScriptFault.{ScriptFault}
-use Rattle.zk_reports.specs.declared.fault.ScriptFault.TheVariants as faults
+use Rattle.zk_listing.specs.declared.script_fault.ScriptFault.{ScriptFault}
+use Rattle.zk_listing.specs.declared.script_fault.ScriptFault.TheVariants as faults
 use Rattle.zk_commands.proofs.running.run_text.Goals as goal
 
 pub returns-in-Ok : goal.returns-in-Ok

@@ -1,5 +1,5 @@
 use Rattle.std.proofs.Common.{◌≡◌, lit<}
-use Rattle.zk_debug_script.proofs.Words.{by_word_alone, by_word_and_field}
+use Rattle.zk_debug.proofs.Words.{by_word_alone, by_word_and_field}
 use Rattle.zk_commands.specs.Texts.{expected_for}
 use Rattle.zk_commands.proofs.texts.expected_of.Goals as goal
 

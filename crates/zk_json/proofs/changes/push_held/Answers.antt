@@ -2,7 +2,7 @@ use Rattle.std.proofs.Common.{◌≡◌, ℤ, w64, refl, rules, subst}
 use Rattle.std.proofs.lemmas.Int.{to_z-of_z}
 use Rattle.std.proofs.lemmas.Result.{on_ok_weaker}
 use Rattle.zk_json.specs.Nodes.{node_of}
-use Rattle.zk_times.specs.Times.{IsTimeText}
+use Rattle.zk_json.specs.Times.{IsTimeText}
 use Rattle.zk_json.proofs.changes.push_held.Goals as goal
 
 pub returns : goal.returns

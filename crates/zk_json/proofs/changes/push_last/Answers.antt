@@ -3,7 +3,7 @@ use Rattle.std.proofs.lemmas.Int.{to_z-of_z}
 use Rattle.std.proofs.lemmas.Result.{on_ok_weaker}
 use Rattle.json.specs.Json.{null}
 use Rattle.zk_json.proofs.Tokens.{last_written}
-use Rattle.zk_times.specs.Times.{IsTimeText}
+use Rattle.zk_json.specs.Times.{IsTimeText}
 use Rattle.zk_json.proofs.changes.push_last.Goals as goal
 
 pub returns-in_ok-time-in-Some : goal.returns-in_ok-time-in-Some

@@ -1,7 +1,7 @@
 use Rattle.std.proofs.Common.{◌≡◌, ℤ, w64, rules, subst}
 use Rattle.std.proofs.lemmas.Int.{to_z-of_z}
 use Rattle.std.proofs.lemmas.Result.{on_ok_weaker}
-use Rattle.zk_times.specs.Times.{IsTimeText}
+use Rattle.zk_json.specs.Times.{IsTimeText}
 use Rattle.zk_json.proofs.nodes.push_node_line.Goals as goal
 
 pub returns : goal.returns

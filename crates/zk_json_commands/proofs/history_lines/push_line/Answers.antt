@@ -7,4 +7,4 @@ use Rattle.zk_json_commands.proofs.history_lines.push_line.Goals as goal
 pub returns : goal.returns
 returns c =
     let some : (length c.args.paths.now == 0) ≡ false = search rules in
-    on_ok_weaker c.push_history_line.result (one_line c.args.paths.now c.args.txn.now (string_bytes c.args.text.now) (string_bytes c.push_history_line.new.text) some) c.push_history_line.ensures
+    on_ok_weaker c.push_some.result (one_line c.args.paths.now c.args.newer.now (string_bytes c.args.text.now) (string_bytes c.push_some.new.text) some) c.push_some.ensures

@@ -11,4 +11,4 @@ pub returns : goal.returns
 returns c =
     let texts = map (λ (path : Bor (List ℕ)). path.now) in
     let seen = ap texts c.as_slice-2.ensures.value ∙ c.in_ok-seen.ensures ∙ ap (filter (is_within (string_bytes c.args.scope.now.root) c.args.scope.now.below)) (ap texts c.as_slice.ensures.value ∙ c.in_ok-touched.ensures) in
-    on_ok_weaker c.push_line.result (λ a. subst (λ (paths : List (List ℕ)). AppendsLineBy paths c.args.newer.now.txn (string_bytes c.args.text.now) (string_bytes c.push_line.new.text)) seen a) c.push_line.ensures
+    on_ok_weaker c.push_line.result (λ a. subst (λ (paths : List (List ℕ)). AppendsLineBy paths c.args.newer.now (string_bytes c.args.text.now) (string_bytes c.push_line.new.text)) seen a) c.push_line.ensures

@@ -1,6 +1,6 @@
 -- The servers so far were counted.
 use Rattle.std.proofs.Common.{◌≡◌, ◌≤◌, ◌+◌, drop}
-use Rattle.zab_quorums.specs.Quorums.{marked}
+use Rattle.zab_epoch.specs.Quorums.{marked}
 use Rattle.zk_peers.specs.Peers.{heard_by}
 use Rattle.zk_peers.proofs.places.count_heard.Given as goal
 

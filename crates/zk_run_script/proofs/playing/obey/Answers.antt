@@ -3,7 +3,7 @@ use Rattle.zk_run_script.specs.Answers.{told_text}
 use Rattle.zk_run_script.specs.declared.command.Command.{Command}
 use Rattle.zk_run_script.specs.declared.command.Command.TheVariants as commands
 use Rattle.zk_run_script.specs.Playing.{Answers, Happened}
-use Rattle.zk_reports.specs.Reports.{line}
+use Rattle.zk_listing.specs.Reports.{line}
 use Rattle.zk_run_script.proofs.playing.obey.Goals as goal
 
 pub returns-in-Happens : goal.returns-in-Happens

@@ -1,7 +1,7 @@
 use Rattle.std.proofs.Common.{◌≡◌, List, ℕ, sym, ◌∙◌, rules}
 use Rattle.std.specs.Str.{IsUtf8}
 use Rattle.std.specs.String.{string_bytes}
-use Rattle.zk_reports.proofs.LineLaws.{is_ended}
+use Rattle.zk_listing.proofs.ReportLineLaws.{is_ended}
 use Rattle.zk_run_script.proofs.PlaysLaws.{none_yet, one_more_line, no_line_left}
 use Rattle.zk_run_script.proofs.script.play.Goals as goal
 

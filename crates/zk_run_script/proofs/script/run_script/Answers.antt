@@ -1,6 +1,6 @@
 use Rattle.std.proofs.Common.{◌≡◌, [], List, ℕ, refl, sym, subst, ◌∙◌, inl, inr}
-use Rattle.zk_reports.specs.Lines.{lines_of}
-use Rattle.zk_reports.proofs.LineLaws.{is_ended}
+use Rattle.zk_listing.specs.Lines.{lines_of}
+use Rattle.zk_listing.proofs.ReportLineLaws.{is_ended}
 use Rattle.zk_run_script.specs.Scripts.{BeginsWithNone}
 use Rattle.zk_run_script.proofs.script.run_script.Goals as goal
 

@@ -2,9 +2,9 @@ use Rattle.std.proofs.Common.{rules, ◌≡◌, ◌++◌, ◌∷◌, [], true, f
 use Rattle.std.specs.Vec.Iter.{into_iter_items}
 use Rattle.zk_servers.proofs.Turning.{length_zero}
 use Rattle.zk_model.specs.declared.event.Event.{Event}
-use Rattle.zk_chronicle.specs.declared.record.Receipt.{Receipt}
-use Rattle.zk_chronicle.specs.declared.calls.Made.{Made}
-use Rattle.zk_chronicle.specs.Calls.{made}
+use Rattle.zk_servers.specs.declared.record.Receipt.{Receipt}
+use Rattle.zk_servers.specs.declared.calls.Made.{Made}
+use Rattle.zk_servers.specs.Calls.{made}
 use Rattle.zk_servers.proofs.Turning.{Busy, busy_first, busy_made, busy_passed, jobs_done, turned_by}
 use Rattle.zk_servers.proofs.serving.serve.Goals as goal
 

@@ -8,7 +8,7 @@ use Rattle.zab_model.specs.Worlds.{World, profile_of, new_world, world}
 use Rattle.zab_agreement_laws.proofs.Promises.{leaders_end_below}
 use Rattle.zab_model.proofs.RunLaws.{goes_on}
 use Rattle.zab_call_laws.proofs.Following.{follows}
-use Rattle.zab_process.specs.Rollbacks.{fallen_by, moved_in}
+use Rattle.zab_world.specs.Rollbacks.{fallen_by, moved_in}
 use Rattle.zab_world.proofs.Adoptions.{fell_or_not}
 use Rattle.zab_world.proofs.world.World.advance.Goals as goal
 

@@ -1,7 +1,7 @@
 use Rattle.std.proofs.Common.{◌≡◌, rules, ℤ, to_z, of_z, w64, subst, List, ◌∙◌, sym}
 use Rattle.zk_client_service.specs.Ensembles.{ensemble}
 use Rattle.zk_client_service.specs.Expiries.{adopting, ClosesAt}
-use Rattle.zk_sessions.specs.Sessions.{expired_at}
+use Rattle.zk_connections.specs.Sessions.{expired_at}
 use Rattle.zk_client_service.proofs.client_service.ClientService.expire.Goals as goal
 
 pub returns-clause-led : goal.returns-clause-led

@@ -4,7 +4,7 @@ use Rattle.zk_client_port.specs.declared.admission.Admission.{Admission}
 use Rattle.zk_client_service.specs.Elections.{copies, new_port, ElectsLeader}
 use Rattle.zk_client_service.specs.Ensembles.{Ensemble, ensemble}
 use Rattle.zk_client_service.specs.Ports.{ports_of}
-use Rattle.zk_sessions.specs.declared.session.Session.{Session}
+use Rattle.zk_connections.specs.declared.session.Session.{Session}
 use Rattle.zk_client_service.proofs.client_service.ClientService.start.Goals as goal
 
 pub returns-clause-starts : goal.returns-clause-starts

@@ -2,7 +2,7 @@ use Rattle.std.proofs.Common.{rules, ◌≡◌, ◌⊎◌, inl, inr, ◌+◌, �
 use Rattle.std.proofs.lemmas.Int.{to_z-of_z}
 use Rattle.zk_front.specs.Calling.{Calling, Calls, CallsOne}
 use Rattle.zk_front.specs.Keeping.{heard, keeping_of}
-use Rattle.zk_service.specs.Asks.{event_of, session_of}
+use Rattle.zk_front.specs.Asks.{event_of, session_of}
 use Rattle.zk_front.proofs.Calling.{calls_none, on_err, one_from}
 use Rattle.zk_front.proofs.Reading.{told_read}
 use Rattle.zk_model.specs.declared.event.Event.{Event}

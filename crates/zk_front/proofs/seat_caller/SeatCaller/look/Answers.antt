@@ -1,6 +1,6 @@
 use Rattle.std.proofs.Common.{rules, ◌≡◌, ◌∷◌, ◌++◌, [], refl}
-use Rattle.zk_chronicle.specs.Calls.{made}
-use Rattle.zk_chronicle.specs.declared.record.Receipt.{Receipt}
+use Rattle.zk_servers.specs.Calls.{made}
+use Rattle.zk_servers.specs.declared.record.Receipt.{Receipt}
 use Rattle.zk_front.specs.Calling.{Calling, CallsOne, IsGiven}
 use Rattle.zk_front.proofs.Calling.{kept_call}
 use Rattle.zk_front.proofs.seat_caller.SeatCaller.look.Goals as goal

@@ -1,0 +1,7 @@
+pub mod FieldLaws
+pub mod CallLaws
+pub mod EntryLaws
+pub mod MessageLaws
+pub mod FrameLaws
+pub mod StreamLaws
+pub mod Joined

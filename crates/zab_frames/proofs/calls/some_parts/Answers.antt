@@ -1,0 +1,18 @@
+use Rattle.std.proofs.lemmas.Result.{err_from_is_err_and}
+use Rattle.zk_jute.specs.Reading.{many_at}
+use Rattle.zab_frames.specs.Reading.{part_at}
+use Rattle.zk_jute.proofs.Turns.{goes_on, ends, is_done}
+use Rattle.zab_frames.proofs.calls.some_parts.Goals as goal
+
+pub returns-in_err-part : goal.returns-in_err-part
+returns-in_err-part c =
+    let p = err_from_is_err_and c.from_residual.result c.from_residual.ensures.1 in
+    rw (p.1, p.2) (ends part_at c.in_err-part.field-0.0 c.loop.parts.items c.args.count c.loop.counter c.loop.input.now (many_at part_at c.args.count c.args.input.now.now) c.loop-test.true c.in_err-part.ensures c.loop.invariant)
+
+pub loop-preserved : goal.loop-preserved
+loop-preserved c =
+    rw c.in_ok-push.ensures.items (goes_on part_at c.loop.parts.items c.args.count c.loop.counter c.loop.input.now c.in_ok-part.field-0 c.part.new.input.now (many_at part_at c.args.count c.args.input.now.now) c.loop-test.true c.in_ok-part.ensures c.loop.invariant)
+
+pub returns : goal.returns
+returns c =
+    rw c.new.ensures (is_done part_at c.loop.parts.items c.args.count c.loop.counter c.loop.input.now (many_at part_at c.args.count c.args.input.now.now) c.loop-test.false c.loop.invariant)

@@ -1,0 +1,8 @@
+use Rattle.std.proofs.Common.{◌≡◌, ◌-◌}
+use Rattle.zk_jute.specs.Reading.{many_at}
+use Rattle.zab_frames.specs.Reading.{part_at}
+use Rattle.zk_jute.proofs.Turns.{with_front}
+use Rattle.zab_frames.proofs.calls.some_parts.Given as goal
+
+abbrev pub invariant-loop : goal.invariant-loop
+invariant-loop l = with_front l.parts.items (many_at part_at (l.count - l.counter) l.input.now) ≡ many_at part_at l.fn.count l.fn.input.now

@@ -1,5 +1,0 @@
-use Rattle.std.proofs.Common.{◌≡◌, replicate}
-use Rattle.zab_quorums.proofs.weighted.Weighted.even.Given as goal
-
-abbrev pub invariant-loop : goal.invariant-loop
-invariant-loop l = l.weights.items ≡ replicate l.counter 1

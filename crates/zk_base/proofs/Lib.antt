@@ -1,4 +1,0 @@
-pub mod Drafting
-pub mod Failing
-pub mod Maps
-pub mod Turning

@@ -1,7 +1,0 @@
-use Rattle.std.proofs.Common.{◌≡◌, drop}
-use Rattle.std.specs.FinMap as finite
-use Rattle.zk_base.specs.Bases.{sessions_of}
-use Rattle.zk_base.proofs.draft.sessions_of.Given as goal
-
-abbrev pub invariant-loop-lease : goal.invariant-loop-lease
-invariant-loop-lease l = sessions_of finite.empty l.fn.leases ≡ sessions_of l.sessions (drop l.lease-index l.fn.leases)

@@ -1,8 +1,0 @@
-use Rattle.std.proofs.Common.{◌≡◌, ◌++◌, map}
-use Rattle.zk_base.specs.Drafts.{owned_in}
-use Rattle.zk_tree.proofs.Sorting.{text_entry}
-use Rattle.zk_base.proofs.draft_nodes.DraftNodes.owned_by.Given as goal
-
--- the paths so far, and those in the entries that are left
-abbrev pub invariant-loop-draft : goal.invariant-loop-draft
-invariant-loop-draft l = l.paths.items ++ owned_in l.session (map text_entry l.draft-iterator) ≡ owned_in l.session (map text_entry l.initial.draft-iterator)

@@ -1,4 +1,0 @@
-pub mod Chronicles
-pub mod Delivering
-pub mod Marks
-pub mod Scans

@@ -1,6 +1,0 @@
--- The definitions that this crate's contracts cite.
-pub mod Calls
-pub mod Chronicles
-pub mod Closing
-pub mod Delivering
-pub mod Receipts

@@ -1,2 +1,0 @@
--- The statements of the laws.
-pub mod Orders

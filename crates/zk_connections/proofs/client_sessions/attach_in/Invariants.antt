@@ -1,0 +1,10 @@
+-- No session so far is the one to change.
+use Rattle.std.proofs.Common.{◌≡◌, ◌++◌, take, drop}
+use Rattle.zk_connections.specs.Sessions.{has_id, with_first, attached}
+use Rattle.zk_connections.proofs.client_sessions.attach_in.Given as goal
+
+abbrev pub invariant-loop-index : goal.invariant-loop-index
+invariant-loop-index l = record {
+  same : l.sessions.items ≡ l.fn.sessions.items;
+  changed : with_first (has_id l.id) (attached l.connection l.timeout l.now) l.fn.sessions.items ≡ take l.index l.fn.sessions.items ++ with_first (has_id l.id) (attached l.connection l.timeout l.now) (drop l.index l.fn.sessions.items);
+}

@@ -1,0 +1,3 @@
+mod Durables
+mod Openings
+mod StoreStarts

@@ -1,7 +1,0 @@
-pub mod Frames
-pub mod Givens
-pub mod Outside
-pub mod Owned
-pub mod Whole
-pub mod Moves
-pub mod Tallied

@@ -1,3 +1,0 @@
-pub mod Chosen
-pub mod Held
-pub mod Listed

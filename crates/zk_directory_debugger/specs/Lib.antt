@@ -1,4 +1,0 @@
--- What the contracts of this crate cite.
-pub mod Later
-pub mod Outcomes
-pub mod Starts

@@ -1,0 +1,10 @@
+pub mod Tallying
+pub mod Files
+pub mod Joined
+pub mod Leading
+pub mod Searching
+pub mod Wholes
+pub mod Chosen
+pub mod Held
+pub mod Listed
+pub mod Folded

@@ -1,0 +1,14 @@
+-- What the contracts of this crate cite.
+pub mod Counts
+pub mod Directories
+pub mod Joins
+pub mod Restorations
+pub mod States
+pub mod Windows
+pub mod Attempts
+pub mod Histories
+pub mod Listings
+pub mod Logs
+pub mod Outcomes
+pub mod Reports
+pub mod Records

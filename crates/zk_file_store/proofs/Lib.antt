@@ -1,2 +1,0 @@
-mod Durables
-mod Openings

@@ -1,4 +1,0 @@
--- What the contracts of this crate cite.
-pub mod Files
-pub mod Folders
-pub mod Names

@@ -1,0 +1,75 @@
+-- The watches that a client had at another connection: `zookeeper.jute`, `SetWatches`; ZooKeeper
+-- Programmer's Guide, "What ZooKeeper Guarantees about Watches".
+use Rattle.std.specs.Prelude.{◌≡◌, ℕ, pos, Bool, true, false, List, [], ◌∷◌, ◌++◌, Option, None, Some, option_map, Result, Ok, Err}
+use Rattle.zk_hub.specs.Reads.{Reader, after_look, last_at, seen_at, IsReason}
+use Rattle.zk_hub.specs.declared.reading.Resumption.{Resumption}
+use Rattle.zk_host.specs.declared.host_fault.ReadFault.{ReadFault}
+use Rattle.zk_client_session.specs.Links.{path_in}
+use Rattle.zk_client_session.specs.SavedWatches.{event_by, found_stat, setting_call}
+use Rattle.zk_client_session.specs.declared.reply.WatchEvent.{WatchEvent}
+use Rattle.zk_client_session.specs.declared.saved_watch.SavedWatch.{SavedWatch}
+use Rattle.zk_machine.specs.declared.change.ChangeKind.{ChangeKind}
+use Rattle.zk_model.specs.declared.event.Question.{Question}
+use Rattle.zk_txn.specs.declared.read.ReadCall.{ReadCall}
+use Rattle.zk_txn.specs.declared.read.ReadCall.TheVariants as calls
+use Rattle.zk_txn.specs.declared.read.ReadReply.{ReadReply}
+
+-- a read for the client, no matter what it has seen
+abbrev pub question_for : Resumption → ReadCall → Bool → Question
+question_for client call watch = record {
+  server = client.server;
+  session = client.session;
+  seen = pos 0;
+  auths = client.auths;
+  call = call;
+  watch = watch;
+}
+
+-- ---- one watch
+
+-- what a read of existence gives now; None at an invalid path
+abbrev pub found_at : Resumption → SavedWatch → Reader → Option ReadReply
+found_at client watch it = option_map (λ path. seen_at (question_for client (calls.Exists path) false) it) (path_in watch.path)
+
+-- the event that has happened since the transaction that the client names
+abbrev pub event_since : Resumption → SavedWatch → Reader → Option ChangeKind
+event_since client watch it = event_by watch.kind client.relative_zxid (found_stat (found_at client watch it))
+
+abbrev pub fired : SavedWatch → ChangeKind → WatchEvent
+fired watch kind = record { kind = kind; path = watch.path }
+
+-- it fires at once
+abbrev pub event_of : Resumption → SavedWatch → Reader → Option WatchEvent
+event_of client watch it = option_map (fired watch) (event_since client watch it)
+
+-- or it is set
+abbrev pub with_watch_at : Resumption → SavedWatch → Option (List ℕ) → Reader → Reader
+with_watch_at client watch None it = it
+with_watch_at client watch (Some path) it = after_look (question_for client (setting_call watch.kind path) true) it
+
+abbrev pub unless_fired : Option ChangeKind → Resumption → SavedWatch → Reader → Reader
+unless_fired (Some kind) client watch it = it
+unless_fired None client watch it = with_watch_at client watch (path_in watch.path) it
+
+abbrev pub after_watch : Resumption → SavedWatch → Reader → Reader
+after_watch client watch it = unless_fired (event_since client watch it) client watch it
+
+-- ---- watches, in order
+
+abbrev pub after_watches : Resumption → List SavedWatch → Reader → Reader
+after_watches client [] it = it
+after_watches client (watch ∷ watches) it = after_watches client watches (after_watch client watch it)
+
+abbrev pub one_or_none : Option WatchEvent → List WatchEvent
+one_or_none None = []
+one_or_none (Some event) = event ∷ []
+
+abbrev pub events_of : Resumption → List SavedWatch → Reader → List WatchEvent
+events_of client [] it = []
+events_of client (watch ∷ watches) it = one_or_none (event_of client watch it) ++ events_of client watches (after_watch client watch it)
+
+-- ---- for each result
+
+abbrev pub Resumes : {R : Type 0} → R → Reader → Reader → Reader → Result R ReadFault → Type 0
+Resumes events after old new (Ok given) = (given ≡ events) × (new ≡ after)
+Resumes events after old new (Err fault) = IsReason (last_at old) (pos 0) fault

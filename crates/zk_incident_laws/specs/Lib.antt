@@ -1,3 +1,0 @@
--- The statements of the laws.
-pub mod Counts
-pub mod Listings

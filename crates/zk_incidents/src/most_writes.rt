@@ -1,0 +1,55 @@
+//! `zk top`.
+ghost use Rattle.std.specs.Prelude.{◌≡◌, ◌-◌, ◌<◌, ◌^◌};
+ghost use Rattle.zk_incidents.specs.TopReports.{FindsTop, TellsTop};
+ghost use Rattle.zk_records.specs.Sinks.{write_failures_of};
+
+use crate::{Key, Range, Top};
+use std::alloc::Global;
+use std::io::Write;
+use zk_directory_files::{Folder, HistoryFault, put_text, tell_fault};
+use zk_directory_state::fold_directory;
+use zk_log::Sink;
+use zk_path::NoMemory;
+
+/// The lines of the paths or sessions with the most writes.
+#[tactic(auto, using(crate::proofs::Finished::top_told))]
+fn top_of<S: Folder, L: Folder>(
+    alloc: Global,
+    snapshots: &S,
+    logs: &L,
+    range: Range,
+    key: Key,
+    number: Option<usize>,
+) -> Result<String, HistoryFault>
+    ensures { FindsTop range key number (S.names_in snapshots.now) (L.names_in logs.now) (L.bytes_in logs.now) result }
+{
+    let mut top = Top::new(alloc, range, key);
+    fold_directory(alloc, snapshots, logs, &mut top)?;
+    Ok(top.text(number)?)
+}
+
+/// Writes how many writes of the second folder's logs each path or session has, the one with most
+/// first: at most `number` lines. Returns the exit status.
+///
+/// A write creates, changes or deletes a node, alone or as a part of a multi. The nodes that the end
+/// of a session deletes are no writes.
+pub fn top<S: Folder, L: Folder, O: Write, E: Write>(
+    alloc: Global,
+    snapshots: &S,
+    logs: &L,
+    range: Range,
+    key: Key,
+    number: Option<usize>,
+    output: &mut Sink<O>,
+    faults: &mut Sink<E>,
+) -> Result<u8, NoMemory>
+    requires output { write_failures_of output.old < 2 ^ 64 - 1 }
+    requires faults { write_failures_of faults.old < 2 ^ 64 - 1 }
+    ensures { TellsTop O.contents E.contents range key number (S.names_in snapshots.now) (L.names_in logs.now)
+        (L.bytes_in logs.now) output.old output.new faults.old faults.new result }
+{
+    match top_of(alloc, snapshots, logs, range, key, number) {
+        Ok(text) => Ok(put_text(text.as_str(), output, faults)),
+        Err(fault) => tell_fault(alloc, &fault, faults),
+    }
+}

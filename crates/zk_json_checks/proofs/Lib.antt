@@ -1,3 +1,0 @@
-pub mod Differing
-pub mod Words
-pub mod Written

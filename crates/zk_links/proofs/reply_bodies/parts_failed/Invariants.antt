@@ -1,6 +1,0 @@
-use Rattle.std.proofs.Common.{◌≡◌, map, take}
-use Rattle.zk_links.specs.Replies.{part_failed}
-use Rattle.zk_links.proofs.reply_bodies.parts_failed.Given as goal
-
-abbrev pub invariant-loop-part : goal.invariant-loop-part
-invariant-loop-part l = l.results.items ≡ map part_failed (take l.part-index l.parts)

@@ -1,4 +1,0 @@
--- What the contracts of this crate cite.
-pub mod Lines
-pub mod Scripts
-pub mod Words

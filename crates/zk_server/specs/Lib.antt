@@ -1,0 +1,9 @@
+-- What the contracts of this crate cite.
+pub mod Notices
+pub mod Elections
+pub mod Deeds
+pub mod Mail
+pub mod Sites
+pub mod Turns
+pub mod Peers
+pub mod Ensembles

@@ -1,7 +1,0 @@
--- A zero was appended for each turn.
-use Rattle.std.proofs.Common.{◌≡◌, ◌++◌, replicate}
-use Rattle.std.specs.String.{string_bytes}
-use Rattle.zk_session_lines.proofs.shorthand.push_zeros.Given as goal
-
-abbrev pub invariant-loop : goal.invariant-loop
-invariant-loop l = string_bytes l.text ≡ string_bytes l.fn.text ++ replicate l.counter 48

@@ -1,2 +1,0 @@
-pub mod Shorthand
-pub mod Shown

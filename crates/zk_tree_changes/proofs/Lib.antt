@@ -1,0 +1,12 @@
+pub mod Applying
+pub mod Differing
+pub mod DifferingPaths
+pub mod Lining
+pub mod Parents
+pub mod Stamping
+pub mod Appending
+pub mod Borrowed
+pub mod Contents
+pub mod Following
+pub mod FoundDifferences
+pub mod FoundScripts

@@ -1,8 +1,0 @@
--- The slices so far.
-use Rattle.std.proofs.Common.{◌≡◌, map, take}
-use Rattle.zk_directory_commands.specs.Logs.{bytes_of}
-use Rattle.zk_verify_commands.specs.Verifications.{log_bytes}
-use Rattle.zk_verify_commands.proofs.files.slices_of.Given as goal
-
-abbrev pub invariant-loop-log : goal.invariant-loop-log
-invariant-loop-log l = map bytes_of l.slices.items ≡ map log_bytes (take l.log-index l.logs)

@@ -1,4 +1,0 @@
--- What the contracts of this crate cite.
-pub mod Following
-pub mod Outcomes
-pub mod Verifications
