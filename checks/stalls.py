@@ -7,6 +7,7 @@
 - addresses: an address has all connections but a sixteenth, and another address has those.
 - unread: a client that pings and leaves 5.4 MB unread for 10 seconds keeps its session.
 - headers: no reply names a transaction before the event of the client's watch.
+- disk: a server without clients writes nothing to its files, and reads write nothing either.
 - writer: while one client has 20,000 writes in flight, another makes a read for every 200 of them.
 - idle: 1,000 idle connections cost a read less than four times the CPU seconds that 100 do.
 - watches: a setWatches of 240 kB with 26,000 watches costs less than 5 CPU seconds.
@@ -22,6 +23,7 @@ import socket
 import struct
 import subprocess
 import sys
+import tempfile
 import threading
 import time
 from pathlib import Path
@@ -126,6 +128,11 @@ class Server:
 
     def cpu_seconds(self) -> float:
         return int(Path(f"/proc/{self.child.pid}/schedstat").read_text(encoding="utf-8").split()[0]) / 1e9
+
+    def writes(self) -> int:
+        """The write calls of the program, to files and sockets."""
+        counted = Path(f"/proc/{self.child.pid}/io").read_text(encoding="utf-8")
+        return int(next(line for line in counted.splitlines() if line.startswith("syscw: ")).split()[1])
 
     def stop(self) -> None:
         os.kill(self.child.pid, signal.SIGSTOP)
@@ -236,6 +243,23 @@ def headers() -> None:
             raise Wrong(f"a reply names {changed} before its event: {seen}")
 
 
+def disk() -> None:
+    with tempfile.TemporaryDirectory() as room, Server("--data", room) as server:
+        time.sleep(1)
+        before = server.writes()
+        time.sleep(3)
+        if server.writes() != before:
+            raise Wrong(f"{server.writes() - before} writes without clients")
+        client = Client(server.port)
+        client.create(b"/a")
+        before = server.writes()
+        for _ in range(200):
+            client.get(b"/a")
+        # a reply each, and one more turn a second
+        if server.writes() - before > 250:
+            raise Wrong(f"{server.writes() - before} writes for 200 reads")
+
+
 def writer() -> None:
     with Server() as server:
         client, other, writes = Client(server.port), Client(server.port), 20_000
@@ -308,7 +332,7 @@ def identities() -> None:
         raise Wrong("the connection goes on")
 
 
-PARTS = [pause, silent, full, addresses, unread, headers, identities]
+PARTS = [pause, silent, full, addresses, unread, headers, identities, disk]
 # They measure, and want a machine of their own.
 MEASURED = [writer, idle, watches]
 

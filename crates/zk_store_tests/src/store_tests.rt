@@ -169,14 +169,15 @@ fn has_first(history: &History, tags: &[u64]) -> bool {
         && FIRST_LOG.split_at(16).1.split_at(end - 16).0 == history.bytes()
 }
 
-/// Whether a crash after a number of calls of one file leaves the steps that succeeded, and at most
-/// one more.
-fn survives(alloc: Global, parts: &Parts, calls: &Calls) -> bool {
+/// How many steps succeed on these files, if a crash then leaves them, and at most one more.
+fn surviving_steps(alloc: Global, parts: &Parts, calls: &Calls) -> Option<usize> {
     let mut files = new_files(alloc, calls);
     let steps = count_steps(alloc, &mut files, parts);
     match recovered(alloc, &mut files) {
-        Ok(found) => is_after(steps, &found) || is_after(steps.saturating_add(1), &found),
-        Err(_) => false,
+        Ok(found) if is_after(steps, &found) || is_after(steps.saturating_add(1), &found) => {
+            Some(steps)
+        }
+        _ => None,
     }
 }
 
@@ -189,16 +190,27 @@ fn calls_of(file: usize, calls: u64) -> Calls {
     Calls(all)
 }
 
-/// Whether the store survives each number of calls of each file.
+/// Whether the store survives each number of calls of a file, up to the first with which all steps
+/// succeed.
+fn file_may_stop(alloc: Global, parts: &Parts, file: usize) -> bool {
+    for calls in 0..200 {
+        match surviving_steps(alloc, parts, &calls_of(file, calls)) {
+            None => return false,
+            Some(5) => return true,
+            Some(_) => (),
+        }
+    }
+    false
+}
+
+/// Whether this is so of each file.
 fn always_survives(alloc: Global) -> bool {
     let Ok(parts) = make_parts(alloc) else {
         return false;
     };
     for file in 0..5 {
-        for calls in 0..24 {
-            if !survives(alloc, &parts, &calls_of(file, calls)) {
-                return false;
-            }
+        if !file_may_stop(alloc, &parts, file) {
+            return false;
         }
     }
     true
