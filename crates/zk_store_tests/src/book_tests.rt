@@ -89,7 +89,7 @@ fn crash_at_each_call_leaves_one_book(rt: HostRuntime) {
 
 /// Whether a file has these bytes at an offset.
 fn has_at(file: &[u8], at: usize, bytes: &[u8]) -> bool {
-    matches!(file.get(at..at + bytes.len()), Some(found) if found == bytes)
+    matches!(file.get(at..at.saturating_add(bytes.len())), Some(found) if found == bytes)
 }
 
 /// Whether both books are stored as these bytes, each in a sector of its own, and then what selects
