@@ -11,7 +11,7 @@ use std::fs;
 use std::io::{Read, Write};
 use std::net::{Ipv4Addr, Net};
 use thiserror::Error;
-use zab_host::{DeviceStorage, StoreFault};
+use zab_host::{Storage, StoreFault};
 use zk_client_service::ServiceFault;
 use zk_path::NoMemory;
 use zk_peers::PeersFault;
@@ -101,7 +101,7 @@ impl From<ServiceFault> for ReactorFault {
 /// the process ends. A store that has failed is opened again by `stores`. The passwords of sessions
 /// come from the secret. What the servers do is written to `record`, as a run script; there are
 /// several servers then, on new stores.
-pub fn run<N: Net, S: DeviceStorage + Drop, O: Stores<S>, W: Write + Drop>(
+pub fn run<N: Net, S: Storage + Drop, O: Stores<S>, W: Write + Drop>(
     rt: &HostRuntime,
     net: &N,
     settings: &Settings,
