@@ -1,3 +1,4 @@
 pub mod Growth
 pub mod Outside
+pub mod Failing
 pub mod Leading

@@ -123,9 +123,10 @@ IsAppendOnlyBody (AckEpoch epoch vote current last) = ⊥
 IsAppendOnlyBody (NewLeader epoch keep rest) = ⊥
 IsAppendOnlyBody body = Unit {0}
 
--- a rejected input of a host that stores its inputs atomically: all that it has is stored, also if
--- only the input's messages are lost; nothing is specified of a store that failed
+-- A rejected input of a host that stores its inputs atomically: all that it has is stored, also if
+-- only the input's messages are lost. If the store fails, the host has changed as its rule says.
 abbrev pub IsRejected : {C S : Type 0} → (S → Stable → Type 0) → Setting C → HostView C S → Input C → HostView C S → ReceiveFault → Type 0
 IsRejected may_recover setting old input new (receive_faults.Host fault) =
     StepsTo setting (host old.state old.outbox new.storage) input new (Err fault) × IsStored may_recover new
-IsRejected may_recover setting old input new (receive_faults.Store fault) = Unit {0}
+IsRejected may_recover setting old input new (receive_faults.Store fault) =
+    (received : Result Unit HostFault) × StepsTo setting (host old.state old.outbox new.storage) input new received

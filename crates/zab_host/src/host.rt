@@ -150,6 +150,7 @@ impl<P: Primary, S: Storage> Host<P, S> {
 
     /// Receives any message. Applies its rule, and stores the server's stable part atomically: a
     /// crash recovers the change whole, with all inputs before it, or not at all.
+    #[tactic(auto, using(crate::proofs::Failing::store_fails))]
     pub fn receive_and_store<Q: Quorums>(
         &mut self,
         alloc: Global,

@@ -16,7 +16,7 @@ pub struct TagIssuer {
 }
 
 impl TagIssuer {
-    ghost use Rattle.std.specs.Prelude.{◌≡◌, ◌≤◌, ◌+◌, ◌⊎◌, IfOk, IfSome, IfNone, OnOk, OnSome, IsErrOf};
+    ghost use Rattle.std.specs.Prelude.{◌≡◌, ◌≤◌, ◌<◌, ◌+◌, ◌⊎◌, IfOk, IfSome, IfNone, OnOk, OnSome, IsErrOf};
     ghost use Rattle.zab_epoch.specs.declared.stable.Stable.{Stable};
     ghost use Rattle.zab_host.specs.declared.storage.StoreFault.TheVariants as faults;
     ghost use Rattle.zab_host.specs.Tags.{tag_of};
@@ -46,6 +46,7 @@ impl TagIssuer {
     pub fn issue(&mut self) -> Option<u64>
         ensures tag { IfSome result (λ tag. tag ≡ tag_of self.old.host self.old.boot self.old.used) }
         ensures counted { OnSome result (self.new ≡ record self.old { used = self.old.used + 1 }) }
+        ensures room { OnSome result (self.old.used < 4294967295) }
         ensures full { IfNone result (self.old.used ≡ 4294967295) }
         ensures unchanged { IfNone result (self.new ≡ self.old) }
     {

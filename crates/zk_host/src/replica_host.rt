@@ -39,7 +39,7 @@ impl<S: Storage + Drop> Drop for ReplicaHost<S> {
 }
 
 impl<S: Storage> ReplicaHost<S> {
-    ghost use Rattle.std.specs.Prelude.{◌≡◌, ◌≢◌, ◌≤◌, ◌+◌, ◌⊎◌, ◌++◌, [], length, drop, true, false, int_lt, IfOk, IfErr, OnOk, OnErr, IfSome, OnSome, IfNone, IsErrOf};
+    ghost use Rattle.std.specs.Prelude.{◌≡◌, ◌≢◌, ◌≤◌, ◌<◌, ◌+◌, ◌⊎◌, ◌++◌, [], length, drop, true, false, int_lt, IfOk, IfErr, OnOk, OnErr, IfSome, OnSome, IfNone, IsErrOf};
     ghost use Rattle.zab_epoch.specs.declared.stable.Stable.{Stable};
     ghost use Rattle.zab_epoch.specs.Shortness.{IsShortBody};
     ghost use Rattle.zab_broadcast.specs.Rules.{restored, is_serving};
@@ -133,6 +133,7 @@ impl<S: Storage> ReplicaHost<S> {
     pub fn issue_tag(&mut self) -> Option<u64>
         ensures tag { IfSome result (λ tag. tag ≡ tag_of self.old.tags.host self.old.tags.boot self.old.tags.used) }
         ensures counted { OnSome result (self.new.tags ≡ record self.old.tags { used = self.old.tags.used + 1 }) }
+        ensures room { OnSome result (self.old.tags.used < 4294967295) }
         ensures full { IfNone result (self.old.tags.used ≡ 4294967295) }
         ensures unchanged { IfNone result (self.new.tags ≡ self.old.tags) }
         ensures rest { (self.new.host ≡ self.old.host) × ((self.new.tree ≡ self.old.tree) × (self.new.shown ≡ self.old.shown)) }
