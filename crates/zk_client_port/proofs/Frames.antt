@@ -1,5 +1,6 @@
 -- Frames, one after another.
-use Rattle.std.proofs.Common.{◌≡◌, ◌∙◌, ℕ, ◌+◌, List, [], ◌∷◌, ◌++◌, length, Result, Ok, Err, OnOk, refl, ap, subst}
+use Rattle.std.proofs.Common.{◌≡◌, ◌∙◌, ℕ, ◌+◌, List, [], ◌∷◌, ◌++◌, length, Result, Ok, Err, OnOk, refl, sym, ap, subst}
+use Rattle.std.specs.Prelude.{IfErr, OnErr}
 use Rattle.std.proofs.lemmas.List.{length-append}
 use Rattle.zab_broadcast.specs.Calls.{Setting}
 use Rattle.zk_client_port.specs.Execution.{Served}
@@ -39,3 +40,14 @@ module _ {S : Type 0} (setting : Setting Call) (moment : Moment) where
 pub on_ok : {X E P Q : Type 0} → (result : Result X E) → OnOk result P → (P → Q) → OnOk result Q
 on_ok (Ok x) holds then = then holds
 on_ok (Err e) holds then = tt
+
+pub on_err : {X E P : Type 0} → (result : Result X E) → P → OnErr result P
+on_err (Ok x) holds = tt
+on_err (Err e) holds = holds
+
+pub if_err : {X E : Type 0} (result : Result X E) (P : E → Type 0) (fault : E) → result ≡ Err fault → P fault → IfErr result P
+if_err {X} result P fault is holds = subst (λ (it : Result X _). IfErr it P) (sym is) holds
+
+pub err_map : {X E : Type 0} {P Q : E → Type 0} → (result : Result X E) → IfErr result P → ((fault : E) → P fault → Q fault) → IfErr result Q
+err_map (Ok x) holds then = tt
+err_map (Err fault) holds then = then fault holds

@@ -2,7 +2,7 @@
 use Rattle.std.proofs.Common.{◌≡◌, ◌∙◌, ℕ, ℤ, Bool, true, false, List, [], ◌∷◌, length, map, Option, Some, None, if◌then◌else◌, refl, sym, ap}
 use Rattle.std.proofs.lemmas.List.{nil_from_length}
 use Rattle.zab_broadcast.specs.Calls.{Setting}
-use Rattle.zk_client_port.specs.Execution.{Served, served}
+use Rattle.zk_client_port.specs.Execution.{served}
 use Rattle.zk_client_port.specs.Ports.{closed_if, is_among}
 use Rattle.zk_client_port.specs.Serving.{NoFrame, ServesAll}
 use Rattle.zk_client_port.specs.declared.admission.Admission.{Admission}

@@ -3,7 +3,10 @@ pub mod Frames
 pub mod Idle
 pub mod Kept
 pub mod Lists
+pub mod Asking
+pub mod Breaking
 pub mod Ordering
+pub mod Others
 pub mod Owning
 pub mod Reading
 pub mod Requesting

@@ -92,7 +92,7 @@ module _ {S : Type 0} where
       old.hub serves.first.hub new.hub
       (after_writing_if (is_blocked before.number old.hub) old.admission moment.server (served old.host old.hub before) serves.first serves.flushes)
       (after_frames setting moment serves.serves.frames serves.first old.admission (served new.host new.hub after) new.admission serves.serves.serves)
-  after_place setting moment place old new (CutOff after kept set) executed = absurd executed
+  after_place setting moment place old new (CutOff before after is kept breaks set) executed = absurd executed
 
   after_first : (setting : Setting Call) (moment : Moment) (places : ℕ) (old new : Server S) (it : ServesFirst setting moment places old new) → AreExecuted setting moment places old new it
       → new.hub ≡ after_inputs (of_first setting moment places old new it) old.hub
@@ -103,10 +103,11 @@ module _ {S : Type 0} where
       (after_place setting moment places it.0 new it.2 executed.1)
 
   after_turn : (setting : Setting Call) (moment : Moment) (old new : Server S) (displaced : List ℕ) (closed : List ℤ) (it : Turns setting moment old new displaced closed)
-      → AreExecuted setting moment (length it.clients_then.connections) _ new it.serves
+      → AreExecuted setting moment (length it.between.connections) it.between new it.serves
       → new.hub ≡ after_inputs (of_turn setting moment old new displaced closed it) old.hub
   after_turn setting moment old new displaced closed it executed =
-      after_first setting moment (length it.clients_then.connections) _ new it.serves executed
+      after_first setting moment (length it.between.connections) it.between new it.serves executed
+      ∙ ap (after_inputs (of_first setting moment (length it.between.connections) it.between new it.serves)) it.writes.hub
 
   -- ---- any number of them
 

@@ -1,10 +1,11 @@
 -- The connections of a server, one after another.
-use Rattle.std.proofs.Common.{◌≡◌, ◌∙◌, ◌<◌, ℕ, zero, suc, List, length, set, get_or, refl, sym, ap}
+use Rattle.std.proofs.Common.{◌≡◌, ◌∙◌, ◌<◌, ℕ, zero, suc, List, length, set, get_or, refl, sym, ap, subst}
 use Rattle.std.proofs.lemmas.Option.{slice_get_read}
 use Rattle.zab_broadcast.specs.Calls.{Setting}
 use Rattle.zk_client_port.specs.Execution.{served}
-use Rattle.zk_client_port.specs.Serving.{KeepsTree, Serves}
+use Rattle.zk_client_port.specs.Serving.{Breaks, KeepsTree, Serves}
 use Rattle.zk_client_port.specs.declared.execution.Moment.{Moment}
+use Rattle.zk_client_port.specs.declared.fault.ServeFault.TheVariants as faults
 use Rattle.zk_client_port.specs.Turns.{Server, cut_off_with, ServesFirst, ServesPlace, Executed, CutOff}
 use Rattle.zk_client_port.specs.declared.expected.Expected.{Expected}
 use Rattle.zk_connections.specs.Connections.{lost}
@@ -29,7 +30,11 @@ module _ {S : Type 0} (setting : Setting Call) (moment : Moment) where
       Executed before after (slice_get_read old.connections (length old.connections) place before refl within is) serves written
 
   -- or memory ran out
-  pub lost_at : (place : ℕ) (old new : Server S) (after : Connection) (hub : List (Outstanding Expected Outcome)) (its : List Connection) → KeepsTree old.host new.host → new.hub ≡ hub
+  pub lost_at : (place : ℕ) (old new : Server S) (before after : Connection) (hub : List (Outstanding Expected Outcome)) (its : List Connection)
+      → place < length old.connections → before ≡ get_or old.connections place before → KeepsTree old.host new.host
+      → Breaks setting moment (served old.host old.hub before) old.admission (served new.host hub after) new.admission faults.Connection → new.hub ≡ hub
       → its ≡ set old.connections place (lost after) → new.connections ≡ cut_off_with hub its → ServesPlace setting moment place old new
-  lost_at place old new after hub its kept same were written =
-      CutOff after kept (written ∙ ap (cut_off_with hub) were ∙ ap (λ (requests : List (Outstanding Expected Outcome)). cut_off_with requests (set old.connections place (lost after))) (sym same))
+  lost_at place old new before after hub its within is kept breaks same were written =
+      CutOff before after (slice_get_read old.connections (length old.connections) place before refl within is) kept
+      (subst (λ (requests : List (Outstanding Expected Outcome)). Breaks setting moment (served old.host old.hub before) old.admission (served new.host requests after) new.admission faults.Connection) (sym same) breaks)
+      (written ∙ ap (cut_off_with hub) were ∙ ap (λ (requests : List (Outstanding Expected Outcome)). cut_off_with requests (set old.connections place (lost after))) (sym same))

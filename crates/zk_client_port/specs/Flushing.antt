@@ -1,6 +1,6 @@
 -- The replies and reads of a connection, in the order of its requests. ZooKeeper Programmer's Guide,
 -- "Consistency Guarantees": a read is made once the requests before it have their replies.
-use Rattle.std.specs.Prelude.{◌≡◌, ℕ, ℤ, int_lt, true, List, [], ◌∷◌, Some, None, Result, Ok, Err}
+use Rattle.std.specs.Prelude.{◌≡◌, ◌⊎◌, ℕ, ℤ, int_lt, true, List, [], ◌∷◌, Some, None, Result, Ok, Err}
 use Rattle.zk_hub.specs.Reads.{Reader, reader, last_at, KeepsNodes}
 use Rattle.zk_hub.specs.Replies.{reply_to, after_ask, last_seen, IsNear}
 use Rattle.zk_client_port.specs.Execution.{Served, served}
@@ -12,7 +12,7 @@ use Rattle.zk_connections.specs.Connections.{lost, with_reply}
 use Rattle.zk_connections.specs.declared.connection.Connection.{Connection}
 use Rattle.zk_hub.specs.declared.outcome.Outcome.{Outcome}
 use Rattle.zk_host.specs.declared.replica_host.ReplicaHost.{ReplicaHost}
-use Rattle.zk_hub.specs.Hubs.{next_read, replies_for, without_read, without_ready}
+use Rattle.zk_hub.specs.Hubs.{next_read, replies_for, without_connection, without_read, without_ready}
 use Rattle.zk_hub.specs.declared.request.Reply.{Reply}
 use Rattle.zk_client_session.specs.declared.ask.Ask.{Ask}
 use Rattle.zk_client_session.specs.declared.expected_reply.ExpectedReply.{ExpectedReply}
@@ -84,3 +84,10 @@ pub record HasFlushed {S : Type 0} (admission : Admission) (server : ℕ) (old n
   pub makes : MakesReads admission server old.connection.number reads old between
   pub replies : new ≡ after_replies admission old.connection.number between
   pub none : next_read old.connection.number new.hub ≡ None
+
+-- ---- memory runs out
+
+-- some of the connection's replies are lost; the requests of the other connections stay, or all are lost
+pub record LosesReplies {S : Type 0} (old new : Served S) : Type 0 where
+  pub server_kept : KeepsServer old.host new.host
+  pub others : (new.hub ≡ []) ⊎ (without_connection old.connection.number new.hub ≡ without_connection old.connection.number old.hub)

@@ -1,4 +1,5 @@
 -- The statements of the laws.
+pub mod Asking
 pub mod Demands
 pub mod Execution
 pub mod Flushing

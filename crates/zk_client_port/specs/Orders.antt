@@ -62,7 +62,7 @@ abbrev pub of_place : {S : Type 0} → (setting : Setting Call) (moment : Moment
 of_place setting moment place old new (Executed before after is serves set) =
     written_if _ old.admission moment.server (served old.host old.hub before) serves.first serves.flushes
     ++ of_frames setting moment serves.serves.frames serves.first old.admission (served new.host new.hub after) new.admission serves.serves.serves
-of_place setting moment place old new (CutOff after kept set) = []
+of_place setting moment place old new (CutOff before after is kept breaks set) = []
 
 abbrev pub of_first : {S : Type 0} → (setting : Setting Call) (moment : Moment) (places : ℕ) (old new : Server S) → ServesFirst setting moment places old new → Inputs
 of_first setting moment zero old new it = []
@@ -71,9 +71,9 @@ of_first setting moment (suc places) old new it = of_first setting moment places
 -- what the server has delivered, and the syncs that are complete, and then each connection in its turn
 abbrev pub of_turn : {S : Type 0} → (setting : Setting Call) (moment : Moment) (old new : Server S) (displaced : List ℕ) (closed : List ℤ) → Turns setting moment old new displaced closed → Inputs
 of_turn setting moment old new displaced closed it =
-    Delivers (map hub_news (news_at old.host.tree old.host.shown it.released.host.state))
-    ∷ Delivers (map synced it.released.host.state.caught)
-    ∷ of_first setting moment (length it.clients_then.connections) _ new it.serves
+    Delivers (map hub_news (news_at old.host.tree old.host.shown it.writes.released.host.state))
+    ∷ Delivers (map synced it.writes.released.host.state.caught)
+    ∷ of_first setting moment (length it.between.connections) it.between new it.serves
 
 -- ---- any number of them
 
@@ -105,14 +105,14 @@ last_of old (new ∷ later) = last_of new later
 
 abbrev pub IsExecuted : {S : Type 0} → (setting : Setting Call) (moment : Moment) (place : ℕ) (old new : Server S) → ServesPlace setting moment place old new → Type 0
 IsExecuted setting moment place old new (Executed before after is serves set) = Unit {0}
-IsExecuted setting moment place old new (CutOff after kept set) = ⊥
+IsExecuted setting moment place old new (CutOff before after is kept breaks set) = ⊥
 
 abbrev pub AreExecuted : {S : Type 0} → (setting : Setting Call) (moment : Moment) (places : ℕ) (old new : Server S) → ServesFirst setting moment places old new → Type 0
 AreExecuted setting moment zero old new it = Unit {0}
 AreExecuted setting moment (suc places) old new it = AreExecuted setting moment places old it.0 it.1 × IsExecuted setting moment places it.0 new it.2
 
 abbrev pub HasMemory : {S : Type 0} → (old new : Server S) → Moves old new → Type 0
-HasMemory old new (Turned setting moment displaced closed turns) = AreExecuted setting moment (length turns.clients_then.connections) _ new turns.serves
+HasMemory old new (Turned setting moment displaced closed turns) = AreExecuted setting moment (length turns.between.connections) turns.between new turns.serves
 HasMemory old new (Removed hub) = Unit {0}
 HasMemory old new (Other hub) = Unit {0}
 

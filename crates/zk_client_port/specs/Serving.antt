@@ -1,14 +1,16 @@
 -- A server takes what a connection has sent: frame by frame, in order, each once. ZooKeeper
 -- Programmer's Guide, "Consistency Guarantees": a client's requests are executed in the order in
 -- which it sent them.
-use Rattle.std.specs.Prelude.{◌≡◌, ℕ, ◌<◌, ℤ, ◌&&◌, nat_lt, Bool, true, false, not, List, [], ◌∷◌, length, Option, Some, None, Ok}
+use Rattle.std.specs.Prelude.{◌≡◌, ℕ, ◌<◌, ℤ, ◌&&◌, nat_lt, Bool, true, false, not, List, [], ◌∷◌, length, Option, Some, None, Ok, Err}
 use Rattle.zab_broadcast.specs.Calls.{Setting}
 use Rattle.zk_client_port.specs.Demands.{demand_of}
 use Rattle.zk_client_port.specs.Execution.{Served, served, ExecutesTo}
-use Rattle.zk_client_port.specs.Flushing.{HasFlushed}
+use Rattle.zk_client_port.specs.Flushing.{HasFlushed, LosesReplies}
 use Rattle.zk_client_port.specs.declared.admission.Admission.{Admission}
 use Rattle.zk_client_port.specs.declared.execution.Moment.{Moment}
 use Rattle.zk_client_port.specs.declared.expected.Expected.{Expected}
+use Rattle.zk_client_port.specs.declared.fault.ServeFault.{ServeFault}
+use Rattle.zk_client_port.specs.declared.fault.ServeFault.TheVariants as faults
 use Rattle.zk_connections.specs.Connections.{is_slow, session_of}
 use Rattle.zk_connections.specs.Inputs.{taken_of}
 use Rattle.zk_connections.specs.declared.connection.Connection.{Connection}
@@ -89,6 +91,34 @@ pub record Serves {S : Type 0} (setting : Setting Call) (moment : Moment) (old :
   pub first : Served S
   pub flushes : FlushesIf (is_blocked old.connection.number old.hub) admission moment.server old first
   pub serves : ServesAll setting moment first admission new heard
+
+-- ---- memory runs out: the frames before are executed, each once, and nothing after
+
+-- a frame is not executed, or it is and its replies are lost
+pub data BreaksTaken {S : Type 0} (setting : Setting Call) (moment : Moment) (taken : Taken) (old : Served S) (admission : Admission) (new : Served S) (heard : Admission) (fault : ServeFault) : Type 0 where
+  Unexecuted : (hears : heard ≡ hearing moment.now old.connection admission)
+      (executes : ExecutesTo setting moment (demand_of heard old.host.tree.tree.last moment.now taken) old new (Err fault)) → BreaksTaken setting moment taken old admission new heard fault
+  Unwritten : (hears : heard ≡ hearing moment.now old.connection admission) (ready : Bool) (between : Served S)
+      (executes : ExecutesTo setting moment (demand_of heard old.host.tree.tree.last moment.now taken) old between (Ok ready))
+      (loses : LosesReplies between new) (is : fault ≡ faults.Connection) → BreaksTaken setting moment taken old admission new heard fault
+
+-- no frame is taken, or one that is not executed whole
+pub data BreaksNext {S : Type 0} (setting : Setting Call) (moment : Moment) (old : Served S) (admission : Admission) (new : Served S) (heard : Admission) (fault : ServeFault) : Type 0 where
+  Untaken : (host : new.host ≡ old.host) (hub : new.hub ≡ old.hub) (same : heard ≡ admission) (is : fault ≡ faults.Connection) → BreaksNext setting moment old admission new heard fault
+  Unserved : (taken : Taken) (may : may_take old ≡ true) (connection : Connection) (takes : taken_of old.connection ≡ (connection, Some taken))
+      (breaks : BreaksTaken setting moment taken (served old.host old.hub connection) admission new heard fault) → BreaksNext setting moment old admission new heard fault
+
+pub record BreaksFrames {S : Type 0} (setting : Setting Call) (moment : Moment) (old : Served S) (admission : Admission) (new : Served S) (heard : Admission) (fault : ServeFault) : Type 0 where
+  pub frames : List Taken
+  pub between : Served S
+  pub middle : Admission
+  pub serves : ServesFrames setting moment frames old admission between middle
+  pub breaks : BreaksNext setting moment between middle new heard fault
+
+pub data Breaks {S : Type 0} (setting : Setting Call) (moment : Moment) (old : Served S) (admission : Admission) (new : Served S) (heard : Admission) (fault : ServeFault) : Type 0 where
+  Unflushed : (loses : LosesReplies old new) (same : heard ≡ admission) (is : fault ≡ faults.Connection) → Breaks setting moment old admission new heard fault
+  Broken : (first : Served S) (flushes : FlushesIf (is_blocked old.connection.number old.hub) admission moment.server old first)
+      (breaks : BreaksFrames setting moment first admission new heard fault) → Breaks setting moment old admission new heard fault
 
 -- with any result: what the server has delivered stays
 pub record KeepsTree {S : Type 0} (old new : ReplicaHost S) : Type 0 where

@@ -5,13 +5,14 @@ use Rattle.zab_broadcast.specs.Calls.{Setting}
 use Rattle.zab_broadcast.specs.declared.syncs.Caught.{Caught}
 use Rattle.zk_client_port.specs.Ports.{closed_if, cut_off_if}
 use Rattle.zk_client_port.specs.declared.client_port.Selection.TheVariants.{All}
-use Rattle.zk_client_port.specs.Execution.{served}
+use Rattle.zk_client_port.specs.Execution.{Served, served}
 use Rattle.zk_client_port.specs.Outputs.{after_outputs, gained_from}
-use Rattle.zk_client_port.specs.Serving.{KeepsTree, Serves}
+use Rattle.zk_client_port.specs.Serving.{Breaks, KeepsTree, Serves}
 use Rattle.zk_client_port.specs.Sessions.{after_attachments, after_ends, displaced_by_all}
 use Rattle.zk_client_port.specs.declared.admission.Admission.{Admission}
 use Rattle.zk_client_port.specs.declared.execution.Moment.{Moment}
 use Rattle.zk_client_port.specs.declared.expected.Expected.{Expected}
+use Rattle.zk_client_port.specs.declared.fault.ServeFault.TheVariants as faults
 use Rattle.zk_connections.specs.Connections.{lost}
 use Rattle.zk_connections.specs.declared.connection.Connection.{Connection}
 use Rattle.zk_hub.specs.Outcomes.{hub_news, news_at}
@@ -69,12 +70,14 @@ server host hub connections admission = record { host = host; hub = hub; connect
 abbrev pub cut_off_with : List (Outstanding Expected Outcome) → List Connection → List Connection
 cut_off_with hub its = if nat_eq (length hub) 0 then map (cut_off_if All) its else its
 
--- what the connection at a place has sent is executed; or memory runs out, and it is cut off
+-- What the connection at a place has sent is executed. Or memory runs out: the host has what the
+-- frames before have asked, and the connection is cut off.
 pub data ServesPlace {S : Type 0} (setting : Setting Call) (moment : Moment) (place : ℕ) (old new : Server S) : Type 0 where
   Executed : (before after : Connection) (is : slice_get old.connections place ≡ Some before)
       (serves : Serves setting moment (served old.host old.hub before) old.admission (served new.host new.hub after) new.admission)
       (written : new.connections ≡ set old.connections place after) → ServesPlace setting moment place old new
-  CutOff : (after : Connection) (kept : KeepsTree old.host new.host)
+  CutOff : (before after : Connection) (is : slice_get old.connections place ≡ Some before) (kept : KeepsTree old.host new.host)
+      (breaks : Breaks setting moment (served old.host old.hub before) old.admission (served new.host new.hub after) new.admission faults.Connection)
       (written : new.connections ≡ cut_off_with new.hub (set old.connections place (lost after))) → ServesPlace setting moment place old new
 
 -- the first connections, in order
@@ -82,6 +85,22 @@ abbrev pub ServesFirst : {S : Type 0} → Setting Call → Moment → ℕ → Se
 ServesFirst {S} setting moment zero old new = new ≡ old
 ServesFirst {S} setting moment (suc places) old new =
     (between : Server S) × ServesFirst setting moment places old between × ServesPlace setting moment places between new
+
+-- an allocation of the host fails while the connection at a place is served
+pub record FailsAtPlace {S : Type 0} (setting : Setting Call) (moment : Moment) (place : ℕ) (old : Server S) (host : ReplicaHost S) : Type 0 where
+  pub before : Connection
+  pub is : slice_get old.connections place ≡ Some before
+  pub after : Served S
+  pub heard : Admission
+  pub breaks : Breaks setting moment (served old.host old.hub before) old.admission after heard faults.Host
+  pub host_is : host ≡ after.host
+
+-- the first connections are served, and then an allocation of the host fails
+pub record FailsToServe {S : Type 0} (setting : Setting Call) (moment : Moment) (old : Server S) (host : ReplicaHost S) : Type 0 where
+  pub places : ℕ
+  pub between : Server S
+  pub first : ServesFirst setting moment places old between
+  pub fails : FailsAtPlace setting moment places between host
 
 -- ---- a turn
 
@@ -121,14 +140,17 @@ after_release now old released requests it =
 abbrev pub closed_by : {S : Type 0} → ReplicaHost S → ReplicaHost S → List ℤ
 closed_by old released = closed_in (drop old.shown (delivered_in released.host.state))
 
-pub record Turns {S : Type 0} (setting : Setting Call) (moment : Moment) (old new : Server S) (displaced : List ℕ) (closed : List ℤ) : Type 0 where
+-- what a host releases is written, and sessions and connections end
+pub record WritesReleased {S : Type 0} (now : ℤ) (old new : Server S) (displaced : List ℕ) (closed : List ℤ) : Type 0 where
   pub released : ReplicaHost S
   pub releases : Releases old.host released
-  pub synced_host : ReplicaHost S
-  pub syncs : TakesSyncs released synced_host
-  pub clients_then : Clients
-  pub writes : clients_then ≡ ended (closed_by old.host released) (after_release moment.now old.host released old.hub (clients old.connections old.admission []))
-  pub loses : displaced ≡ clients_then.displaced
+  pub syncs : TakesSyncs released new.host
+  pub hub : new.hub ≡ left_by_syncs released (left_by_release old.host released old.hub)
+  pub writes : clients new.connections new.admission displaced
+      ≡ ended (closed_by old.host released) (after_release now old.host released old.hub (clients old.connections old.admission []))
   pub closes : closed ≡ closed_by old.host released
-  pub serves : ServesFirst setting moment (length clients_then.connections)
-      (server synced_host (left_by_syncs released (left_by_release old.host released old.hub)) clients_then.connections clients_then.admission) new
+
+pub record Turns {S : Type 0} (setting : Setting Call) (moment : Moment) (old new : Server S) (displaced : List ℕ) (closed : List ℤ) : Type 0 where
+  pub between : Server S
+  pub writes : WritesReleased moment.now old between displaced closed
+  pub serves : ServesFirst setting moment (length between.connections) between new

@@ -1,17 +1,22 @@
-ghost use Rattle.std.specs.Prelude.{◌≡◌, ◌<◌, [], length, map, nat_eq, if◌then◌else◌, IfOk, OnOk, OnErr};
+ghost use Rattle.std.specs.Prelude.{◌≡◌, ◌<◌, ◌⊎◌, [], length, map, nat_eq, if◌then◌else◌, IfOk, OnOk, OnErr};
 ghost use Rattle.std.specs.List.{list_any};
 ghost use Rattle.std.specs.Ordering.{int_eq};
 ghost use Rattle.zk_client_port.specs.Ports.{all_detached, closed_if, cut_off_if, is_among, is_selected, numbers_over, without_over, without_requests};
 ghost use Rattle.zk_client_port.specs.declared.client_port.Selection.TheVariants as selections;
-ghost use Rattle.zk_client_port.specs.Turns.{clients, cut_off_with, server, synced, written, ServesFirst, ServesPlace, TakesSyncs, Turns};
+ghost use Rattle.zk_client_port.specs.Asking.{FailsAsking, HasAsked};
+ghost use Rattle.zk_client_port.specs.Serving.{Breaks, KeepsTree};
+ghost use Rattle.zk_client_port.specs.Turns.{clients, cut_off_with, server, synced, written, FailsAtPlace, FailsToServe, ServesFirst, ServesPlace, TakesSyncs, Turns, WritesReleased};
 ghost use Rattle.zk_client_port.specs.Sessions.{after_ends};
 ghost use Rattle.zk_hub.specs.Deliveries.{left_after, outputs_of};
 ghost use Rattle.zk_model.specs.Ensembles.{profile_by};
+ghost use Rattle.zab_epoch.specs.declared.stable.Stable.{Stable};
+ghost use Rattle.zab_host.specs.Durability.{IsPartialStore};
 ghost use Rattle.zab_host.specs.Hosts.{IsStored};
 
 use crate::admission::Admission;
 use crate::execution::Moment;
 use crate::expected::Expected;
+use crate::fault::ServeFault;
 use crate::outputs::{PortOutput, write_outputs};
 use crate::turn::serve;
 use std::alloc::Global;
@@ -112,8 +117,8 @@ impl ClientPort {
         self.hub.len()
     }
 
-    /// Releases what the server's host has: writes the events and replies of the newly delivered
-    /// entries, and of completed syncs, to the connections; then takes what these have sent.
+    /// A turn of the server: releases what its host has, and then takes what the connections have
+    /// sent.
     ///
     /// After an error, the caller closes all connections of the server, and stops it.
     pub fn turn<S: Storage, Q: Quorums>(
@@ -129,6 +134,36 @@ impl ClientPort {
             (server host.old self.old.hub self.old.connections.items admission.old)
             (server host.new self.new.hub self.new.connections.items admission.new) it.displaced.items it.closed.items) }
     {
+        let turned = self.release(alloc, host, admission, moment.now)?;
+        match self.serve_all(alloc, host, quorums, admission, moment) {
+            Ok(()) => Ok(turned),
+            Err(NoMemory) => Err(ReleaseFault::NoMemory),
+        }
+    }
+
+    /// Releases what the server's host has: stores it, and writes the events and replies of the newly
+    /// delivered entries, and of completed syncs, to the connections. What these have sent is not
+    /// taken.
+    ///
+    /// After an error, the caller closes all connections of the server, and stops it.
+    pub fn release<S: Storage>(
+        &mut self,
+        alloc: Global,
+        host: &mut ReplicaHost<S>,
+        admission: &mut Admission,
+        now: i64,
+    ) -> Result<Turned, ReleaseFault>
+        ensures messages { IfOk result (λ it. it.messages ≡ host.old.host.outbox) }
+        ensures stored { OnOk result (IsStored S.may_recover host.new.host) }
+        ensures writes { IfOk result (λ it. WritesReleased now
+            (server host.old self.old.hub self.old.connections.items admission.old)
+            (server host.new self.new.hub self.new.connections.items admission.new) it.displaced.items it.closed.items) }
+        ensures tags { host.new.tags ≡ host.old.tags }
+        ensures crash { (found : Stable) → S.may_recover host.new.host.storage found
+            → S.may_recover host.old.host.storage found
+            ⊎ IsPartialStore (S.may_recover host.old.host.storage) host.old.host.state.peer.stable found }
+        ensures boots { S.boots host.new.host.storage ≡ S.boots host.old.host.storage }
+    {
         // The release's replies are written before the later events of it: their headers go no
         // further than what has been written before.
         let before = host.last();
@@ -137,14 +172,13 @@ impl ClientPort {
         let closed = replace(&mut released.closed, Vec::new(alloc));
         let messages = replace(&mut released.messages, Messages::new(alloc));
         let mut displaced = Vec::new(alloc);
-        let (last, now) = (host.last(), moment.now);
+        let last = host.last();
         self.write(alloc, admission, before, now, outputs, &mut displaced)?;
         let Ok(synced) = self.synced(alloc, host) else {
             return Err(ReleaseFault::NoMemory);
         };
         self.write(alloc, admission, last, now, synced, &mut displaced)?;
         self.end_sessions(admission, &closed);
-        self.serve_all(alloc, host, quorums, admission, moment);
         Ok(Turned {
             messages,
             displaced,
@@ -203,24 +237,32 @@ impl ClientPort {
         admission.end_all(closed);
     }
 
-    /// Takes what the connections have sent. A connection for which an allocation fails is lost.
+    /// Takes what the connections have sent, in the order of the connections, and executes each frame
+    /// once. A connection for which an allocation fails is lost; an error is an allocation of the host
+    /// that failed, and the caller stops the server.
     #[tactic(auto, using(crate::proofs::Serving::none_served, crate::proofs::Serving::one_more))]
-    fn serve_all<S: Storage, Q: Quorums>(
+    pub fn serve_all<S: Storage, Q: Quorums>(
         &mut self,
         alloc: Global,
         host: &mut ReplicaHost<S>,
         quorums: &Q,
         admission: &mut Admission,
         moment: Moment,
-    )
+    ) -> Result<(), NoMemory>
         requires { host.old.tree.news ≡ [] }
-        ensures { ServesFirst (profile_by (Q.passes quorums.now)).setting moment (length self.old.connections.items)
+        ensures serves { OnOk result (ServesFirst (profile_by (Q.passes quorums.now)).setting moment (length self.old.connections.items)
             (server host.old self.old.hub self.old.connections.items admission.old)
-            (server host.new self.new.hub self.new.connections.items admission.new) }
+            (server host.new self.new.hub self.new.connections.items admission.new)) }
+        ensures asks { OnOk result (HasAsked (profile_by (Q.passes quorums.now)).setting host.old host.new) }
+        ensures kept { OnOk result (KeepsTree host.old host.new) }
+        ensures breaks { OnErr result (FailsToServe (profile_by (Q.passes quorums.now)).setting moment
+            (server host.old self.old.hub self.old.connections.items admission.old) host.new) }
+        ensures fails { OnErr result (FailsAsking (profile_by (Q.passes quorums.now)).setting host.old host.new) }
     {
         'connections: for index in 0..self.connections.len() {
-            self.serve_at(alloc, host, quorums, admission, moment, index);
+            self.serve_at(alloc, host, quorums, admission, moment, index)?;
         }
+        Ok(())
     }
 
     /// Takes what the connection at a place has sent.
@@ -233,23 +275,27 @@ impl ClientPort {
         admission: &mut Admission,
         moment: Moment,
         index: usize,
-    )
+    ) -> Result<(), NoMemory>
         requires written { host.old.tree.news ≡ [] }
         requires within { index < length self.old.connections.items }
-        ensures serves { ServesPlace (profile_by (Q.passes quorums.now)).setting moment index
+        ensures serves { OnOk result (ServesPlace (profile_by (Q.passes quorums.now)).setting moment index
             (server host.old self.old.hub self.old.connections.items admission.old)
-            (server host.new self.new.hub self.new.connections.items admission.new) }
-        ensures written { host.new.tree.news ≡ [] }
+            (server host.new self.new.hub self.new.connections.items admission.new)) }
+        ensures breaks { OnErr result (FailsAtPlace (profile_by (Q.passes quorums.now)).setting moment index
+            (server host.old self.old.hub self.old.connections.items admission.old) host.new) }
+        ensures kept { KeepsTree host.old host.new }
         ensures count { length self.new.connections.items ≡ length self.old.connections.items }
     {
         let connection = &mut self.connections[index];
         let hub = &mut self.hub;
         match serve(alloc, host, quorums, hub, connection, admission, moment) {
-            Ok(()) => (),
-            Err(_) => {
+            Ok(()) => Ok(()),
+            Err(ServeFault::Connection) => {
                 connection.cut_off();
                 self.cut_off_if_lost();
+                Ok(())
             }
+            Err(ServeFault::Host) => Err(NoMemory),
         }
     }
 

@@ -2,16 +2,17 @@
 
 ghost use Rattle.std.specs.Prelude.{◌≡◌, ◌++◌, ◌∷◌, [], length, IfOk, OnOk, OnErr};
 ghost use Rattle.zab_host.specs.Hosts.{Submits, Syncs};
-ghost use Rattle.zk_client_port.specs.Execution.{call_of, is_ready, known, outstanding, printed, request, served, status_of, ExecutesTo, IsRejected, Pushes, Requests, Tells, Writes};
+ghost use Rattle.zk_client_port.specs.Execution.{call_of, is_ready, known, outstanding, printed, request, served, status_of, tag_after, ExecutesTo, IsRejected, Pushes, RequestsTo, Tells, Writes};
 ghost use Rattle.zk_connections.specs.Connections.{with_no_session};
 ghost use Rattle.zk_hub.specs.declared.request.Stage.TheVariants as stages;
 ghost use Rattle.zk_model.specs.Ensembles.{profile_by};
 
 use crate::demand::Demand;
 use crate::expected::Expected;
+use crate::fault::ServeFault;
 use std::alloc::Global;
 use zab_epoch::Quorums;
-use zab_host::Storage;
+use zab_host::{HostFault, Storage};
 use zk_acl::Ids;
 use zk_connections::{Connection, Mode, Status, Word, text_of};
 use zk_host::ReplicaHost;
@@ -32,6 +33,17 @@ pub struct Moment {
     pub connections: usize,
 }
 
+/// The tag of a request, if its host has taken it; an error if an allocation of the host failed.
+pub fn tag_after(tag: u64, stepped: Result<(), HostFault>) -> Result<Option<u64>, ServeFault>
+    ensures { result ≡ tag_after tag stepped }
+{
+    match stepped {
+        Ok(()) => Ok(Some(tag)),
+        Err(HostFault::NoMemory) => Err(ServeFault::Host),
+        Err(_) => Ok(None),
+    }
+}
+
 /// Submits a request at a host. Returns the tag of its outcome; `None` if the host takes no
 /// requests now.
 fn submit<S: Storage, Q: Quorums>(
@@ -43,10 +55,12 @@ fn submit<S: Storage, Q: Quorums>(
     auths: Ids,
     now: i64,
     request: Request,
-) -> Option<u64>
-    ensures { Requests (profile_by (Q.passes quorums.now)).setting (call_of session cxid auths now request) host.old host.new result }
+) -> Result<Option<u64>, ServeFault>
+    ensures { RequestsTo (profile_by (Q.passes quorums.now)).setting (call_of session cxid auths now request) host.old host.new result }
 {
-    let tag = host.issue_tag()?;
+    let Some(tag) = host.issue_tag() else {
+        return Ok(None);
+    };
     let call = Call {
         tag,
         session,
@@ -55,10 +69,8 @@ fn submit<S: Storage, Q: Quorums>(
         now,
         request,
     };
-    match host.submit(alloc, quorums, call) {
-        Ok(()) => Some(tag),
-        Err(_) => None,
-    }
+    let stepped = host.submit(alloc, quorums, call);
+    tag_after(tag, stepped)
 }
 
 /// Asks a host to catch up with its leader. Returns the tag of its outcome; `None` if the host
@@ -67,14 +79,14 @@ fn sync<S: Storage, Q: Quorums>(
     alloc: Global,
     host: &mut ReplicaHost<S>,
     quorums: &Q,
-) -> Option<u64>
-    ensures { Requests (profile_by (Q.passes quorums.now)).setting Syncs host.old host.new result }
+) -> Result<Option<u64>, ServeFault>
+    ensures { RequestsTo (profile_by (Q.passes quorums.now)).setting Syncs host.old host.new result }
 {
-    let tag = host.issue_tag()?;
-    match host.sync(alloc, quorums, tag) {
-        Ok(()) => Some(tag),
-        Err(_) => None,
-    }
+    let Some(tag) = host.issue_tag() else {
+        return Ok(None);
+    };
+    let stepped = host.sync(alloc, quorums, tag);
+    tag_after(tag, stepped)
 }
 
 /// A request of a connection, which waits for the outcome with a tag. Without a tag, the connection
@@ -120,13 +132,13 @@ fn reading(connection: u64, expected: Expected) -> Outstanding<Expected, Outcome
 fn push(
     hub: &mut Hub<Expected, Outcome>,
     request: Outstanding<Expected, Outcome>,
-) -> Result<bool, NoMemory>
+) -> Result<bool, ServeFault>
     ensures { Pushes request hub.old hub.new result }
 {
     let is_ready = !matches!(&request.stage, Stage::Waits { tag: _ });
     match hub.push(request) {
         Ok(()) => Ok(is_ready),
-        Err(_) => Err(NoMemory),
+        Err(_) => Err(ServeFault::Connection),
     }
 }
 
@@ -161,7 +173,7 @@ fn print<S: Storage>(
     connection: &mut Connection,
     moment: Moment,
     word: Word,
-) -> Result<bool, NoMemory>
+) -> Result<bool, ServeFault>
     ensures { Writes (printed moment word (served host.now hub.now connection.old)) connection.new result }
 {
     let status = status_of(alloc, host, hub, moment)?;
@@ -176,15 +188,15 @@ fn reject(
     alloc: Global,
     connection: &mut Connection,
     read_only: Option<bool>,
-) -> Result<bool, NoMemory>
+) -> Result<bool, ServeFault>
     ensures { Writes (with_no_session read_only connection.old) connection.new result }
 {
     connection.reject_session(alloc, read_only)?;
     Ok(false)
 }
 
-/// Executes a demand of a connection. Returns whether a reply or a read may be ready. After an error,
-/// the connection is lost.
+/// Executes a demand of a connection. Returns whether a reply or a read may be ready. After
+/// [`ServeFault::Connection`] the connection is lost.
 pub(crate) fn execute<S: Storage, Q: Quorums>(
     alloc: Global,
     host: &mut ReplicaHost<S>,
@@ -193,7 +205,7 @@ pub(crate) fn execute<S: Storage, Q: Quorums>(
     connection: &mut Connection,
     moment: Moment,
     demand: Demand,
-) -> Result<bool, NoMemory>
+) -> Result<bool, ServeFault>
     ensures { ExecutesTo (profile_by (Q.passes quorums.now)).setting moment demand (served host.old hub.old connection.old) (served host.new hub.new connection.new) result }
 {
     let number = connection.number();
@@ -206,11 +218,11 @@ pub(crate) fn execute<S: Storage, Q: Quorums>(
             expected,
         } => {
             let now = moment.now;
-            let tag = submit(alloc, host, quorums, session, cxid, auths, now, request);
+            let tag = submit(alloc, host, quorums, session, cxid, auths, now, request)?;
             push(hub, outstanding(number, tag, expected))
         }
         Demand::Sync(expected) => {
-            let tag = sync(alloc, host, quorums);
+            let tag = sync(alloc, host, quorums)?;
             push(hub, outstanding(number, tag, expected))
         }
         Demand::Read(expected) => push(hub, reading(number, expected)),

@@ -1,17 +1,18 @@
 //! What a server does with the input of a connection.
 
-ghost use Rattle.std.specs.Prelude.{◌≡◌, [], OnOk};
+ghost use Rattle.std.specs.Prelude.{◌≡◌, [], OnOk, OnErr, IfErr};
 ghost use Rattle.zk_hub.specs.Reads.{reader};
 ghost use Rattle.zk_client_port.specs.Execution.{served};
-ghost use Rattle.zk_client_port.specs.Flushing.{with_replies, HasFlushed, KeepsServer, Reads};
+ghost use Rattle.zk_client_port.specs.Flushing.{with_replies, HasFlushed, KeepsServer, LosesReplies, Reads};
 ghost use Rattle.zk_client_port.specs.Results.{with_outcome};
-ghost use Rattle.zk_client_port.specs.Serving.{hearing, may_take_of, FlushesIf, KeepsTree, Serves, ServesAll, ServesTaken};
+ghost use Rattle.zk_client_port.specs.Serving.{hearing, may_take_of, Breaks, BreaksFrames, BreaksTaken, FlushesIf, KeepsTree, Serves, ServesAll, ServesTaken};
 ghost use Rattle.zk_model.specs.Ensembles.{profile_by};
 
 use crate::admission::Admission;
 use crate::demand::demand_of;
 use crate::execution::{Moment, execute};
 use crate::expected::Expected;
+use crate::fault::ServeFault;
 use crate::result::write_outcome;
 use std::alloc::Global;
 use zab_epoch::Quorums;
@@ -95,6 +96,7 @@ fn flush<S: Storage>(
 ) -> Result<(), NoMemory>
     requires written { host.old.tree.news ≡ [] }
     ensures flushed { OnOk result (HasFlushed admission.now server (served host.old hub.old connection.old) (served host.new hub.new connection.new)) }
+    ensures loses { OnErr result (LosesReplies (served host.old hub.old connection.old) (served host.new hub.new connection.new)) }
     ensures kept { KeepsServer host.old host.new }
 {
     let number = connection.number();
@@ -138,6 +140,7 @@ fn flush_if<S: Storage>(
 ) -> Result<(), NoMemory>
     requires written { host.old.tree.news ≡ [] }
     ensures flushed { OnOk result (FlushesIf ready admission.now server (served host.old hub.old connection.old) (served host.new hub.new connection.new)) }
+    ensures loses { OnErr result (LosesReplies (served host.old hub.old connection.old) (served host.new hub.new connection.new)) }
     ensures kept { KeepsServer host.old host.new }
 {
     if ready {
@@ -146,7 +149,7 @@ fn flush_if<S: Storage>(
     Ok(())
 }
 
-/// Executes what was taken of a connection. After an error, the connection is lost.
+/// Executes what was taken of a connection. After [`ServeFault::Connection`] the connection is lost.
 fn serve_taken<S: Storage, Q: Quorums>(
     alloc: Global,
     host: &mut ReplicaHost<S>,
@@ -156,9 +159,11 @@ fn serve_taken<S: Storage, Q: Quorums>(
     admission: &mut Admission,
     moment: Moment,
     taken: Taken,
-) -> Result<(), NoMemory>
+) -> Result<(), ServeFault>
     requires written { host.old.tree.news ≡ [] }
     ensures serves { OnOk result (ServesTaken (profile_by (Q.passes quorums.now)).setting moment taken
+        (served host.old hub.old connection.old) admission.old (served host.new hub.new connection.new) admission.new) }
+    ensures breaks { IfErr result (BreaksTaken (profile_by (Q.passes quorums.now)).setting moment taken
         (served host.old hub.old connection.old) admission.old (served host.new hub.new connection.new) admission.new) }
     ensures kept { KeepsTree host.old host.new }
 {
@@ -173,10 +178,12 @@ fn serve_taken<S: Storage, Q: Quorums>(
         admission,
         moment.server,
         ready,
-    )
+    )?;
+    Ok(())
 }
 
-/// Takes a connection's frames, and executes each. After an error, the connection is lost.
+/// Takes a connection's frames, and executes each. After [`ServeFault::Connection`] the connection is
+/// lost.
 #[tactic(auto, using(crate::proofs::Frames::none_served, crate::proofs::Frames::one_more, crate::proofs::Idle::idle))]
 fn serve_frames<S: Storage, Q: Quorums>(
     alloc: Global,
@@ -186,9 +193,11 @@ fn serve_frames<S: Storage, Q: Quorums>(
     connection: &mut Connection,
     admission: &mut Admission,
     moment: Moment,
-) -> Result<(), NoMemory>
+) -> Result<(), ServeFault>
     requires written { host.old.tree.news ≡ [] }
     ensures serves { OnOk result (ServesAll (profile_by (Q.passes quorums.now)).setting moment
+        (served host.old hub.old connection.old) admission.old (served host.new hub.new connection.new) admission.new) }
+    ensures breaks { IfErr result (BreaksFrames (profile_by (Q.passes quorums.now)).setting moment
         (served host.old hub.old connection.old) admission.old (served host.new hub.new connection.new) admission.new) }
     ensures kept { KeepsTree host.old host.new }
 {
@@ -210,7 +219,8 @@ fn serve_frames<S: Storage, Q: Quorums>(
 }
 
 /// Takes what a connection has sent: frame by frame, until an earlier read of it waits, too many of
-/// its bytes are unsent, or the server has too many requests. After an error, the connection is lost.
+/// its bytes are unsent, or the server has too many requests. After [`ServeFault::Connection`] the
+/// connection is lost, and the host has what the frames before have asked.
 pub(crate) fn serve<S: Storage, Q: Quorums>(
     alloc: Global,
     host: &mut ReplicaHost<S>,
@@ -219,9 +229,11 @@ pub(crate) fn serve<S: Storage, Q: Quorums>(
     connection: &mut Connection,
     admission: &mut Admission,
     moment: Moment,
-) -> Result<(), NoMemory>
+) -> Result<(), ServeFault>
     requires written { host.old.tree.news ≡ [] }
     ensures serves { OnOk result (Serves (profile_by (Q.passes quorums.now)).setting moment
+        (served host.old hub.old connection.old) admission.old (served host.new hub.new connection.new) admission.new) }
+    ensures breaks { IfErr result (Breaks (profile_by (Q.passes quorums.now)).setting moment
         (served host.old hub.old connection.old) admission.old (served host.new hub.new connection.new) admission.new) }
     ensures kept { KeepsTree host.old host.new }
 {

@@ -1,13 +1,14 @@
 -- Sessions that expire, and those of a new leader. ZooKeeper Programmer's Guide, "ZooKeeper
 -- Sessions": the leader of the ensemble closes a session that expires.
-use Rattle.std.specs.Prelude.{◌≡◌, ℕ, ◌-◌, ℤ, List, [], ◌∷◌, length, set, Option, Some, None}
+use Rattle.std.specs.Prelude.{◌≡◌, ℕ, ◌-◌, ℤ, List, [], ◌∷◌, length, set, Option, Some, None, Result}
 use Rattle.zab_broadcast.specs.Calls.{Setting}
 use Rattle.zab_host.specs.Hosts.{Input, Submits}
-use Rattle.zk_client_port.specs.Execution.{Requests}
+use Rattle.zk_client_port.specs.Execution.{RequestsTo}
 use Rattle.zk_client_port.specs.Listings.{sessions_in}
 use Rattle.zk_client_port.specs.Ports.{all_detached}
 use Rattle.zk_client_port.specs.Sessions.{adopted, renewed}
 use Rattle.zk_client_port.specs.declared.admission.Admission.{Admission}
+use Rattle.zk_client_port.specs.declared.fault.ServeFault.{ServeFault}
 use Rattle.zk_client_service.specs.Ensembles.{Ensemble}
 use Rattle.zk_host.specs.declared.replica_host.ReplicaHost.{ReplicaHost}
 use Rattle.zk_peers.specs.Hosts.{setting_for}
@@ -40,7 +41,7 @@ closing session now tag = Submits (closing_call tag session now)
 abbrev pub Closes : {S : Type 0} → Setting Call → ℤ → List ℤ → ReplicaHost S → ReplicaHost S → Type 0
 Closes {S} setting now [] old new = new ≡ old
 Closes {S} setting now (session ∷ sessions) old new =
-    (between : ReplicaHost S) × (tag : Option ℕ) × Requests setting (closing session now) old between tag
+    (between : ReplicaHost S) × (result : Result (Option ℕ) ServeFault) × RequestsTo setting (closing session now) old between result
     × Closes setting now sessions between new
 
 -- a host that is up is asked

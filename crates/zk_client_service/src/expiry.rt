@@ -1,7 +1,7 @@
 //! Sessions that expire, and those of a new leader.
 
 ghost use Rattle.std.specs.Prelude.{◌≡◌, true, OnOk};
-ghost use Rattle.zk_client_port.specs.Execution.{Requests};
+ghost use Rattle.zk_client_port.specs.Execution.{RequestsTo};
 ghost use Rattle.zk_client_port.specs.Listings.{sessions_in};
 ghost use Rattle.zk_client_service.specs.Expiries.{adopting, closing, touching, Closes, ClosesUp, Renews};
 ghost use Rattle.zk_peers.specs.Hosts.{setting_for};
@@ -10,7 +10,7 @@ ghost use Rattle.zk_peers.specs.Places.{is_up};
 use std::alloc::Global;
 use zab_epoch::Majority;
 use zab_host::Storage;
-use zk_client_port::Admission;
+use zk_client_port::{Admission, ServeFault, tag_after};
 use zk_host::ReplicaHost;
 use zk_path::NoMemory;
 use zk_peers::Place;
@@ -53,20 +53,21 @@ pub(crate) fn renew<S: Storage>(host: &ReplicaHost<S>, admission: &mut Admission
 }
 
 /// Asks a host to close a session. Returns the tag of the request; `None` if the host rejects it.
+/// After an error the messages of the request may be lost.
 fn close<S: Storage>(
     alloc: Global,
     host: &mut ReplicaHost<S>,
     quorums: &Majority,
     session: i64,
     now: i64,
-) -> Option<u64>
-    ensures { Requests (setting_for quorums.now.servers) (closing session now) host.old host.new result }
+) -> Result<Option<u64>, ServeFault>
+    ensures { RequestsTo (setting_for quorums.now.servers) (closing session now) host.old host.new result }
 {
-    let tag = host.issue_tag()?;
-    match host.submit(alloc, quorums, closing_call(alloc, tag, session, now)) {
-        Ok(()) => Some(tag),
-        Err(_) => None,
-    }
+    let Some(tag) = host.issue_tag() else {
+        return Ok(None);
+    };
+    let stepped = host.submit(alloc, quorums, closing_call(alloc, tag, session, now));
+    tag_after(tag, stepped)
 }
 
 /// Asks a host to close sessions, in order.
