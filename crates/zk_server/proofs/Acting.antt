@@ -14,7 +14,8 @@ use Rattle.zab_host.specs.declared.vote.Vote.{Vote}
 use Rattle.zk_host.specs.declared.replica_host.ReplicaHost.{ReplicaHost}
 use Rattle.zk_requests.specs.declared.call.Call.{Call}
 use Rattle.zk_server.specs.declared.member.Member.{Member}
-use Rattle.zk_server.specs.Deeds.{Acknowledges, AllAmong, FailsBy, FailsToAct, HearsAll, IsAmong, LeadsNow, Offers, TakesBy}
+use Rattle.zk_server.specs.Deeds.{setting_for, Acknowledges, AllAmong, FailsAt, FailsBy, FailsToAct, HearsAll, IsAmong, LeadsNow, Offers, TakesBy}
+use Rattle.zk_server.proofs.Hearing.{failure_of, failure_then}
 use Rattle.zk_server_laws.specs.Turns.{AllHeard, IsHeard, IsOwnBody}
 
 -- ---- own messages
@@ -63,14 +64,29 @@ heard_only servers brought input inputs heard (inl none) = subst (λ (l : List (
 heard_only servers brought input inputs heard (inr one) = subst (λ (l : List (Input Call)). AllHeard servers brought l) (sym one) (heard, tt)
 
 module _ {S : Type 0} (may_recover : S → Stable → Type 0) (boots : S → ℕ) (me : Member) where
-  pub follow_fails : (leader : ℕ) (old new : ReplicaHost S) → FailsBy may_recover boots me (Follows leader) old new → FailsToAct may_recover boots me old new ⊎ (me.servers ≡ 1)
-  follow_fails leader old new fails = inl record { inputs = fails.inputs; heard = heard_only me.servers (λ line. []) (Follows leader) fails.inputs tt fails.only; failure = fails.failure }
+  pub follow_fails : (leader : ℕ) (old new : ReplicaHost S) → FailsBy may_recover boots me (Follows leader) old new → FailsToAct may_recover boots me old new
+  follow_fails leader old new fails = record { inputs = fails.inputs; heard = heard_only me.servers (λ line. []) (Follows leader) fails.inputs tt fails.only; failure = fails.failure }
 
-  pub lead_fails : (old new : ReplicaHost S) → FailsBy may_recover boots me Leads old new → FailsToAct may_recover boots me old new ⊎ (me.servers ≡ 1)
-  lead_fails old new fails = inl record { inputs = fails.inputs; heard = heard_only me.servers (λ line. []) Leads fails.inputs tt fails.only; failure = fails.failure }
+  pub lead_fails : (old new : ReplicaHost S) → FailsBy may_recover boots me Leads old new → FailsToAct may_recover boots me old new
+  lead_fails old new fails = record { inputs = fails.inputs; heard = heard_only me.servers (λ line. []) Leads fails.inputs tt fails.only; failure = fails.failure }
 
-  pub alone_fails : (old new : ReplicaHost S) → me.servers ≡ 1 → FailsToAct may_recover boots me old new ⊎ (me.servers ≡ 1)
-  alone_fails old new alone = inr alone
+  leads_heard : (old mid : ReplicaHost S) (leads : TakesBy may_recover boots me Leads old mid) → AllHeard me.servers (λ line. []) leads.inputs
+  leads_heard old mid leads = heard_offered me.servers (λ line. []) (setting_for me.servers) old.host.state Leads leads.inputs tt leads.offers
+
+  -- memory runs out before a lone server acknowledges itself
+  pub no_memory_for_own : (old new : ReplicaHost S) → TakesBy may_recover boots me Leads old new → FailsToAct may_recover boots me old new
+  no_memory_for_own old new leads = record { inputs = leads.inputs; heard = leads_heard old new leads; failure = failure_of may_recover boots me old new leads.inputs [] leads.deeds }
+
+  -- a lone server fails while it acknowledges itself
+  pub own_fails : (old mid new : ReplicaHost S) (own : List (Message Call)) → me.servers ≡ 1 → own ≡ own_messages mid.host.state.peer.role (vote_of mid.host.state)
+      → TakesBy may_recover boots me Leads old mid → FailsAt may_recover boots me own mid new → FailsToAct may_recover boots me old new
+  own_fails old mid new own alone is leads fails =
+      let all : AllOwn own = subst AllOwn (sym is) (own_all mid.host.state.peer.role (vote_of mid.host.state)) in
+      record {
+        inputs = leads.inputs ++ fails.inputs;
+        heard = heard_both me.servers (λ line. []) leads.inputs fails.inputs (leads_heard old mid leads) (all_heard_own me.servers own fails.inputs alone all fails.among);
+        failure = failure_then may_recover boots me old mid new leads.inputs fails.inputs [] [] leads.deeds fails.failure;
+      }
 
   acknowledges : (alone : Bool) (old new : ReplicaHost S) → (me.servers == 1) ≡ alone → Acknowledges may_recover boots me alone old new → Acknowledges may_recover boots me (me.servers == 1) old new
   acknowledges alone old new is h = subst (λ (b : Bool). Acknowledges may_recover boots me b old new) (sym is) h

@@ -13,7 +13,7 @@ use Rattle.zab_host_laws.specs.Tags.{tags_in}
 use Rattle.zk_host.specs.declared.replica_host.ReplicaHost.{ReplicaHost}
 use Rattle.zk_requests.specs.declared.call.Call.{Call}
 use Rattle.zk_server.specs.declared.member.Member.{Member}
-use Rattle.zk_server.specs.Deeds.{profile_for, setting_for, AllAmong, Deeds, Failure, FailsAt, FailsBy, HasWhole, Hears, HearsAll, IsWhole, TakesBy}
+use Rattle.zk_server.specs.Deeds.{profile_for, setting_for, AllAmong, Deeds, Failure, FailsAt, FailsBy, Hears, HearsAll, TakesBy}
 use Rattle.zk_server.specs.Mail.{listed}
 use Rattle.zk_server.proofs.Inputs.{after_both, all_both, all_front, all_more, asked_both, for_both, heard_among, hears_both, map_both, messages_both, rising_both, take_more}
 use Rattle.zk_server_laws.specs.Stores.{KeepsFirst, KeepsSome}
@@ -50,6 +50,9 @@ module _ {S : Type 0} (may_recover : S → Stable → Type 0) (boots : S → ℕ
     keeps = λ state before is keeps. subst (λ (l : List (Input Call)). KeepsFirst setting may_recover state l new.host.storage) (append_assoc before a b)
         (later.keeps state (before ++ a) (from_mid old mid a before state first.state is) (first.keeps state before is keeps));
     starts = later.starts ∙ first.starts;
+    tree = later.tree ∙ first.tree;
+    news = later.news ∙ first.news;
+    shown = later.shown ∙ first.shown;
   }
 
   pub failure_then : (old mid new : ReplicaHost S) (a b : List (Input Call)) (r1 r2 : List Request) → Deeds may_recover boots me a r1 old mid → Failure may_recover boots me b r2 mid new
@@ -62,6 +65,17 @@ module _ {S : Type 0} (may_recover : S → Stable → Type 0) (boots : S → ℕ
     keeps = λ state before is keeps. subst (λ (l : List (Input Call)). KeepsSome setting may_recover state l new.host.storage) (append_assoc before a b)
         (later.keeps state (before ++ a) (from_mid old mid a before state first.state is) (first.keeps state before is keeps));
     starts = later.starts ∙ first.starts;
+  }
+
+  -- the host fails after it has taken the inputs
+  pub failure_of : (old new : ReplicaHost S) (inputs : List (Input Call)) (requests : List Request) → Deeds may_recover boots me inputs requests old new → Failure may_recover boots me inputs requests old new
+  failure_of old new inputs requests deeds = record {
+    accepted = deeds.accepted;
+    asked = deeds.asked;
+    rising = deeds.rising;
+    within = deeds.within;
+    keeps = λ state before is keeps found may. (let first = deeds.keeps state before is keeps found may in (first.0, first.1.1.1));
+    starts = deeds.starts;
   }
 
   pub no_deeds : (old new : ReplicaHost S) → new ≡ old → Deeds may_recover boots me [] [] old new
@@ -78,19 +92,13 @@ module _ {S : Type 0} (may_recover : S → Stable → Type 0) (boots : S → ℕ
         boot = refl;
         keeps = λ state before is keeps. subst (λ (l : List (Input Call)). KeepsFirst setting may_recover state l old.host.storage) (sym (append-nil before)) keeps;
         starts = refl;
+        tree = refl;
+        news = refl;
+        shown = refl;
       }
 
   pub no_failure : (old new : ReplicaHost S) → new ≡ old → Failure may_recover boots me [] [] old new
-  no_failure old new same =
-      let deeds = no_deeds old new same in
-      record {
-        accepted = tt;
-        asked = refl;
-        rising = deeds.rising;
-        within = deeds.within;
-        keeps = λ state before is keeps found may. (let first = deeds.keeps state before is keeps found may in (first.0, first.1.1.1));
-        starts = deeds.starts;
-      }
+  no_failure old new same = failure_of old new [] [] (no_deeds old new same)
 
   -- ---- messages
 
@@ -138,13 +146,9 @@ module _ {S : Type 0} (may_recover : S → Stable → Type 0) (boots : S → ℕ
         → HearsAll may_recover boots me (listed (slice_get messages index)) old new
     hears_found message is takes = subst (λ (o : Option (Message Call)). HearsAll may_recover boots me (listed o) old new) is (hears_one message old new takes)
 
-    either_one : (message : Message Call) → FailsBy may_recover boots me (Receives message) old new ⊎ IsWhole message → FailsAt may_recover boots me (message ∷ []) old new ⊎ HasWhole (message ∷ [])
-    either_one message (inl fails) = inl (fails_one message old new fails)
-    either_one message (inr whole) = inr record { message = message; place = 0; is = refl; whole = whole }
-
-    pub fails_found : (message : Message Call) → Some message ≡ slice_get messages index → FailsBy may_recover boots me (Receives message) old new ⊎ IsWhole message
-        → FailsAt may_recover boots me (listed (slice_get messages index)) old new ⊎ HasWhole (listed (slice_get messages index))
-    fails_found message is fails = subst (λ (o : Option (Message Call)). FailsAt may_recover boots me (listed o) old new ⊎ HasWhole (listed o)) is (either_one message fails)
+    pub fails_found : (message : Message Call) → Some message ≡ slice_get messages index → FailsBy may_recover boots me (Receives message) old new
+        → FailsAt may_recover boots me (listed (slice_get messages index)) old new
+    fails_found message is fails = subst (λ (o : Option (Message Call)). FailsAt may_recover boots me (listed o) old new) is (fails_one message old new fails)
 
   -- ---- all messages
 
@@ -167,30 +171,17 @@ module _ {S : Type 0} (may_recover : S → Stable → Type 0) (boots : S → ℕ
 
   -- ---- one of the later messages
 
-  whole_after : (a b : List (Message Call)) → HasWhole b → HasWhole (a ++ b)
-  whole_after [] b has = has
-  whole_after (x ∷ a) b has = (let rest = whole_after a b has in record { message = rest.message; place = suc rest.place; is = rest.is; whole = rest.whole })
-
-  get_front : {A : Type 0} (a b : List A) (place : ℕ) (x : A) → slice_get a place ≡ Some x → slice_get (a ++ b) place ≡ Some x
-  get_front [] b place x is = absurd cc
-  get_front (y ∷ a) b zero x is = is
-  get_front (y ∷ a) b (suc place) x is = get_front a b place x is
-
-  pub whole_front : (a b : List (Message Call)) → HasWhole a → HasWhole (a ++ b)
-  whole_front a b has = record { message = has.message; place = has.place; is = get_front a b has.place has.message has.is; whole = has.whole }
-
   -- it hears some messages, and fails at the next ones
-  pub either_later : (old mid new : ReplicaHost S) (a b rest : List (Message Call)) → HearsAll may_recover boots me a old mid → FailsAt may_recover boots me b mid new ⊎ HasWhole b
-      → FailsAt may_recover boots me ((a ++ b) ++ rest) old new ⊎ HasWhole ((a ++ b) ++ rest)
-  either_later old mid new a b rest first (inl fails) = inl (fails_front old new (a ++ b) rest (fails_then old mid new a b [] first fails))
-  either_later old mid new a b rest first (inr whole) = inr (whole_front (a ++ b) rest (whole_after a b whole))
+  pub fails_front_later : (old mid new : ReplicaHost S) (a b rest : List (Message Call)) → HearsAll may_recover boots me a old mid → FailsAt may_recover boots me b mid new
+      → FailsAt may_recover boots me ((a ++ b) ++ rest) old new
+  fails_front_later old mid new a b rest first fails = fails_front old new (a ++ b) rest (fails_then old mid new a b [] first fails)
 
   pub fails_later : (messages : List (Message Call)) (index : ℕ) (old mid new : ReplicaHost S) → HearsAll may_recover boots me (take index messages) old mid
-      → FailsAt may_recover boots me (listed (slice_get messages index)) mid new ⊎ HasWhole (listed (slice_get messages index)) → FailsAt may_recover boots me messages old new ⊎ HasWhole messages
+      → FailsAt may_recover boots me (listed (slice_get messages index)) mid new → FailsAt may_recover boots me messages old new
   fails_later messages index old mid new first later =
       let rest = take_drop (index + 1) messages in
-      subst (λ (l : List (Message Call)). FailsAt may_recover boots me l old new ⊎ HasWhole l) (ap (λ (l : List (Message Call)). l ++ rest.0) (take_next messages index) ∙ rest.1)
-      (either_later old mid new (take index messages) (listed (slice_get messages index)) rest.0 first later)
+      subst (λ (l : List (Message Call)). FailsAt may_recover boots me l old new) (ap (λ (l : List (Message Call)). l ++ rest.0) (take_next messages index) ∙ rest.1)
+      (fails_front_later old mid new (take index messages) (listed (slice_get messages index)) rest.0 first later)
 
   pub fails_nothing : (old new : ReplicaHost S) → new ≡ old → FailsAt may_recover boots me [] old new
   fails_nothing old new same = record { inputs = []; among = tt; failure = no_failure old new same }

@@ -1,9 +1,13 @@
 -- Lemmas.
 mod Results
-mod Inputs
-mod Taking
-mod Hearing
-mod Acting
-mod Turning
+pub mod Inputs
+pub mod Taking
+pub mod Hearing
+pub mod Acting
+pub mod Turning
 mod Settling
 pub mod Schedules
+mod Linking
+mod LinkWriting
+mod LinkedSchedules
+mod LinkedTurning

@@ -12,7 +12,7 @@ use Rattle.zab_model.specs.Worlds.{is_server}
 use Rattle.zk_host.specs.Delivered.{delivered_in}
 use Rattle.zk_host.specs.declared.replica_host.ReplicaHost.{ReplicaHost}
 use Rattle.zk_requests.specs.declared.call.Call.{Call}
-use Rattle.zk_server.specs.declared.arrival.Arrival.{Arrival}
+use Rattle.zk_peer_links.specs.declared.arrival.Arrival.{Arrival}
 use Rattle.zk_server.specs.declared.member.Member.{Member}
 use Rattle.zk_server.specs.declared.site.Site.{Site}
 use Rattle.zk_server.specs.declared.site.Site.TheVariants as sites
@@ -171,8 +171,8 @@ module _ {S : Type 0} (clean : S → Type 0) (may_recover : S → Stable → Typ
   failed : (x : peers.Ensemble S) (y : laws.Ensemble Call S) (number : ℕ) (arrivals : List Arrival) (next : PeerView S) → Sim x y
       → peers.MayHappen clean may_recover boots servers x (Failed number arrivals next) → Follows x y (Failed number arrivals next)
   failed x y number arrivals next sim may =
-      let call = may.1.1.stops in
-      let known = may.1.1.known in
+      let call = may.1.1 in
+      let known = call.failed in
       let turn = turn_with arrivals (λ to. 0) known.inputs in
       let same = at_me x y number (sites.Runs call.before) sim call.ran in
       let here : StopsAt (member number) call.before.tags.boot call.before.tags.used known.next_used call.before.host turn call.storage =

@@ -1,5 +1,5 @@
 -- A server between two turns.
-use Rattle.std.proofs.Common.{◌≡◌, ◌⊎◌, ℕ, ◌+◌, List, [], length, Option, Some, None, Result, Ok, Err, refl, sym, ap, ◌∙◌, subst, arith}
+use Rattle.std.proofs.Common.{◌≡◌, ℕ, ◌+◌, List, [], length, Option, Some, None, Result, Ok, Err, refl, sym, ap, ◌∙◌, subst, arith}
 use Rattle.zab_broadcast.specs.Rules.{restored}
 use Rattle.zab_epoch.specs.declared.stable.Stable.{Stable}
 use Rattle.zab_host.specs.Durability.{IsDurable}
@@ -14,10 +14,10 @@ use Rattle.zk_server.specs.declared.site.Site.TheVariants as sites
 use Rattle.zk_server.specs.Elections.{ElectionView, new_election}
 use Rattle.zk_requests.specs.declared.call.Call.{Call}
 use Rattle.zab_epoch.specs.declared.message.Message.{Message}
-use Rattle.zk_server.specs.declared.arrival.Arrival.{Arrival}
+use Rattle.zk_peer_links.specs.declared.arrival.Arrival.{Arrival}
 use Rattle.zk_server.specs.declared.stopped.Stopped.{Stopped}
 use Rattle.zk_server.specs.Peers.{StartsAt, peer}
-use Rattle.zk_server.specs.Turns.{HasFailed, HasTurned, IsUnknown, Ran}
+use Rattle.zk_server.specs.Turns.{HasFailed, HasTurned, Ran}
 use Rattle.zk_server.specs.Sites.{IsReady, IsSettled}
 
 module _ {S : Type 0} (may_recover : S → Stable → Type 0) (me : Member) where
@@ -45,7 +45,7 @@ module _ {S : Type 0} (may_recover : S → Stable → Type 0) (boots : S → ℕ
   pub record RanErr (site : Site S) : Type 0 where
     pub storage : S
     pub stopped : site ≡ sites.Stopped (Some storage)
-    pub failed : HasFailed may_recover boots me arrivals old storage ⊎ IsUnknown me arrivals
+    pub failed : HasFailed may_recover boots me arrivals old storage
 
   pub ran_ok : (site : Site S) (messages : List (Message Call)) → Ran may_recover boots me arrivals election old next site (Ok messages) → RanOk site messages
   ran_ok (sites.Runs new) messages ran = record { after = new; runs = refl; turned = ran }
@@ -57,8 +57,8 @@ module _ {S : Type 0} (may_recover : S → Stable → Type 0) (boots : S → ℕ
   ran_err (sites.Stopped (Some storage)) why ran = record { storage = storage; stopped = refl; failed = ran }
   ran_err (sites.Stopped None) why ran = absurd ran
 
-  pub failed_at : (storage kept : S) → storage ≡ kept → HasFailed may_recover boots me arrivals old kept ⊎ IsUnknown me arrivals → HasFailed may_recover boots me arrivals old storage ⊎ IsUnknown me arrivals
-  failed_at storage kept same failed = subst (λ (s : S). HasFailed may_recover boots me arrivals old s ⊎ IsUnknown me arrivals) (sym same) failed
+  pub failed_at : (storage kept : S) → storage ≡ kept → HasFailed may_recover boots me arrivals old kept → HasFailed may_recover boots me arrivals old storage
+  failed_at storage kept same failed = subst (λ (s : S). HasFailed may_recover boots me arrivals old s) (sym same) failed
 
 -- ---- a start
 

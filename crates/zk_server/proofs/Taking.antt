@@ -1,6 +1,6 @@
 -- A host takes an input.
-use Rattle.std.proofs.Common.{◌≡◌, ◌≢◌, ◌⊎◌, ◌≤◌, inl, inr, ℕ, List, [], ◌∷◌, ◌++◌, Result, Ok, Err, refl, sym, ap, ◌∙◌, subst, arith}
-use Rattle.std.proofs.lemmas.List.{append-nil}
+use Rattle.std.proofs.Common.{◌≡◌, ◌≢◌, ◌⊎◌, ◌≤◌, inl, inr, ℕ, List, [], ◌∷◌, ◌++◌, length, Result, Ok, Err, refl, sym, ap, ◌∙◌, subst, arith}
+use Rattle.std.proofs.lemmas.List.{append-nil, take_all}
 use Rattle.zab_broadcast.specs.Calls.{Setting}
 use Rattle.zab_broadcast.specs.declared.state.State.{State}
 use Rattle.zab_epoch.specs.declared.message.Message.{Message}
@@ -8,18 +8,20 @@ use Rattle.zab_epoch.specs.declared.stable.Stable.{Stable}
 use Rattle.zab_host.specs.declared.fault.HostFault.{HostFault}
 use Rattle.zab_host.specs.declared.fault.HostFault.TheVariants as host_faults
 use Rattle.zab_host.specs.declared.fault.ReceiveFault.TheVariants as receive_faults
+use Rattle.zab_host.specs.declared.storage.StoreFault.{StoreFault}
 use Rattle.zab_host.specs.declared.tags.TagIssuer.{TagIssuer}
 use Rattle.zab_host.specs.Growth.{IsAppendOnly}
 use Rattle.zab_host.specs.Hosts.{HostView, Input, Receives, IsFor, IsOutside, StepsTo, HasActed, IsRejected, IsStored, acts_of, messages_of, host}
 use Rattle.zab_host_laws.specs.Composition.{step_of, after_inputs}
 use Rattle.zab_host_laws.specs.Tags.{tag_in}
 use Rattle.zk_host.specs.declared.replica_host.ReplicaHost.{ReplicaHost}
+use Rattle.zk_host.specs.WatchedTrees.{WatchedTreeView}
 use Rattle.zk_requests.specs.declared.call.Call.{Call}
 use Rattle.zk_server.specs.declared.member.Member.{Member}
-use Rattle.zk_server.specs.Deeds.{profile_for, setting_for, Deeds, FailsBy, IsWhole, Keeps, KeepsIn, TakesBy}
+use Rattle.zk_server.specs.Deeds.{profile_for, setting_for, Deeds, FailsBy, Keeps, KeepsIn, TakesBy}
 use Rattle.zk_server.proofs.Inputs.{after_both}
 use Rattle.zk_server_laws.specs.Stores.{KeepsFirst, KeepsSome, StoresKeepFirstInputs}
-use Rattle.zk_server_laws.specs.Turns.{AreRising}
+use Rattle.zk_server_laws.specs.Turns.{AreRising, IsAfterSome}
 
 module _ {S : Type 0} (may_recover : S → Stable → Type 0) (boots : S → ℕ) (me : Member) (law : StoresKeepFirstInputs (setting_for me.servers) may_recover) where
   abbrev setting : Setting Call
@@ -77,6 +79,9 @@ module _ {S : Type 0} (may_recover : S → Stable → Type 0) (boots : S → ℕ
       boot = ap (λ (t : TagIssuer). t.boot) rest.1.1;
       keeps = keeps;
       starts = starts;
+      tree = ap (λ (t : WatchedTreeView). t.tree) rest.0;
+      news = ap (λ (t : WatchedTreeView). t.news) rest.0;
+      shown = rest.1.0;
     }
 
     -- the input was taken
@@ -95,6 +100,9 @@ module _ {S : Type 0} (may_recover : S → Stable → Type 0) (boots : S → ℕ
       boot = ap (λ (t : TagIssuer). t.boot) rest.1.1;
       keeps = keeps;
       starts = starts;
+      tree = ap (λ (t : WatchedTreeView). t.tree) rest.0;
+      news = ap (λ (t : WatchedTreeView). t.news) rest.0;
+      shown = rest.1.0;
     }
 
     failed_none : (keeps : KeepsIn may_recover boots me old.host [] new.host.storage) → boots new.host.storage ≡ boots old.host.storage → (input : Input Call) → FailsBy may_recover boots me input old new
@@ -208,8 +216,36 @@ module _ {S : Type 0} (may_recover : S → Stable → Type 0) (boots : S → ℕ
           let h2 = subst (λ (f : HostFault). IsRejected may_recover setting old.host (Receives message) new.host (receive_faults.Host f)) is h in
           stops (Receives message) refl starts (λ is. keeps_stored old.host new.host [] h2.1 is) (λ is. keeps_stored old.host new.host (Receives message ∷ []) h2.1 is) h2.0
 
-    pub known : (message : Message Call) → FailsBy may_recover boots me (Receives message) old new → FailsBy may_recover boots me (Receives message) old new ⊎ IsWhole message
-    known message fails = inl fails
+      -- its store fails: it recovers what it recovered before, or what the host has
+      module _ (crash : (found : Stable) → may_recover new.host.storage found → may_recover old.host.storage found ⊎ (found ≡ new.host.state.peer.stable)) where
+        abbrev Found : Stable → State → Type 0
+        Found found state = may_recover old.host.storage found ⊎ (found ≡ state.peer.stable)
 
-    pub unknown : (message : Message Call) → IsWhole message → FailsBy may_recover boots me (Receives message) old new ⊎ IsWhole message
-    unknown message whole = inr whole
+        kept_whole : new.host.state ≡ (acts_of setting old.host.state (Receives message)).0 → KeepsIn may_recover boots me old.host (Receives message ∷ []) new.host.storage
+        kept_whole now state before is keeps =
+            law.whole state before (Receives message) old.host.storage new.host.storage keeps
+            (λ found may. subst (Found found) (after_is old.host.state (Receives message ∷ []) before state new.host.state is now) (crash found may))
+
+        kept_none : new.host.state ≡ old.host.state → KeepsIn may_recover boots me old.host [] new.host.storage
+        kept_none now state before is keeps found may = some_found (crash found may)
+          where
+            some_found : Found found new.host.state → IsAfterSome setting state (before ++ []) found
+            some_found (inl was) = some_of state (before ++ []) old.host.storage (no_more state before old.host.storage keeps) found was
+            some_found (inr whole) = (
+              length (before ++ []),
+              whole ∙ ap (λ (s : State). s.peer.stable) (after_is old.host.state [] before state new.host.state is now)
+                  ∙ ap (λ (l : List (Input Call)). (after_inputs setting state l).peer.stable) (sym (take_all (length (before ++ [])) (before ++ []) (omega arith))),
+            )
+
+        fails_by : (result : Result (Unit {0}) HostFault) → StepsTo setting (host old.host.state old.host.outbox new.host.storage) (Receives message) new.host result
+            → FailsBy may_recover boots me (Receives message) old new
+        fails_by (Ok x) h = failed_one (Receives message) (kept_whole (ap (λ (v : HostView Call S). v.state) h.now)) starts refl h.fits
+        fails_by (Err host_faults.NoServer) h = failed_none (kept_none (ap (λ (v : HostView Call S). v.state) h.0)) starts (Receives message)
+        fails_by (Err host_faults.OutOfOrder) h = failed_none (kept_none (ap (λ (v : HostView Call S). v.state) h.0)) starts (Receives message)
+        fails_by (Err host_faults.NotServing) h = failed_one (Receives message) (kept_whole (ap (λ (v : HostView Call S). v.state) h.now)) starts refl h.fits
+        fails_by (Err host_faults.EpochFull) h = failed_one (Receives message) (kept_whole (ap (λ (v : HostView Call S). v.state) h.now)) starts refl h.fits
+        fails_by (Err host_faults.NoMemory) (inl same) = failed_none (kept_none (ap (λ (v : HostView Call S). v.state) same)) starts (Receives message)
+        fails_by (Err host_faults.NoMemory) (inr lost) = failed_one (Receives message) (kept_whole (ap (λ (v : HostView Call S). v.state) lost.1)) starts refl lost.0
+
+        pub fails_to_store : (fault : StoreFault) → IsRejected may_recover setting old.host (Receives message) new.host (receive_faults.Store fault) → FailsBy may_recover boots me (Receives message) old new
+        fails_to_store fault h = fails_by h.0 h.1

@@ -15,18 +15,18 @@ use Rattle.zab_host_laws.specs.Composition.{after_inputs, messages_in}
 use Rattle.zab_host_laws.specs.TakenSyncs.{HasTaken}
 use Rattle.zk_host.specs.declared.replica_host.ReplicaHost.{ReplicaHost}
 use Rattle.zk_requests.specs.declared.call.Call.{Call}
-use Rattle.zk_server.specs.declared.arrival.Arrival.{Arrival}
-use Rattle.zk_server.specs.declared.arrival.Arrival.TheVariants as arrivals
+use Rattle.zk_peer_links.specs.declared.arrival.Arrival.{Arrival}
+use Rattle.zk_peer_links.specs.declared.arrival.Arrival.TheVariants as arrivals
 use Rattle.zk_server.specs.declared.election.Choice.{Choice}
 use Rattle.zk_server.specs.declared.election.Choice.TheVariants.{Wait, Lead, Follow}
 use Rattle.zk_server.specs.declared.member.Member.{Member}
-use Rattle.zk_server.specs.Deeds.{setting_for, Acknowledges, ActsBy, AllAmong, Deeds, Failure, FailsAt, FailsToAct, HasWhole, HearsAll, IsAmong}
+use Rattle.zk_server.specs.Deeds.{setting_for, Acknowledges, ActsBy, AllAmong, Deeds, Failure, FailsAt, FailsToAct, HearsAll, IsAmong}
 use Rattle.zk_server.specs.Elections.{ElectionView, after_arrival, after_arrivals, after_choice, choice_of}
 use Rattle.zk_server.specs.Mail.{brought_by, brought_on, listed, mail_for, mail_in, mail_of}
 use Rattle.zk_server.specs.Sites.{IsReady}
-use Rattle.zk_server.specs.Turns.{voting, Decides, HasFailed, HasTurned, IsUnknown}
+use Rattle.zk_server.specs.Turns.{voting, Decides, HasFailed, HasTurned}
 use Rattle.zk_server.proofs.Acting.{all_heard_own, heard_both, heard_offered, own_all}
-use Rattle.zk_server.proofs.Hearing.{all_then, deeds_then, either_later, failure_then, fails_front, fails_nothing, hears_nothing, no_deeds}
+use Rattle.zk_server.proofs.Hearing.{all_then, deeds_then, failure_then, fails_front, fails_front_later, fails_nothing, hears_nothing, no_deeds}
 use Rattle.zk_server.proofs.Inputs.{after_both, heard_among, take_more}
 use Rattle.zk_server_laws.specs.Stores.{StoresKeepFirstInputs}
 use Rattle.zk_server_laws.specs.Turns.{AllHeard, AreRising, IsHeard}
@@ -96,7 +96,7 @@ heard_if : (servers : ℕ) (arrivals : List Arrival) (alone : Bool) (input : Inp
 heard_if servers arrivals true input is among = heard_none servers (brought_on arrivals) input among
 heard_if servers arrivals false input is among = (let many : servers ≢ 1 = grind (arith, nat_tests) in heard_mail servers arrivals input many among)
 
-all_heard : (me : Member) (arrivals : List Arrival) (inputs : List (Input Call)) → AllAmong (mail_for me arrivals) inputs → AllHeard me.servers (brought_on arrivals) inputs
+pub all_heard : (me : Member) (arrivals : List Arrival) (inputs : List (Input Call)) → AllAmong (mail_for me arrivals) inputs → AllHeard me.servers (brought_on arrivals) inputs
 all_heard me arrivals [] among = tt
 all_heard me arrivals (input ∷ inputs) among = (heard_if me.servers arrivals (me.servers == 1) input refl among.0, all_heard me arrivals inputs among.1)
 
@@ -108,7 +108,7 @@ nothing_brought servers brought (Syncs tag) heard = tt
 nothing_brought servers brought Leads heard = tt
 nothing_brought servers brought (Follows leader) heard = tt
 
-all_nothing_brought : (servers : ℕ) (brought : ℕ → List (Message Call)) (inputs : List (Input Call)) → AllHeard servers (λ line. []) inputs → AllHeard servers brought inputs
+pub all_nothing_brought : (servers : ℕ) (brought : ℕ → List (Message Call)) (inputs : List (Input Call)) → AllHeard servers (λ line. []) inputs → AllHeard servers brought inputs
 all_nothing_brought servers brought [] heard = tt
 all_nothing_brought servers brought (input ∷ inputs) heard = (nothing_brought servers brought input heard.0, all_nothing_brought servers brought inputs heard.1)
 
@@ -165,19 +165,19 @@ module _ {S : Type 0} (may_recover : S → Stable → Type 0) (boots : S → ℕ
       (all_then may_recover boots me old mid new (mail_in (take index arrivals)) (mail_of arrival) first later)
 
   pub mail_fails : (arrivals : List Arrival) (index : ℕ) (arrival : Arrival) (old mid new : ReplicaHost S) → index < length arrivals → arrival ≡ get_or arrivals index arrival
-      → HearsAll may_recover boots me (mail_in (take index arrivals)) old mid → FailsAt may_recover boots me (mail_of arrival) mid new ⊎ HasWhole (mail_of arrival)
-      → FailsAt may_recover boots me (mail_in arrivals) old new ⊎ HasWhole (mail_in arrivals)
+      → HearsAll may_recover boots me (mail_in (take index arrivals)) old mid → FailsAt may_recover boots me (mail_of arrival) mid new
+      → FailsAt may_recover boots me (mail_in arrivals) old new
   mail_fails arrivals index arrival old mid new lt is first later =
       let at = at_index arrivals index arrival lt is in
       let rest = take_drop (index + 1) arrivals in
       let whole : (mail_in (take index arrivals) ++ mail_of arrival) ++ mail_in rest.0 ≡ mail_in arrivals =
       ap (λ (l : List (Message Call)). l ++ mail_in rest.0) (mail_next arrivals index arrival at) ∙ sym (mail_both (take (index + 1) arrivals) rest.0) ∙ ap mail_in rest.1 in
-      subst (λ (l : List (Message Call)). FailsAt may_recover boots me l old new ⊎ HasWhole l) whole
-      (either_later may_recover boots me old mid new (mail_in (take index arrivals)) (mail_of arrival) (mail_in rest.0) first later)
+      subst (λ (l : List (Message Call)). FailsAt may_recover boots me l old new) whole
+      (fails_front_later may_recover boots me old mid new (mail_in (take index arrivals)) (mail_of arrival) (mail_in rest.0) first later)
 
   -- memory runs out before any message is received
-  pub no_memory_to_hear : (arrivals : List Arrival) (old new : ReplicaHost S) → new ≡ old → FailsAt may_recover boots me (mail_for me arrivals) old new ⊎ HasWhole (mail_for me arrivals)
-  no_memory_to_hear arrivals old new same = inl (fails_front may_recover boots me old new [] (mail_for me arrivals) (fails_nothing may_recover boots me old new same))
+  pub no_memory_to_hear : (arrivals : List Arrival) (old new : ReplicaHost S) → new ≡ old → FailsAt may_recover boots me (mail_for me arrivals) old new
+  no_memory_to_hear arrivals old new same = fails_front may_recover boots me old new [] (mail_for me arrivals) (fails_nothing may_recover boots me old new same)
 
   mail_if : (alone : Bool) (arrivals : List Arrival) → (me.servers == 1) ≡ alone → (if alone then [] else mail_in arrivals) ≡ mail_for me arrivals
   mail_if alone arrivals is = ap (λ (b : Bool). if b then [] else mail_in arrivals) (sym is)
@@ -192,11 +192,11 @@ module _ {S : Type 0} (may_recover : S → Stable → Type 0) (boots : S → ℕ
       let no : (me.servers == 1) ≡ false = grind (arith, nat_tests) in
       subst (λ (l : List (Message Call)). HearsAll may_recover boots me l old new) (mail_if false arrivals no) hears
 
-  pub fails_others : (arrivals : List Arrival) (old new : ReplicaHost S) → me.servers ≢ 1 → FailsAt may_recover boots me (mail_in arrivals) old new ⊎ HasWhole (mail_in arrivals)
-      → FailsAt may_recover boots me (mail_for me arrivals) old new ⊎ HasWhole (mail_for me arrivals)
+  pub fails_others : (arrivals : List Arrival) (old new : ReplicaHost S) → me.servers ≢ 1 → FailsAt may_recover boots me (mail_in arrivals) old new
+      → FailsAt may_recover boots me (mail_for me arrivals) old new
   fails_others arrivals old new many fails =
       let alone_not : (me.servers == 1) ≡ false = grind (arith, nat_tests) in
-      subst (λ (l : List (Message Call)). FailsAt may_recover boots me l old new ⊎ HasWhole l) (mail_if false arrivals alone_not) fails
+      subst (λ (l : List (Message Call)). FailsAt may_recover boots me l old new) (mail_if false arrivals alone_not) fails
 
   pub decides : (election next : ElectionView) (old new : ReplicaHost S) (vote : Vote) (choice : Choice) → vote ≡ vote_of old.host.state → choice ≡ choice_of (record election { vote = vote })
       → next ≡ after_choice choice (record election { vote = vote }) → ActsBy may_recover boots me choice old new → Decides may_recover boots me election old next new
@@ -230,7 +230,7 @@ module _ {S : Type 0} (may_recover : S → Stable → Type 0) (boots : S → ℕ
     deeds = subst (λ (it : ReplicaHost S). Deeds may_recover boots me first [] old it) (sym own) deeds;
   }
 
-  acted : (choice : Choice) (old new : ReplicaHost S) → ActsBy may_recover boots me choice old new → Acted old new
+  pub acted : (choice : Choice) (old new : ReplicaHost S) → ActsBy may_recover boots me choice old new → Acted old new
   acted Wait old new acts = record { inputs = []; heard = tt; deeds = no_deeds may_recover boots me old new acts }
   acted (Follow leader) old new acts = record {
     inputs = acts.inputs;
@@ -244,7 +244,7 @@ module _ {S : Type 0} (may_recover : S → Stable → Type 0) (boots : S → ℕ
   -- ---- a turn that fails
 
   module _ (arrivals : List Arrival) (old : ReplicaHost S) (ready : IsReady may_recover me old) (law : StoresKeepFirstInputs (setting_for me.servers) may_recover) where
-    failed : (inputs : List (Input Call)) (new : ReplicaHost S) → AllHeard me.servers (brought_on arrivals) inputs → Failure may_recover boots me inputs [] old new
+    pub failed : (inputs : List (Input Call)) (new : ReplicaHost S) → AllHeard me.servers (brought_on arrivals) inputs → Failure may_recover boots me inputs [] old new
         → HasFailed may_recover boots me arrivals old new.host.storage
     failed inputs new heard failure = record {
       inputs = inputs;
@@ -262,21 +262,18 @@ module _ {S : Type 0} (may_recover : S → Stable → Type 0) (boots : S → ℕ
       };
     }
 
-    pub hearing_fails : (new : ReplicaHost S) → FailsAt may_recover boots me (mail_for me arrivals) old new ⊎ HasWhole (mail_for me arrivals)
-        → HasFailed may_recover boots me arrivals old new.host.storage ⊎ IsUnknown me arrivals
-    hearing_fails new (inl fails) = inl (failed fails.inputs new (all_heard me arrivals fails.inputs fails.among) fails.failure)
-    hearing_fails new (inr whole) = inr (inl whole)
+    pub hearing_fails : (new : ReplicaHost S) → FailsAt may_recover boots me (mail_for me arrivals) old new → HasFailed may_recover boots me arrivals old new.host.storage
+    hearing_fails new fails = failed fails.inputs new (all_heard me arrivals fails.inputs fails.among) fails.failure
 
-    heard_in : (mid : ReplicaHost S) (hears : HearsAll may_recover boots me (mail_for me arrivals) old mid) → AllHeard me.servers (brought_on arrivals) hears.inputs
+    pub heard_in : (mid : ReplicaHost S) (hears : HearsAll may_recover boots me (mail_for me arrivals) old mid) → AllHeard me.servers (brought_on arrivals) hears.inputs
     heard_in mid hears = all_heard me arrivals hears.inputs (heard_among setting old.host.state (mail_for me arrivals) hears.inputs hears.hears)
 
-    pub acting_fails : (mid new : ReplicaHost S) → HearsAll may_recover boots me (mail_for me arrivals) old mid → FailsToAct may_recover boots me mid new ⊎ (me.servers ≡ 1)
-        → HasFailed may_recover boots me arrivals old new.host.storage ⊎ IsUnknown me arrivals
-    acting_fails mid new hears (inl fails) =
-        inl (failed (hears.inputs ++ fails.inputs) new
+    pub acting_fails : (mid new : ReplicaHost S) → HearsAll may_recover boots me (mail_for me arrivals) old mid → FailsToAct may_recover boots me mid new
+        → HasFailed may_recover boots me arrivals old new.host.storage
+    acting_fails mid new hears fails =
+        failed (hears.inputs ++ fails.inputs) new
         (heard_both me.servers (brought_on arrivals) hears.inputs fails.inputs (heard_in mid hears) (all_nothing_brought me.servers (brought_on arrivals) fails.inputs fails.heard))
-        (failure_then may_recover boots me old mid new hears.inputs fails.inputs [] [] hears.deeds fails.failure))
-    acting_fails mid new hears (inr alone) = inr (inr alone)
+        (failure_then may_recover boots me old mid new hears.inputs fails.inputs [] [] hears.deeds fails.failure)
 
     -- ---- the store
 
@@ -304,9 +301,9 @@ module _ {S : Type 0} (may_recover : S → Stable → Type 0) (boots : S → ℕ
       within = (let high = deeds.within ready.within in let e = used_is in omega arith)
 
       pub storing_fails : ((found : Stable) → may_recover new.host.storage found → may_recover last.host.storage found ⊎ IsPartialStore (may_recover last.host.storage) last.host.state.peer.stable found)
-          → HasFailed may_recover boots me arrivals old new.host.storage ⊎ IsUnknown me arrivals
+          → HasFailed may_recover boots me arrivals old new.host.storage
       storing_fails crash =
-          inl (failed inputs new heard
+          failed inputs new heard
           record {
             accepted = deeds.accepted;
             asked = deeds.asked;
@@ -316,7 +313,7 @@ module _ {S : Type 0} (may_recover : S → Stable → Type 0) (boots : S → ℕ
                 law.part state (before ++ inputs) last.host.storage new.host.storage (deeds.keeps state before is keeps)
                 (λ found may. part_of state before found is (crash found may));
             starts = starts ∙ deeds.starts;
-          })
+          }
         where
           part_of : (state : State) (before : List (Input Call)) (found : Stable) → old.host.state ≡ after_inputs setting state before
               → may_recover last.host.storage found ⊎ IsPartialStore (may_recover last.host.storage) last.host.state.peer.stable found

@@ -5,7 +5,7 @@ use Rattle.zab_broadcast.specs.declared.state.State.{State}
 use Rattle.zab_epoch.specs.Quorums.{is_majority}
 use Rattle.zab_epoch.specs.declared.message.Message.{Message}
 use Rattle.zab_epoch.specs.declared.stable.Stable.{Stable}
-use Rattle.zab_host.specs.Hosts.{HostView, Input, Receives, Leads, Follows, IsAppendOnlyBody, IsFor, IsOutside}
+use Rattle.zab_host.specs.Hosts.{HostView, Input, Receives, Leads, Follows, IsFor, IsOutside}
 use Rattle.zab_host.specs.LoneLeaders.{own_messages}
 use Rattle.zab_host.specs.Tags.{Request, request_tag}
 use Rattle.zab_host.specs.Votes.{vote_of}
@@ -54,17 +54,6 @@ abbrev pub AllAmong : List (Message Call) → List (Input Call) → Type 0
 AllAmong messages [] = Unit {0}
 AllAmong messages (input ∷ inputs) = IsAmong messages input × AllAmong messages inputs
 
--- a message of discovery or synchronization. If the store fails while a host stores such a message,
--- no contract says which state the host has, and so nothing is said of what its store recovers
-abbrev pub IsWhole : Message Call → Type 0
-IsWhole message = IsAppendOnlyBody message.body → ⊥
-
-pub record HasWhole (messages : List (Message Call)) : Type 0 where
-  pub message : Message Call
-  pub place : ℕ
-  pub is : slice_get messages place ≡ Some message
-  pub whole : IsWhole message
-
 -- ---- what they do
 
 module _ {S : Type 0} (may_recover : S → Stable → Type 0) (boots : S → ℕ) (me : Member) where
@@ -93,6 +82,10 @@ module _ {S : Type 0} (may_recover : S → Stable → Type 0) (boots : S → ℕ
     pub boot : new.tags.boot ≡ old.tags.boot
     pub keeps : Keeps old.host inputs new.host.storage
     pub starts : boots new.host.storage ≡ boots old.host.storage
+    -- what clients read stays
+    pub tree : new.tree.tree ≡ old.tree.tree
+    pub news : new.tree.news ≡ old.tree.news
+    pub shown : new.shown ≡ old.shown
 
   -- The host has failed after these inputs. Nothing has left it.
   pub record Failure (inputs : List (Input Call)) (requests : List Request) (old new : ReplicaHost S) : Type 0 where

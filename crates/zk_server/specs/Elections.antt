@@ -4,14 +4,14 @@ use Rattle.std.specs.Prelude.{ℕ, ◌+◌, ◌/◌, ◌==◌, ◌&&◌, ◌||�
 use Rattle.std.specs.List.{list_any, list_all}
 use Rattle.zab_host.specs.Votes.{total_order_predicate}
 use Rattle.zab_host.specs.declared.vote.Vote.{Vote}
-use Rattle.zk_server.specs.Notices.{is_from, is_leaders, beats}
-use Rattle.zk_server.specs.declared.arrival.Arrival.{Arrival}
-use Rattle.zk_server.specs.declared.arrival.Arrival.TheVariants as arrivals
+use Rattle.zk_peer_links.specs.Notices.{is_from, is_leaders, beats}
+use Rattle.zk_peer_links.specs.declared.arrival.Arrival.{Arrival}
+use Rattle.zk_peer_links.specs.declared.arrival.Arrival.TheVariants as arrivals
 use Rattle.zk_server.specs.declared.election.Choice.{Choice}
 use Rattle.zk_server.specs.declared.election.Choice.TheVariants.{Wait, Lead, Follow}
 use Rattle.zk_server.specs.declared.election.Position.{Position}
 use Rattle.zk_server.specs.declared.election.Position.TheVariants.{Looking, Chosen, Leads, Follows}
-use Rattle.zk_server.specs.declared.notice.Notice.{Notice}
+use Rattle.zk_peer_links.specs.declared.notice.Notice.{Notice}
 
 -- a server's position, its vote, and the last notice of each peer over a link that has not ended
 pub record ElectionView : Type 0 where

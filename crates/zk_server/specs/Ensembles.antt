@@ -7,13 +7,12 @@ use Rattle.zab_laws.specs.Prefixes.{IsPrefix}
 use Rattle.zab_model.specs.Worlds.{is_server}
 use Rattle.zk_host.specs.Delivered.{delivered_in}
 use Rattle.zk_requests.specs.declared.call.Call.{Call}
-use Rattle.zk_server.specs.declared.arrival.Arrival.{Arrival}
+use Rattle.zk_peer_links.specs.declared.arrival.Arrival.{Arrival}
 use Rattle.zk_server.specs.declared.member.Member.{Member}
 use Rattle.zk_server.specs.declared.site.Site.{Site}
 use Rattle.zk_server.specs.declared.site.Site.TheVariants as sites
 use Rattle.zk_server.specs.Mail.{brought_on}
 use Rattle.zk_server.specs.Peers.{PeerView, StartsAt, Stops, Turns}
-use Rattle.zk_server.specs.Turns.{HasFailed}
 use Rattle.zk_server_laws.specs.Turns.{Narrows}
 
 pub record Ensemble (S : Type 0) : Type 0 where
@@ -77,17 +76,11 @@ module _ {S : Type 0} (clean : S → Type 0) (may_recover : S → Stable → Typ
   MayStart me (sites.Stopped (Some storage)) next = StartsClean me storage next
   MayStart me site next = ⊥
 
-  -- The store of a server that has stopped recovers what some first inputs have left, also if it has
-  -- failed while a message of discovery or synchronization was stored.
-  pub record Fails (arrivals : List Arrival) (old next : PeerView S) : Type 0 where
-    pub stops : Stops may_recover boots arrivals old next
-    pub known : HasFailed may_recover boots old.me arrivals stops.before stops.storage
-
   abbrev pub MayHappen : Ensemble S → Event S → Type 0
   MayHappen x (Turned number arrivals line_to next messages) =
       (is_server servers number ≡ true) × (Brings x arrivals × Turns may_recover boots arrivals (x.peers number) next messages)
   MayHappen x (Failed number arrivals next) =
-      (is_server servers number ≡ true) × (Brings x arrivals × Fails arrivals (x.peers number) next)
+      (is_server servers number ≡ true) × (Brings x arrivals × Stops may_recover boots arrivals (x.peers number) next)
   MayHappen x (Ended number storage) = (is_server servers number ≡ true) × MayEnd (x.peers number).site storage
   MayHappen x (Started number next) = (is_server servers number ≡ true) × MayStart (x.peers number).me (x.peers number).site next
 

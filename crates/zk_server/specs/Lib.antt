@@ -1,5 +1,4 @@
 -- What the contracts of this crate cite.
-pub mod Notices
 pub mod Elections
 pub mod Deeds
 pub mod Mail
@@ -7,3 +6,5 @@ pub mod Sites
 pub mod Turns
 pub mod Peers
 pub mod Ensembles
+pub mod LinkedPeers
+pub mod LinkedEnsembles

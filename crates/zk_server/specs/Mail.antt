@@ -2,8 +2,8 @@
 use Rattle.std.specs.Prelude.{ℕ, ◌==◌, List, [], ◌∷◌, ◌++◌, Option, Some, None, if◌then◌else◌}
 use Rattle.zab_epoch.specs.declared.message.Message.{Message}
 use Rattle.zk_requests.specs.declared.call.Call.{Call}
-use Rattle.zk_server.specs.declared.arrival.Arrival.{Arrival}
-use Rattle.zk_server.specs.declared.arrival.Arrival.TheVariants.{Mail}
+use Rattle.zk_peer_links.specs.declared.arrival.Arrival.{Arrival}
+use Rattle.zk_peer_links.specs.declared.arrival.Arrival.TheVariants.{Mail}
 use Rattle.zk_server.specs.declared.member.Member.{Member}
 
 abbrev pub listed : {A : Type 0} → Option A → List A

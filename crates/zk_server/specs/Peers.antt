@@ -1,16 +1,16 @@
 -- A server's part in its ensemble.
-use Rattle.std.specs.Prelude.{◌≡◌, ◌⊎◌, ℕ, List, Some}
+use Rattle.std.specs.Prelude.{◌≡◌, ℕ, List, Some}
 use Rattle.zab_epoch.specs.declared.message.Message.{Message}
 use Rattle.zab_epoch.specs.declared.stable.Stable.{Stable}
 use Rattle.zab_host.specs.Votes.{vote_of}
 use Rattle.zk_host.specs.declared.replica_host.ReplicaHost.{ReplicaHost}
 use Rattle.zk_requests.specs.declared.call.Call.{Call}
-use Rattle.zk_server.specs.declared.arrival.Arrival.{Arrival}
+use Rattle.zk_peer_links.specs.declared.arrival.Arrival.{Arrival}
 use Rattle.zk_server.specs.declared.member.Member.{Member}
 use Rattle.zk_server.specs.declared.site.Site.{Site}
 use Rattle.zk_server.specs.declared.site.Site.TheVariants as sites
 use Rattle.zk_server.specs.Elections.{ElectionView, new_election}
-use Rattle.zk_server.specs.Turns.{HasFailed, HasTurned, IsUnknown}
+use Rattle.zk_server.specs.Turns.{HasFailed, HasTurned}
 use Rattle.zk_server_laws.specs.Turns.{StartsOn}
 
 pub record PeerView (S : Type 0) : Type 0 where
@@ -38,7 +38,7 @@ module _ {S : Type 0} (may_recover : S → Stable → Type 0) (boots : S → ℕ
     pub storage : S
     pub ran : old.site ≡ sites.Runs before
     pub stopped : new.site ≡ sites.Stopped (Some storage)
-    pub failed : HasFailed may_recover boots old.me arrivals before storage ⊎ IsUnknown old.me arrivals
+    pub failed : HasFailed may_recover boots old.me arrivals before storage
 
 -- a start on a store: if the store is clean, on what it recovers
 pub record StartsAt {S : Type 0} (clean : S → Type 0) (may_recover : S → Stable → Type 0) (boots : S → ℕ) (me : Member) (storage : S) (it : PeerView S) : Type 0 where

@@ -1,17 +1,17 @@
 -- A turn of a server that runs: what arrives, what its election decides, and the store.
-use Rattle.std.specs.Prelude.{◌≡◌, ◌⊎◌, ℕ, List, [], Some, Result, Ok, Err}
+use Rattle.std.specs.Prelude.{◌≡◌, ℕ, List, [], Some, Result, Ok, Err}
 use Rattle.zab_epoch.specs.declared.message.Message.{Message}
 use Rattle.zab_epoch.specs.declared.stable.Stable.{Stable}
 use Rattle.zab_host.specs.Hosts.{Input}
 use Rattle.zab_host.specs.Votes.{vote_of}
 use Rattle.zk_host.specs.declared.replica_host.ReplicaHost.{ReplicaHost}
 use Rattle.zk_requests.specs.declared.call.Call.{Call}
-use Rattle.zk_server.specs.declared.arrival.Arrival.{Arrival}
+use Rattle.zk_peer_links.specs.declared.arrival.Arrival.{Arrival}
 use Rattle.zk_server.specs.declared.member.Member.{Member}
 use Rattle.zk_server.specs.declared.site.Site.{Site}
 use Rattle.zk_server.specs.declared.site.Site.TheVariants as sites
 use Rattle.zk_server.specs.declared.stopped.Stopped.{Stopped}
-use Rattle.zk_server.specs.Deeds.{profile_for, ActsBy, HasWhole, HearsAll}
+use Rattle.zk_server.specs.Deeds.{profile_for, ActsBy, HearsAll}
 use Rattle.zk_server.specs.Elections.{ElectionView, after_arrivals, after_choice, choice_of}
 use Rattle.zk_server.specs.Mail.{brought_on, mail_for}
 use Rattle.zk_server.specs.Sites.{IsReady}
@@ -20,10 +20,6 @@ use Rattle.zk_server_laws.specs.Turns.{Turn, TurnsTo, StopsWith}
 -- a turn, whichever connections its messages go on
 abbrev pub turn_with : List Arrival → (ℕ → ℕ) → List (Input Call) → Turn Call
 turn_with arrivals line_to inputs = record { brought = brought_on arrivals; line_to = line_to; inputs = inputs; requests = []; taken = [] }
-
--- a turn in which a message of discovery or synchronization is stored
-abbrev pub IsUnknown : Member → List Arrival → Type 0
-IsUnknown me arrivals = HasWhole (mail_for me arrivals) ⊎ (me.servers ≡ 1)
 
 module _ {S : Type 0} (may_recover : S → Stable → Type 0) (boots : S → ℕ) (me : Member) where
   -- the election of a server with its vote of now
@@ -58,5 +54,5 @@ module _ {S : Type 0} (may_recover : S → Stable → Type 0) (boots : S → ℕ
 
   abbrev pub Ran : List Arrival → ElectionView → ReplicaHost S → ElectionView → Site S → Result (List (Message Call)) Stopped → Type 0
   Ran arrivals election old next (sites.Runs new) (Ok messages) = HasTurned arrivals election old next new messages
-  Ran arrivals election old next (sites.Stopped (Some storage)) (Err why) = HasFailed arrivals old storage ⊎ IsUnknown me arrivals
+  Ran arrivals election old next (sites.Stopped (Some storage)) (Err why) = HasFailed arrivals old storage
   Ran arrivals election old next site result = ⊥

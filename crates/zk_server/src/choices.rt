@@ -1,6 +1,6 @@
 //! What a server's host does when an election decides.
 
-ghost use Rattle.std.specs.Prelude.{◌≡◌, ◌⊎◌, OnOk, OnErr};
+ghost use Rattle.std.specs.Prelude.{◌≡◌, OnOk, OnErr};
 ghost use Rattle.zab_host.specs.Hosts.{Follows, Leads};
 ghost use Rattle.zk_server.specs.Deeds.{ActsBy, FailsBy, FailsToAct, LeadsNow, TakesBy};
 
@@ -24,8 +24,7 @@ pub(crate) fn act<S: Storage>(
     choice: Choice,
 ) -> Result<(), Stopped>
     ensures acts { OnOk result (ActsBy S.may_recover S.boots me choice host.old host.new) }
-    ensures fails { OnErr result (FailsToAct S.may_recover S.boots me host.old host.new
-        ⊎ (me.servers ≡ 1)) }
+    ensures fails { OnErr result (FailsToAct S.may_recover S.boots me host.old host.new) }
 {
     match choice {
         Choice::Wait => Ok(()),
@@ -68,11 +67,10 @@ fn begin<S: Storage>(alloc: Global, me: Member, host: &mut ReplicaHost<S>) -> Re
 }
 
 /// A host leads. The only one of its ensemble acknowledges itself.
-#[tactic(auto, using(crate::proofs::Acting::lead_fails, crate::proofs::Acting::alone_fails, crate::proofs::Acting::leads_alone, crate::proofs::Acting::leads_others))]
+#[tactic(auto, using(crate::proofs::Acting::lead_fails, crate::proofs::Acting::no_memory_for_own, crate::proofs::Acting::own_fails, crate::proofs::Acting::leads_alone, crate::proofs::Acting::leads_others))]
 fn lead<S: Storage>(alloc: Global, me: Member, host: &mut ReplicaHost<S>) -> Result<(), Stopped>
     ensures leads { OnOk result (LeadsNow S.may_recover S.boots me host.old host.new) }
-    ensures fails { OnErr result (FailsToAct S.may_recover S.boots me host.old host.new
-        ⊎ (me.servers ≡ 1)) }
+    ensures fails { OnErr result (FailsToAct S.may_recover S.boots me host.old host.new) }
 {
     begin(alloc, me, host)?;
     if me.servers != 1 {

@@ -1,9 +1,8 @@
-use crate::arrival::Arrival;
-use crate::notice::Notice;
 use std::alloc::Global;
 use std::marker::Model;
 use zab_host::Vote;
 use zk_path::NoMemory;
+use zk_peer_links::{Arrival, Notice};
 
 /// A server's place in the ensemble, as its elections have it.
 #[derive(Clone, Copy, Debug, Drop, PartialEq, Eq)]
@@ -222,7 +221,7 @@ impl Election {
 
 ghost use Rattle.std.specs.Prelude.{◌≡◌, not, filter};
 ghost use Rattle.std.specs.List.{list_any, list_all};
-ghost use Rattle.zk_server.specs.Notices.{is_from};
+ghost use Rattle.zk_peer_links.specs.Notices.{is_from};
 ghost use Rattle.zk_server.specs.Elections.{best_leader, is_best, is_beaten_by, loses_to, next_round, round_after};
 
 /// An operator's election is a new round.

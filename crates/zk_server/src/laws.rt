@@ -1,4 +1,5 @@
 ghost use Rattle.zk_server.specs.Ensembles.{PeersAgree};
+ghost use Rattle.zk_server.specs.LinkedEnsembles.{LinkedPeersAgree};
 
 use zab_epoch::Majority;
 use zab_host::Storage;
@@ -12,4 +13,12 @@ pub fn peers_agree<S: Storage>(_servers: usize)
 {
     let quorums = Majority { servers: _servers };
     servers_agree::<Preparer, Majority, S>(&quorums, _servers);
+}
+
+/// The same of servers whose links are connections that carry bytes, in chunks of any size, and are
+/// cut at any byte.
+pub fn linked_peers_agree<S: Storage>(_servers: usize)
+    ensures { LinkedPeersAgree S.is_clean S.may_recover S.boots _servers }
+{
+    peers_agree::<S>(_servers);
 }

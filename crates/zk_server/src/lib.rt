@@ -5,23 +5,23 @@
 //! broadcast for primary-backup systems", DSN 2011.
 #![tactic(auto)]
 
-mod arrival;
 mod choices;
 mod election;
 mod laws;
+mod linked_peer;
 mod mail;
 mod member;
-mod notice;
 mod quorum_peer;
 mod site;
 mod stopped;
 mod turn;
 
-pub use arrival::Arrival;
 pub use election::{Choice, Election, Position};
-pub use laws::peers_agree;
+pub use laws::{linked_peers_agree, peers_agree};
+pub use linked_peer::{LinkedPeer, Written};
 pub use member::Member;
-pub use notice::Notice;
 pub use quorum_peer::{Posted, QuorumPeer};
 pub use site::Site;
 pub use stopped::Stopped;
+pub use turn::{decide, hear, release};
+pub use zk_peer_links::{Arrival, Notice};

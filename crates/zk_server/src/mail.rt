@@ -1,10 +1,10 @@
 //! The messages that a server's host receives.
 
-ghost use Rattle.std.specs.Prelude.{◌≡◌, ◌≢◌, ◌⊎◌, Some, None, Err, OnOk, OnErr, IfSome, IfNone, slice_get};
+ghost use Rattle.std.specs.Prelude.{◌≡◌, ◌≢◌, Some, None, Err, OnOk, OnErr, IfSome, IfNone, slice_get};
 ghost use Rattle.zab_epoch.specs.Shortness.{IsShortBody};
 ghost use Rattle.zab_host.specs.Hosts.{IsAppendOnlyBody, Receives};
 ghost use Rattle.zab_host.specs.declared.fault.HostFault.TheVariants as host_faults;
-ghost use Rattle.zk_server.specs.Deeds.{FailsAt, FailsBy, HasWhole, HearsAll, IsWhole, TakesBy};
+ghost use Rattle.zk_server.specs.Deeds.{FailsAt, FailsBy, HearsAll, TakesBy};
 ghost use Rattle.zk_server.specs.Mail.{listed};
 
 use crate::member::Member;
@@ -26,8 +26,8 @@ pub(crate) fn receive_all<S: Storage>(
     messages: &Messages<Call>,
 ) -> Result<(), Stopped>
     ensures hears { OnOk result (HearsAll S.may_recover S.boots me messages.now host.old host.new) }
-    ensures fails { OnErr result (FailsAt S.may_recover S.boots me messages.now host.old host.new
-        ⊎ HasWhole messages.now) }
+    ensures fails { OnErr result (FailsAt S.may_recover S.boots me messages.now host.old
+        host.new) }
 {
     for index in 0..messages.len() {
         receive_at(alloc, me, host, messages, index)?;
@@ -47,8 +47,7 @@ fn receive_at<S: Storage>(
     ensures hears { OnOk result (HearsAll S.may_recover S.boots me (listed (slice_get
         messages.now index)) host.old host.new) }
     ensures fails { OnErr result (FailsAt S.may_recover S.boots me (listed (slice_get
-        messages.now index)) host.old host.new
-        ⊎ HasWhole (listed (slice_get messages.now index))) }
+        messages.now index)) host.old host.new) }
 {
     let Some(message) = message_at(messages, index) else {
         return Ok(());
@@ -67,7 +66,6 @@ fn message_at(messages: &Messages<Call>, index: usize) -> Option<&Message<Call>>
 }
 
 /// A host receives a message. One that has no rule here changes nothing.
-#[tactic(auto, using(crate::proofs::Taking::known))]
 fn receive<S: Storage>(
     alloc: Global,
     me: Member,
@@ -78,7 +76,7 @@ fn receive<S: Storage>(
     ensures hears { OnOk result (TakesBy S.may_recover S.boots me (Receives message.now) host.old
         host.new) }
     ensures fails { OnErr result (FailsBy S.may_recover S.boots me (Receives message.now) host.old
-        host.new ⊎ IsWhole message.now) }
+        host.new) }
 {
     if is_append_only(&message.body) {
         return receive_light(alloc, me, host, message);
@@ -110,7 +108,7 @@ fn receive_light<S: Storage>(
 }
 
 /// Receives a message, and stores what it changes.
-#[tactic(auto, using(crate::proofs::Taking::takes_whole, crate::proofs::Taking::takes_rejected, crate::proofs::Taking::fails_rejected, crate::proofs::Taking::known, crate::proofs::Taking::unknown))]
+#[tactic(auto, using(crate::proofs::Taking::takes_whole, crate::proofs::Taking::takes_rejected, crate::proofs::Taking::fails_rejected, crate::proofs::Taking::fails_to_store))]
 fn receive_whole<S: Storage>(
     alloc: Global,
     me: Member,
@@ -118,11 +116,10 @@ fn receive_whole<S: Storage>(
     message: &Message<Call>,
 ) -> Result<(), Stopped>
     requires short { IsShortBody message.now.body }
-    requires whole { IsWhole message.now }
     ensures hears { OnOk result (TakesBy S.may_recover S.boots me (Receives message.now) host.old
         host.new) }
     ensures fails { OnErr result (FailsBy S.may_recover S.boots me (Receives message.now) host.old
-        host.new ⊎ IsWhole message.now) }
+        host.new) }
 {
     let quorums = Majority {
         servers: me.servers,

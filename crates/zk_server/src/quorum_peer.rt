@@ -1,9 +1,7 @@
 ghost use Rattle.zk_server.specs.Sites.{IsSettled};
 
-use crate::arrival::Arrival;
 use crate::election::Election;
 use crate::member::Member;
-use crate::notice::Notice;
 use crate::site::Site;
 use crate::stopped::Stopped;
 use crate::turn::run;
@@ -12,6 +10,7 @@ use std::mem::replace;
 use zab_epoch::Messages;
 use zab_host::{Storage, StoreFault};
 use zk_host::ReplicaHost;
+use zk_peer_links::{Arrival, Notice};
 use zk_requests::Call;
 
 /// What a turn gives its peers.
@@ -54,7 +53,7 @@ impl<S: Storage> QuorumPeer<S> {
     ghost use Rattle.std.specs.Prelude.{◌≡◌, true, false, IfOk, OnErr, IsErr};
     ghost use Rattle.zk_server.specs.Elections.{new_election, notice_of};
     ghost use Rattle.zk_server.specs.Peers.{peer, StartsAt, Stops, Turns};
-    ghost use Rattle.zk_server.specs.Sites.{is_running, storage_in};
+    ghost use Rattle.zk_server.specs.Sites.{is_running, serves, storage_in};
 
     /// Starts a server on what its store recovers. It looks for a leader.
     pub fn start(alloc: Global, me: Member, storage: S) -> Result<QuorumPeer<S>, StoreFault>
@@ -74,6 +73,21 @@ impl<S: Storage> QuorumPeer<S> {
         ensures { result ≡ is_running self.now.site }
     {
         self.site.is_running()
+    }
+
+    /// Whether it accepts clients' calls: it leads, and a quorum has taken its history, or it follows,
+    /// and has taken its leader's.
+    pub fn is_serving(&self) -> bool
+        ensures { result ≡ serves self.now.site }
+    {
+        self.site.is_serving()
+    }
+
+    /// Its notice to its peers.
+    pub fn notice(&self) -> Notice
+        ensures { result ≡ notice_of self.now.election }
+    {
+        self.election.notice()
     }
 
     /// Takes what has arrived, in order, and returns what is to be sent, all of which is stored. After
@@ -106,6 +120,18 @@ impl<S: Storage> QuorumPeer<S> {
             }
         }
     }
+
+    /// Ends its process. It has its store alone.
+    pub fn stop(&mut self)
+        ensures me { self.new.me ≡ self.old.me }
+        ensures election { self.new.election ≡ self.old.election }
+        ensures site { self.new.site ≡ sites.Stopped (storage_in self.old.site) }
+    {
+        let site = replace(&mut self.site, Site::Stopped(None));
+        self.site = Site::Stopped(site.into_storage());
+    }
+
+    ghost use Rattle.zk_server.specs.declared.site.Site.TheVariants as sites;
 
     /// Ends its process, and returns its store for the next start; `None` if a start on it failed.
     pub fn into_storage(self) -> Option<S>

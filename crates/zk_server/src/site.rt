@@ -20,12 +20,22 @@ impl<S: Storage + Drop> Drop for Site<S> {
 impl<S: Storage> Site<S> {
     ghost use Rattle.std.specs.Prelude.{◌≡◌, IfOk, IfErr};
     ghost use Rattle.zk_server.specs.declared.site.Site.TheVariants as sites;
-    ghost use Rattle.zk_server.specs.Sites.{is_running, storage_in};
+    ghost use Rattle.zk_server.specs.Sites.{is_running, serves, storage_in};
 
     pub fn is_running(&self) -> bool
         ensures { result ≡ is_running self.now }
     {
         matches!(self, Site::Runs(_))
+    }
+
+    /// Whether it accepts clients' calls.
+    pub fn is_serving(&self) -> bool
+        ensures { result ≡ serves self.now }
+    {
+        match self {
+            Site::Runs(host) => host.is_serving(),
+            Site::Stopped(_) => false,
+        }
     }
 
     /// Its host, or the store of a server that has stopped.

@@ -4,13 +4,12 @@ ghost use Rattle.std.specs.Prelude.{◌≡◌, ◌⊎◌, [], IfOk, OnOk, OnErr}
 ghost use Rattle.zab_epoch.specs.declared.stable.Stable.{Stable};
 ghost use Rattle.zab_host.specs.Durability.{IsPartialStore};
 ghost use Rattle.zab_host.specs.Hosts.{IsStored};
-ghost use Rattle.zk_server.specs.Deeds.{FailsAt, FailsToAct, HasWhole, HearsAll};
+ghost use Rattle.zk_server.specs.Deeds.{FailsAt, FailsToAct, HearsAll};
 ghost use Rattle.zk_server.specs.Elections.{after_arrivals};
 ghost use Rattle.zk_server.specs.Mail.{mail_in, mail_of, mail_for};
 ghost use Rattle.zk_server.specs.Sites.{IsReady};
-ghost use Rattle.zk_server.specs.Turns.{Decides, HasFailed, HasTurned, IsUnknown, Ran};
+ghost use Rattle.zk_server.specs.Turns.{Decides, HasFailed, HasTurned, Ran};
 
-use crate::arrival::Arrival;
 use crate::choices::act;
 use crate::election::Election;
 use crate::mail::receive_all;
@@ -23,6 +22,7 @@ use zab_host::Storage;
 use zk_host::{ReleaseFault, ReplicaHost};
 use zk_model::Preparer;
 use zk_path::NoMemory;
+use zk_peer_links::Arrival;
 use zk_requests::Call;
 use zk_server_laws::stores_keep_first_inputs;
 
@@ -58,7 +58,7 @@ fn step<S: Storage>(
     ensures turns { IfOk result (HasTurned S.may_recover S.boots me arrivals.now election.old
         host.old election.new host.new) }
     ensures stops { OnErr result (HasFailed S.may_recover S.boots me arrivals.now host.old
-        host.new.host.storage ⊎ IsUnknown me arrivals.now) }
+        host.new.host.storage) }
 {
     let quorums = Majority {
         servers: me.servers,
@@ -71,7 +71,7 @@ fn step<S: Storage>(
 
 /// Takes notice of all arrivals, and receives their messages.
 #[tactic(auto, using(crate::proofs::Turning::no_memory_to_hear))]
-fn hear<S: Storage>(
+pub fn hear<S: Storage>(
     alloc: Global,
     me: Member,
     election: &mut Election,
@@ -82,7 +82,7 @@ fn hear<S: Storage>(
     ensures hears { OnOk result (HearsAll S.may_recover S.boots me (mail_for me arrivals.now)
         host.old host.new) }
     ensures fails { OnErr result (FailsAt S.may_recover S.boots me (mail_for me arrivals.now)
-        host.old host.new ⊎ HasWhole (mail_for me arrivals.now)) }
+        host.old host.new) }
 {
     note_all(election, arrivals)?;
     receive_mail(alloc, me, host, arrivals)
@@ -109,7 +109,7 @@ fn receive_mail<S: Storage>(
     ensures hears { OnOk result (HearsAll S.may_recover S.boots me (mail_for me arrivals.now)
         host.old host.new) }
     ensures fails { OnErr result (FailsAt S.may_recover S.boots me (mail_for me arrivals.now)
-        host.old host.new ⊎ HasWhole (mail_for me arrivals.now)) }
+        host.old host.new) }
 {
     if me.servers == 1 {
         return Ok(());
@@ -127,7 +127,7 @@ fn receive_arrivals<S: Storage>(
     ensures hears { OnOk result (HearsAll S.may_recover S.boots me (mail_in arrivals.now) host.old
         host.new) }
     ensures fails { OnErr result (FailsAt S.may_recover S.boots me (mail_in arrivals.now) host.old
-        host.new ⊎ HasWhole (mail_in arrivals.now)) }
+        host.new) }
 {
     for index in 0..arrivals.len() {
         receive_arrival(alloc, me, host, &arrivals[index])?;
@@ -145,7 +145,7 @@ fn receive_arrival<S: Storage>(
     ensures hears { OnOk result (HearsAll S.may_recover S.boots me (mail_of arrival.now) host.old
         host.new) }
     ensures fails { OnErr result (FailsAt S.may_recover S.boots me (mail_of arrival.now) host.old
-        host.new ⊎ HasWhole (mail_of arrival.now)) }
+        host.new) }
 {
     match arrival {
         Arrival::Mail { messages, .. } => receive_all(alloc, me, host, messages),
@@ -155,7 +155,7 @@ fn receive_arrival<S: Storage>(
 
 /// Does what the election decides.
 #[tactic(auto, using(crate::proofs::Turning::decides))]
-fn decide<S: Storage>(
+pub fn decide<S: Storage>(
     alloc: Global,
     me: Member,
     election: &mut Election,
@@ -163,15 +163,17 @@ fn decide<S: Storage>(
 ) -> Result<(), Stopped>
     ensures decides { OnOk result (Decides S.may_recover S.boots me election.old
         host.old election.new host.new) }
-    ensures fails { OnErr result (FailsToAct S.may_recover S.boots me host.old host.new
-        ⊎ (me.servers ≡ 1)) }
+    ensures fails { OnErr result (FailsToAct S.may_recover S.boots me host.old host.new) }
 {
     let choice = election.choose(host.vote());
     act(alloc, me, host, choice)
 }
 
 /// Stores what the host has, and takes its messages.
-fn release<S: Storage>(alloc: Global, host: &mut ReplicaHost<S>) -> Result<Messages<Call>, Stopped>
+pub fn release<S: Storage>(
+    alloc: Global,
+    host: &mut ReplicaHost<S>,
+) -> Result<Messages<Call>, Stopped>
     ensures messages { IfOk result (λ messages. messages ≡ host.old.host.outbox) }
     ensures stored { OnOk result (IsStored S.may_recover host.new.host) }
     ensures state { host.new.host.state ≡ host.old.host.state }

@@ -1,6 +1,6 @@
 use Rattle.std.proofs.Common.{rules, not}
 use Rattle.std.proofs.lemmas.Fn.{filter_same}
-use Rattle.zk_server.specs.Notices.{is_from}
+use Rattle.zk_peer_links.specs.Notices.{is_from}
 use Rattle.zk_server.proofs.election.remove_from.Goals as goal
 
 pub returns : goal.returns

@@ -13,7 +13,7 @@ pub struct Notice {
 
 impl Notice {
     ghost use Rattle.std.specs.Prelude.{◌≡◌};
-    ghost use Rattle.zk_server.specs.Notices.{is_from, is_leaders, beats};
+    ghost use Rattle.zk_peer_links.specs.Notices.{is_from, is_leaders, beats, is_same};
 
     /// Whether a server has sent it.
     pub fn is_from(&self, server: usize) -> bool
@@ -37,5 +37,16 @@ impl Notice {
             return other.round < self.round;
         }
         self.vote.wins_over(&other.vote)
+    }
+
+    /// Whether the two are equal.
+    pub fn is_same(&self, other: &Notice) -> bool
+        ensures { result ≡ is_same self.now other.now }
+    {
+        self.round == other.round
+            && self.vote.epoch == other.vote.epoch
+            && self.vote.zxid == other.vote.zxid
+            && self.vote.server == other.vote.server
+            && self.leader == other.leader
     }
 }

@@ -1,0 +1,6 @@
+pub mod Contents
+pub mod Reading
+pub mod Streams
+pub mod Taking
+pub mod Hearing
+pub mod Writing

@@ -1,0 +1,5 @@
+-- What the contracts of this crate cite.
+pub mod Notices
+pub mod Packets
+pub mod Links
+pub mod Outputs
