@@ -49,10 +49,11 @@ impl Folder for MemoryFolder<'_> {
     }
 }
 
-/// The files, the zxid, how the report begins and ends, and the line of the fault.
+/// The files, the zxid, how the report begins and ends, the line of the fault, and the notices.
 type Trial = (
     &'static [(&'static str, &'static [u8])],
     Upto,
+    &'static str,
     &'static str,
     &'static str,
     &'static str,
@@ -81,12 +82,14 @@ const TRIALS: &[Trial] = &[
         "zxid 0000000000000009\n",
         "base snapshot.4 0000000000000007\nend whole\n",
         "",
+        "",
     ),
     (
         ALL,
         Upto::Zxid { zxid: 5 },
         "zxid 0000000000000005\n",
         "base none\nend whole\n",
+        "",
         "",
     ),
     (
@@ -95,12 +98,22 @@ const TRIALS: &[Trial] = &[
         "zxid 0000000000000007\n",
         "base snapshot.4 0000000000000007\nend whole\n",
         "",
+        "",
+    ),
+    (
+        ALL,
+        Upto::Time { time: 1009 },
+        "zxid 0000000000000009\n",
+        "base snapshot.4 0000000000000007\nend whole\n",
+        "",
+        "",
     ),
     (
         LISTLESS,
         Upto::Last,
         "zxid 0000000000000009\n",
         "base none\npassed snapshot.4 S8\nend whole\n",
+        "",
         "",
     ),
     (
@@ -109,6 +122,7 @@ const TRIALS: &[Trial] = &[
         "",
         "",
         "zk: D6 snapshot.4 0000000000000007\n",
+        "",
     ),
     (
         &[("log.6", LOG_6)],
@@ -116,12 +130,47 @@ const TRIALS: &[Trial] = &[
         "",
         "",
         "zk: D2 0000000000000006\n",
+        "",
+    ),
+    (
+        ALL,
+        Upto::Zxid { zxid: 10 },
+        "",
+        "",
+        "zk: D7 0000000000000009 1970-01-01T00:00:01.009Z\n",
+        "",
+    ),
+    (
+        ALL,
+        Upto::Time { time: 1010 },
+        "",
+        "",
+        "zk: D7 0000000000000009 1970-01-01T00:00:01.009Z\n",
+        "",
+    ),
+    (
+        &[("snapshot.4", SNAPSHOT)],
+        Upto::Time { time: 1007 },
+        "",
+        "",
+        "zk: D8\n",
+        "",
+    ),
+    (&[("log.6", b"")], Upto::Last, "", "", "zk: D8\n", ""),
+    (
+        &[("log.1", b"")],
+        Upto::Last,
+        "zxid 0000000000000000\n",
+        "base none\nend whole\n",
+        "",
+        "zk: ends 0000000000000000\n",
     ),
     (
         &[("log.1", LOG_WITH_DIGEST)],
         Upto::Last,
         "zxid 0000000000000001\n",
         "base none\ndigest 1\nend whole\n",
+        "",
         "",
     ),
     (
@@ -130,8 +179,9 @@ const TRIALS: &[Trial] = &[
         "zxid 0000000000000001\n",
         "base none\notherDigest 1 0000000000000001\nend whole\n",
         "",
+        "zk: otherDigest 1 0000000000000001\n",
     ),
-    (&[("myid", b"1")], Upto::Last, "", "", "zk: D1\n"),
+    (&[("myid", b"1")], Upto::Last, "", "", "zk: D1\n", ""),
 ];
 
 /// Whether a text begins and ends so.
@@ -141,14 +191,15 @@ fn is_between(text: &[u8], begin: &str, end: &str) -> bool {
 
 /// Whether a trial holds.
 fn is_shown(alloc: Global, trial: &Trial) -> bool {
-    let (files, upto, begin, end, told) = *trial;
+    let (files, upto, begin, end, told, notices) = *trial;
     let folder = MemoryFolder { files };
     let mut output = Sink::new(DripOut::new(alloc, 65_536, None));
     let mut faults = Sink::new(DripOut::new(alloc, 64, None));
     let status = show(alloc, &folder, &folder, upto, &mut output, &mut faults);
+    let lines = if told.is_empty() { notices } else { told };
     status == Ok(u8::from(!told.is_empty()))
         && is_between(output.into_inner().bytes(), begin, end)
-        && faults.into_inner().bytes() == told.as_bytes()
+        && faults.into_inner().bytes() == lines.as_bytes()
 }
 
 #[test]

@@ -14,6 +14,7 @@ use Rattle.zk_directory_state.proofs.Tallying.{joined_counted, none_counted}
 use Rattle.zk_directory_state.proofs.Joined.{none_left, read_step}
 use Rattle.zk_directory_state.proofs.Leading.{joined, no_records}
 use Rattle.zk_directory_state.specs.Directories.{AreAllRead, AreBroken, AreLogFiles, AreRead, FailsIn, IsAfterLog, ReadsLog, ending_of, last_ending, read_files, read_next}
+use Rattle.zk_directory_state.specs.Ends.{last_entries, next_by}
 use Rattle.zk_directory_state.specs.Joins as joins
 use Rattle.zk_directory_state.specs.Joins.{Reading, decision, end_of, ended_by, is_wanted, leaving_fault, read_by, read_end, read_entries, read_entry, read_file, taken_by, with_entry}
 use Rattle.zk_directory_state.specs.Restorations.{GoesThrough, IsFaultOf, Replays, reading_of, reading_with}
@@ -132,6 +133,23 @@ ends_with : (ending : Option Ending) (files : List LogFile) (file : LogFile) →
 ends_with ending [] file = ending_on ending file [] ∙ no_ending (ending_of file.outcome)
 ends_with ending (one ∷ files) file = ending_on ending one (files ++ file ∷ []) ∙ ends_with (ending_of one.outcome) files file
 
+no_entries : (entries : List FileEntry) → last_entries entries [] ≡ entries
+unfolding last_entries
+no_entries entries = refl
+
+entries_on : (entries : List FileEntry) (file : LogFile) (files : List LogFile) → last_entries entries (file ∷ files) ≡ last_entries file.entries.items files
+unfolding last_entries
+entries_on entries file files = refl
+
+-- the last file's are the last
+last_with : (entries : List FileEntry) (files : List LogFile) (file : LogFile) → last_entries entries (files ++ file ∷ []) ≡ file.entries.items
+last_with entries [] file = entries_on entries file [] ∙ no_entries file.entries.items
+last_with entries (one ∷ files) file = entries_on entries one (files ++ file ∷ []) ∙ last_with one.entries.items files file
+
+twice_not : (b : Bool) → not (not b) ≡ b
+twice_not true = refl
+twice_not false = refl
+
 -- no file yet
 pub none_read : (start : Restore) (logs : List (Bor (List ℕ))) → AreRead start logs 0 start false None
 none_read start logs = record {
@@ -166,13 +184,24 @@ next_read start old logs read i step ending e lt so_far after =
     one_read start old logs read step ending (subst (λ n. n < length logs) (sym e) lt) so_far (subst (λ n. IsAfterLog old (get_or logs n no_bytes).now step) (sym e) after)
 
 -- reading is over
-pub last_read : (start old : Restore) (logs : List (Bor (List ℕ))) (read i : ℕ) (step : Step) (ending : Option Ending) → read ≡ i → i < length logs → AreRead start logs read old false ending → IsAfterLog old (get_or logs i no_bytes).now step
-    → step.goes_on ≡ false → AreAllRead start logs (record { restore = step.restore; read = read + 1; ending = step.ending })
-last_read start old logs read i step ending e lt so_far after over = record {
+last_one : (start old : Restore) (logs : List (Bor (List ℕ))) (i : ℕ) (step : Step) (ending : Option Ending) → i < length logs → AreRead start logs i old false ending → IsAfterLog old (get_or logs i no_bytes).now step → step.goes_on ≡ false
+    → AreAllRead start logs (record { restore = step.restore; read = i + 1; ending = step.ending; next = step.next })
+unfolding one_read
+last_one start old logs i step ending lt so_far after over = record {
   over = not step.goes_on;
-  after = next_read start old logs read i step ending e lt so_far after;
+  after = one_read start old logs i step ending lt so_far after;
+  next =
+      after.next
+      ∙ ap (λ (b : Bool). next_by b step.restore.chain.position after.file.entries.items) (sym (twice_not step.goes_on))
+      ∙ ap (next_by (not (not step.goes_on)) step.restore.chain.position) (sym (last_with [] so_far.files after.file));
   enough = inr (ap not over);
 }
+
+-- as a loop counts
+pub last_read : (start old : Restore) (logs : List (Bor (List ℕ))) (read i : ℕ) (step : Step) (ending : Option Ending) → read ≡ i → i < length logs → AreRead start logs read old false ending → IsAfterLog old (get_or logs i no_bytes).now step
+    → step.goes_on ≡ false → AreAllRead start logs (record { restore = step.restore; read = read + 1; ending = step.ending; next = step.next })
+last_read start old logs read i step ending e lt so_far after over =
+    last_one start old logs read step ending (subst (λ n. n < length logs) (sym e) lt) so_far (subst (λ n. IsAfterLog old (get_or logs n no_bytes).now step) (sym e) after) over
 
 fault_behind : (front : List NewerRecord) (read all : Result Reading RestoreFault) (fault : RestoreFault) → IsFaultOf read fault → (read ≡ Err fault → all ≡ Err fault) → IsFaultOf all fault
 fault_behind front read all (faults.Purged first) f told = told f

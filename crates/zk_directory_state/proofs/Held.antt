@@ -1,9 +1,12 @@
 -- A directory that has files is never rejected as empty.
-use Rattle.std.proofs.Common.{◌≡◌, ◌⊎◌, inl, inr, true, false, ℕ, zero, suc, ℤ, pos, ◌+◌, ◌<◌, ◌==◌, arith, List, [], ◌∷◌, length, slice_get, Option, Some, None, Result, Ok, Err, refl, sym, ap, ◌∙◌, subst}
+use Rattle.std.proofs.Common.{◌≡◌, ◌⊎◌, inl, inr, Bool, Bor, cond, true, false, ℕ, zero, suc, ℤ, pos, ◌+◌, ◌<◌, ◌==◌, arith, List, [], ◌∷◌, length, slice_get, Option, Some, None, Result, Ok, Err, refl, sym, ap, ◌∙◌, subst}
 use Rattle.std.proofs.lemmas.Bool.Decides.{nat_tests}
 use Rattle.zk_replay.specs.declared.exact.Exact.{Exact}
 use Rattle.zk_directory_state.specs.Attempts.{TriesBytes, TriesGiven, attempt_by, attempt_of, fault_by, history_fault, log_at, passed_by, passed_fault}
-use Rattle.zk_directory_state.specs.Histories.{AnswersWithout, AreIn, Chooses, ChoosesOf, Follows, Folders, Holds, HoldsNone, IsHistory, IsUpto, IsWithoutSnapshot, blank_by, candidates, fault_without, first_broken, first_early, first_missing, missing, restored_by, with_broken, without_by}
+use Rattle.zk_directory.specs.Continuing.{continues}
+use Rattle.zk_directory_state.specs.Evidence.{beyond, end_fault, gap_fault, is_beyond, is_first, is_new, proved, proved_by}
+use Rattle.zk_directory_state.specs.Histories.{AnswersFrom, AnswersUpto, AnswersWithout, AreIn, Chooses, ChoosesOf, FindsUpto, Follows, Folders, Holds, HoldsNone, IsHistory, IsUpto, IsWithoutSnapshot, blank_by, blank_fault, candidates, fault_without, first_broken, first_early, first_missing, missing, purged_fault, restored_by, start_fault, upto_by, with_broken, without_by}
+use Rattle.zk_directory_state.specs.declared.evidence.Start.{Start}
 use Rattle.zk_directory_state.specs.Logs.{IsUnread, logs_from}
 use Rattle.zk_directory_state.specs.declared.attempt.Attempt.{Attempt}
 use Rattle.zk_directory_state.specs.declared.attempt.Attempt.TheVariants as attempts
@@ -11,6 +14,7 @@ use Rattle.zk_directory_state.specs.declared.history.Broken.{Broken}
 use Rattle.zk_directory_state.specs.declared.history.Early.{Early}
 use Rattle.zk_directory_state.specs.declared.history.Shown.{Shown}
 use Rattle.zk_directory_state.specs.declared.upto.Upto.{Upto}
+use Rattle.zk_directory_state.specs.declared.upto.Upto.TheVariants.{Last, Zxid, Time}
 use Rattle.zk_directory_files.specs.Names.{log_zxid, snapshot_zxid}
 use Rattle.zk_directory_files.specs.declared.fault.HistoryFault.{HistoryFault}
 use Rattle.zk_directory_files.specs.declared.fault.HistoryFault.TheVariants as faults
@@ -99,11 +103,38 @@ without_not_empty : (held logged : List ℤ) (broken : List Broken) (early : Opt
 without_not_empty held logged broken early (Ok restored) e = missing_not_empty early broken held (restored_not_empty restored (missing early broken held) restored.position e)
 without_not_empty held logged broken early (Err failed) e = fault_not_empty early failed logged failed.fault (same_fault Restored faults.Empty (fault_without early failed logged failed.fault) e)
 
+new_not_empty : (new : Bool) → (let none : Option HistoryFault = None in cond new none (Some faults.NoTransaction) ≡ Some faults.Empty) → ⊥
+new_not_empty true e = cc
+new_not_empty false e = cc
+
+blank_fault_not_empty : (held logged : List ℤ) → blank_fault held logged ≡ Some faults.Empty → ⊥
+blank_fault_not_empty [] logged e = new_not_empty (is_new logged) e
+blank_fault_not_empty (zxid ∷ held) logged e = cc
+
+purged_not_empty : (early : Option Early) (first : ℤ) → purged_fault early first ≡ faults.Empty → ⊥
+purged_not_empty None first e = cc
+purged_not_empty (Some early) first e = cc
+
+first_or_not_empty : (first : Bool) (fault : HistoryFault) → (fault ≡ faults.Empty → ⊥) → (let none : Option HistoryFault = None in cond first none (Some fault) ≡ Some faults.Empty) → ⊥
+first_or_not_empty true fault never e = cc
+first_or_not_empty false fault never e = never (cc e)
+
+start_not_empty : (early : Option Early) (held logged : List ℤ) (start : Option Start) → start_fault early held logged start ≡ Some faults.Empty → ⊥
+start_not_empty early held logged None e = blank_fault_not_empty held logged e
+start_not_empty early held logged (Some start) e = first_or_not_empty (is_first logged start) (purged_fault early start.zxid) (purged_not_empty early start.zxid) e
+
+from_not_empty : (folders : Folders) (broken : List Broken) (early : Option Early) (logs : List (Bor (List ℕ))) (fault : Option HistoryFault) → (fault ≡ Some faults.Empty → ⊥) → AnswersFrom folders broken early logs fault (Err faults.Empty) → ⊥
+from_not_empty folders broken early logs (Some fault) never a = never (ap (λ (f : HistoryFault). let o : Option HistoryFault = Some f in o) (sym (same_fault Restored faults.Empty fault a)))
+from_not_empty folders broken early logs None never a = without_not_empty folders.held folders.logged broken early a.0 a.2
+
 -- ---- the snapshots
 
 end_not_empty : (folders : Folders) (broken : List Broken) (early : Option Early) (restored : Result Restored HistoryFault) → IsWithoutSnapshot folders broken early restored → AnswersWithout broken (Err faults.Empty) restored → ⊥
 end_not_empty folders broken early (Ok restored) w a = a
-end_not_empty folders broken early (Err fault) w a = without_not_empty folders.held folders.logged broken early w.result (ap (failed_as Restored) (same_fault Shown faults.Empty fault a) ∙ w.answered)
+end_not_empty folders broken early (Err fault) w a =
+    let started = start_fault early folders.held folders.logged w.start in
+    from_not_empty folders broken early w.logs started (start_not_empty early folders.held folders.logged w.start)
+    (subst (AnswersFrom folders broken early w.logs started) (ap (failed_as Restored) (sym (same_fault Shown faults.Empty fault a))) w.answered)
 
 next_not_empty : (folders : Folders) (zxid : ℤ) (broken : List Broken) (early : Option Early) (next : List Broken → Option Early → Type 0) (attempt : Result Attempt HistoryFault) → TriesGiven folders.snapshot_bytes folders.log_bytes zxid folders.upto folders.logged attempt
     → ((broken : List Broken) (early : Option Early) → next broken early → ⊥) → Follows zxid broken early (Err faults.Empty) next attempt → ⊥
@@ -130,25 +161,76 @@ none_left (suc n) e = grind (arith, nat_tests)
 pub no_files : (snapshots logs : Option (List (List ℕ))) (held logged : List ℤ) → AreIn snapshot_zxid snapshots held → AreIn log_zxid logs logged → true ≡ (length held + length logged == 0) → HoldsNone snapshots logs
 no_files snapshots logs held logged are_snapshots are_logs e = record { held = held; logged = logged; are_snapshots = are_snapshots; are_logs = are_logs; none = none_left (length held + length logged) e }
 
+-- ---- questions
+
+by_not_empty : (latest : ℤ) (has : Bool) → Err faults.Empty ≡ upto_by latest has → ⊥
+by_not_empty latest true e = cc
+by_not_empty latest false e = cc
+
+upto_not_empty : (bytes_in : List ℕ → Option (List ℕ)) (logged : List ℤ) (upto : Upto) → IsUpto bytes_in logged upto (Err faults.Empty) → ⊥
+upto_not_empty bytes_in logged Last is = cc is
+upto_not_empty bytes_in logged (Zxid zxid) is = cc is
+upto_not_empty bytes_in logged (Time time) is = by_not_empty is.0 is.2.0 is.2.2
+
+fault_or_not_empty : (is : Bool) (fault : HistoryFault) → (fault ≡ faults.Empty → ⊥) → (let none : Option HistoryFault = None in cond is (Some fault) none ≡ Some faults.Empty) → ⊥
+fault_or_not_empty true fault never e = never (cc e)
+fault_or_not_empty false fault never e = cc
+
+beyond_not_empty : (restored : Restored) → beyond restored ≡ faults.Empty → ⊥
+beyond_not_empty restored e = cc
+
+gap_not_empty : (upto : Upto) (position : Option ℤ) (next : ℤ) → gap_fault upto position next ≡ Some faults.Empty → ⊥
+gap_not_empty Last position next e = cc
+gap_not_empty (Zxid zxid) position next e = cc
+gap_not_empty (Time time) None next e = cc
+gap_not_empty (Time time) (Some position) next e = first_or_not_empty (continues position next) (faults.Gap position next) (λ g. cc) e
+
+end_fault_not_empty : (upto : Upto) (restored : Restored) (next : Option ℤ) → end_fault upto restored next ≡ Some faults.Empty → ⊥
+end_fault_not_empty upto restored None e = fault_or_not_empty (is_beyond upto restored) (beyond restored) (beyond_not_empty restored) e
+end_fault_not_empty upto restored (Some next) e = gap_not_empty upto restored.position next e
+
 module _ (snapshots : Option (List (List ℕ))) (snapshot_bytes : List ℕ → Option (List ℕ)) (logs : Option (List (List ℕ))) (log_bytes : List ℕ → Option (List ℕ)) (upto : Upto) where
-  holds_by : (held logged : List ℤ) (zxid : Option ℤ) (answer : Result Shown HistoryFault) → AreIn snapshot_zxid snapshots held → AreIn log_zxid logs logged → 0 < length held + length logged → IsUpto log_bytes logged upto zxid
-      → Chooses (record { snapshot_bytes = snapshot_bytes; log_bytes = log_bytes; held = held; logged = logged; upto = zxid }) answer (candidates zxid held) [] None → IsHistory snapshots snapshot_bytes logs log_bytes upto answer
-  holds_by held logged zxid answer are_snapshots are_logs some is_upto chosen = record { held = held; logged = logged; are_snapshots = are_snapshots; are_logs = are_logs; some = some; zxid = zxid; is_upto = is_upto; chosen = chosen }
+  pub unread_holds : (fault : HistoryFault) → IsUnread fault → Holds snapshots snapshot_bytes logs log_bytes upto (Err fault)
+  unread_holds faults.Empty unread = absurd unread
+  unread_holds fault unread = inl unread
 
-  fails_by : (held logged : List ℤ) (zxid : Option ℤ) (fault : HistoryFault) → AreIn snapshot_zxid snapshots held → AreIn log_zxid logs logged → 0 < length held + length logged → IsUpto log_bytes logged upto zxid
-      → (c : IsUnread fault ⊎ Chooses (record { snapshot_bytes = snapshot_bytes; log_bytes = log_bytes; held = held; logged = logged; upto = zxid }) (Err fault) (candidates zxid held) [] None) → IsUnread fault ⊎ IsHistory snapshots snapshot_bytes logs log_bytes upto (Err fault)
-  fails_by held logged zxid fault are_snapshots are_logs some is_upto (inl unread) = inl unread
-  fails_by held logged zxid fault are_snapshots are_logs some is_upto (inr chosen) = inr (holds_by held logged zxid (Err fault) are_snapshots are_logs some is_upto chosen)
+  -- a fault that is not that of an empty directory
+  holds_fault : (fault : HistoryFault) → (fault ≡ faults.Empty → ⊥) → (h : IsUnread fault ⊎ IsHistory snapshots snapshot_bytes logs log_bytes upto (Err fault)) → Holds snapshots snapshot_bytes logs log_bytes upto (Err fault)
+  holds_fault faults.Empty never h = absurd (never refl)
+  holds_fault fault never h = h
 
-  none_fails : (held logged : List ℤ) (zxid : Option ℤ) → (c : IsUnread faults.Empty ⊎ Chooses (record { snapshot_bytes = snapshot_bytes; log_bytes = log_bytes; held = held; logged = logged; upto = zxid }) (Err faults.Empty) (candidates zxid held) [] None) → ⊥
-  none_fails held logged zxid (inl unread) = unread
-  none_fails held logged zxid (inr chosen) = chosen_not_empty (record { snapshot_bytes = snapshot_bytes; log_bytes = log_bytes; held = held; logged = logged; upto = zxid }) (candidates zxid held) [] None chosen
+  holds_by : (held logged : List ℤ) (zxid : Result (Option ℤ) HistoryFault) (answer : Result Shown HistoryFault) → AreIn snapshot_zxid snapshots held → AreIn log_zxid logs logged → false ≡ (length held + length logged == 0) → IsUpto log_bytes logged upto zxid
+      → AnswersUpto snapshot_bytes log_bytes held logged upto zxid answer → IsHistory snapshots snapshot_bytes logs log_bytes upto answer
+  holds_by held logged zxid answer are_snapshots are_logs some is_upto answered = record { held = held; logged = logged; are_snapshots = are_snapshots; are_logs = are_logs; some = some_files (length held + length logged) some; zxid = zxid; is_upto = is_upto; answered = answered }
 
-  pub holds : (held logged : List ℤ) (zxid : Option ℤ) (answer : Result Shown HistoryFault) → AreIn snapshot_zxid snapshots held → AreIn log_zxid logs logged → false ≡ (length held + length logged == 0) → IsUpto log_bytes logged upto zxid
-      → ChoosesOf (record { snapshot_bytes = snapshot_bytes; log_bytes = log_bytes; held = held; logged = logged; upto = zxid }) (candidates zxid held) [] None answer → Holds snapshots snapshot_bytes logs log_bytes upto answer
-  holds held logged zxid (Ok shown) are_snapshots are_logs some is_upto chosen = holds_by held logged zxid (Ok shown) are_snapshots are_logs (some_files (length held + length logged) some) is_upto chosen
-  holds held logged zxid (Err faults.Empty) are_snapshots are_logs some is_upto chosen = absurd (none_fails held logged zxid chosen)
-  holds held logged zxid (Err fault) are_snapshots are_logs some is_upto chosen = fails_by held logged zxid fault are_snapshots are_logs (some_files (length held + length logged) some) is_upto chosen
+  -- the question has no zxid
+  upto_fails_by : (held logged : List ℤ) (fault : HistoryFault) → AreIn snapshot_zxid snapshots held → AreIn log_zxid logs logged → false ≡ (length held + length logged == 0) → (finds : IsUnread fault ⊎ IsUpto log_bytes logged upto (Err fault)) → Holds snapshots snapshot_bytes logs log_bytes upto (Err fault)
+  upto_fails_by held logged fault are_snapshots are_logs some (inl unread) = unread_holds fault unread
+  upto_fails_by held logged fault are_snapshots are_logs some (inr is) =
+      holds_fault fault (λ e. upto_not_empty log_bytes logged upto (subst (λ (f : HistoryFault). IsUpto log_bytes logged upto (Err f)) e is)) (inr (holds_by held logged (Err fault) (Err fault) are_snapshots are_logs some is refl))
+
+  pub upto_fails : (held logged : List ℤ) (fault : HistoryFault) → AreIn snapshot_zxid snapshots held → AreIn log_zxid logs logged → false ≡ (length held + length logged == 0) → FindsUpto log_bytes logged upto (Err fault) → Holds snapshots snapshot_bytes logs log_bytes upto (Err fault)
+  upto_fails held logged fault are_snapshots are_logs some finds = upto_fails_by held logged fault are_snapshots are_logs some finds
+
+  -- the state that was found is proved, or not
+  shown_holds : (shown : Shown) (fault : Option HistoryFault) → (fault ≡ Some faults.Empty → ⊥) → IsHistory snapshots snapshot_bytes logs log_bytes upto (proved_by shown fault) → Holds snapshots snapshot_bytes logs log_bytes upto (proved_by shown fault)
+  shown_holds shown None never h = h
+  shown_holds shown (Some fault) never h = holds_fault fault (λ e. never (ap (λ (f : HistoryFault). let o : Option HistoryFault = Some f in o) e)) (inr h)
+
+  fails_by : (held logged : List ℤ) (zxid : Option ℤ) (fault : HistoryFault) → AreIn snapshot_zxid snapshots held → AreIn log_zxid logs logged → false ≡ (length held + length logged == 0) → IsUpto log_bytes logged upto (Ok zxid)
+      → (c : IsUnread fault ⊎ Chooses (record { snapshot_bytes = snapshot_bytes; log_bytes = log_bytes; held = held; logged = logged; upto = zxid }) (Err fault) (candidates zxid held) [] None) → Holds snapshots snapshot_bytes logs log_bytes upto (Err fault)
+  fails_by held logged zxid fault are_snapshots are_logs some is_upto (inl unread) = unread_holds fault unread
+  fails_by held logged zxid fault are_snapshots are_logs some is_upto (inr chosen) =
+      let folders : Folders = record { snapshot_bytes = snapshot_bytes; log_bytes = log_bytes; held = held; logged = logged; upto = zxid } in
+      holds_fault fault (λ e. chosen_not_empty folders (candidates zxid held) [] None (subst (λ (f : HistoryFault). Chooses folders (Err f) (candidates zxid held) [] None) e chosen))
+      (inr (holds_by held logged (Ok zxid) (Err fault) are_snapshots are_logs some is_upto (Err fault, chosen, refl)))
+
+  pub holds : (held logged : List ℤ) (zxid : Option ℤ) (found : Result Shown HistoryFault) → AreIn snapshot_zxid snapshots held → AreIn log_zxid logs logged → false ≡ (length held + length logged == 0) → IsUpto log_bytes logged upto (Ok zxid)
+      → ChoosesOf (record { snapshot_bytes = snapshot_bytes; log_bytes = log_bytes; held = held; logged = logged; upto = zxid }) (candidates zxid held) [] None found → Holds snapshots snapshot_bytes logs log_bytes upto (proved upto found)
+  holds held logged zxid (Ok shown) are_snapshots are_logs some is_upto chosen =
+      shown_holds shown (end_fault upto shown.restored shown.restored.next) (end_fault_not_empty upto shown.restored shown.restored.next)
+      (holds_by held logged (Ok zxid) (proved upto (Ok shown)) are_snapshots are_logs some is_upto (Ok shown, chosen, refl))
+  holds held logged zxid (Err fault) are_snapshots are_logs some is_upto chosen = fails_by held logged zxid fault are_snapshots are_logs some is_upto chosen
 
   pub chosen_at : (held held' logged logged' : List ℤ) (zxid : Option ℤ) (begun begun' : List ℤ) (answer : Result Shown HistoryFault) → held' ≡ held → logged' ≡ logged → begun' ≡ begun
       → ChoosesOf (record { snapshot_bytes = snapshot_bytes; log_bytes = log_bytes; held = held'; logged = logged'; upto = zxid }) begun' [] None answer → ChoosesOf (record { snapshot_bytes = snapshot_bytes; log_bytes = log_bytes; held = held; logged = logged; upto = zxid }) begun [] None answer
@@ -156,7 +238,3 @@ module _ (snapshots : Option (List (List ℕ))) (snapshot_bytes : List ℕ → O
       subst (λ (x : List ℤ). ChoosesOf (record { snapshot_bytes = snapshot_bytes; log_bytes = log_bytes; held = held; logged = logged; upto = zxid }) x [] None answer) b
       (subst (λ (x : List ℤ). ChoosesOf (record { snapshot_bytes = snapshot_bytes; log_bytes = log_bytes; held = held; logged = x; upto = zxid }) begun' [] None answer) l
       (subst (λ (x : List ℤ). ChoosesOf (record { snapshot_bytes = snapshot_bytes; log_bytes = log_bytes; held = x; logged = logged'; upto = zxid }) begun' [] None answer) h chosen))
-
-  pub unread_holds : (fault : HistoryFault) → IsUnread fault → Holds snapshots snapshot_bytes logs log_bytes upto (Err fault)
-  unread_holds faults.Empty unread = absurd unread
-  unread_holds fault unread = inl unread

@@ -8,3 +8,5 @@ pub mod Chosen
 pub mod Held
 pub mod Listed
 pub mod Folded
+pub mod Starting
+pub mod Noticing

@@ -9,6 +9,7 @@ use Rattle.zk_replay.specs.declared.draft.Draft.{Draft}
 use Rattle.zk_replay.specs.declared.fault.BaseFault.{BaseFault}
 use Rattle.zk_replay.specs.declared.fault.BaseFault.TheVariants as base_faults
 use Rattle.zk_directory.specs.Chains.{history_of}
+use Rattle.zk_directory.specs.Joints.{joints_of}
 use Rattle.zk_directory.specs.declared.file.LogFile.{LogFile}
 use Rattle.zk_newer_records.specs.declared.newer_record.NewerRecord.{NewerRecord}
 use Rattle.zk_replay.specs.declared.stage.Stage.{Stage}
@@ -21,6 +22,7 @@ use Rattle.zk_directory_state.specs.Counts.{IsCountFrom, IsCountOf, first_tally}
 use Rattle.zk_replay.specs.Restoring.{finish_fault}
 use Rattle.zk_snapshot.specs.declared.snapshot.Contents.{Contents}
 use Rattle.zk_directory_state.specs.Directories.{AreAllRead, AreLogFiles, Breaks, EndsBroken, EndsShort, FailsBy, FailsIn, IsStateOf, Reads, Restores, StartsBroken, read_files, reading_by, start_reading}
+use Rattle.zk_directory_state.specs.Ends.{last_time}
 use Rattle.zk_directory_state.specs.Joins.{Reading, Window, fault_of_base, window_fault}
 use Rattle.zk_directory_state.specs.Restorations.{Begins, Finishes, IsBegun, IsFinished, IsFirstStage, base_fault, exact_of, first_draft, first_window, is_before, is_early, is_short, reading_of, reading_with, start_of, window_of}
 use Rattle.zk_directory_state.specs.States.{IsStateAfter, IsStateFrom, txn_of}
@@ -94,9 +96,10 @@ reads base upto logs start progress read begun all same =
     }
 
 pub restores : (base : Base) (upto : Option ℤ) (logs : List (Bor (List ℕ))) (start : Restore) (progress : Progress) (restored : Restored) → IsBegun base upto start → AreAllRead start logs progress → IsFinished progress.restore restored.table
-    → restored.read ≡ progress.read → restored.ending ≡ progress.ending → restored.position ≡ progress.restore.chain.position → restored.digests ≡ progress.restore.digests.count → Restores base upto logs restored
+    → restored.read ≡ progress.read → restored.ending ≡ progress.ending → restored.position ≡ progress.restore.chain.position → restored.digests ≡ progress.restore.digests.count
+    → restored.next ≡ progress.next → restored.time ≡ last_time (history_of progress.restore.chain).taken → restored.joints.items ≡ joints_of (history_of progress.restore.chain) progress.restore.digests.count.last → Restores base upto logs restored
 unfolding reads
-restores base upto logs start progress restored begun all finished same ending position digests =
+restores base upto logs start progress restored begun all finished same ending position digests next time joints =
     let after = all.after in
     let exact : progress.restore.exact ≡ exact_of base = after.exact ∙ begun.exact in
     record {
@@ -114,6 +117,9 @@ restores base upto logs start progress restored begun all finished same ending p
           (count_from_base base start.stage after.records end.0.count begun.stage
           (subst (λ z. IsCountAfter start.stage z after.records (first_tally base) end.0.count) begun.exact (counts_after start.stage start.exact after.records (first_tally base) progress.restore.stage end.0 restored.table.state end.1 finished.state)));
       ending = ending ∙ after.last;
+      next = next ∙ all.next;
+      time = time;
+      joints = joints ∙ ap (λ (count : DigestCount). joints_of (history_of progress.restore.chain) count.last) (sym digests);
     }
 
 ends_short : (base : Base) (upto : Option ℤ) (logs : List (Bor (List ℕ))) (start : Restore) (progress : Progress) → IsBegun base upto start → AreAllRead start logs progress → is_short progress.restore ≡ true → EndsShort base upto logs progress.read

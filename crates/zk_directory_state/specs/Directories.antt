@@ -1,5 +1,5 @@
 -- The state that a directory's logs lead to from a base, over whole lists of files.
-use Rattle.std.specs.Prelude.{◌≡◌, ◌⊎◌, ◌+◌, ℕ, ℤ, Bool, true, false, List, [], ◌∷◌, length, map, take, Option, Some, None, Result, Ok, Err, if◌then◌else◌}
+use Rattle.std.specs.Prelude.{◌≡◌, ◌⊎◌, ◌+◌, ℕ, ℤ, Bool, true, false, not, List, [], ◌∷◌, length, map, take, Option, Some, None, Result, Ok, Err, if◌then◌else◌}
 use Rattle.std.specs.Borrow.{Bor}
 use Rattle.zk_table.specs.Histories.{tree_of}
 use Rattle.zk_table.specs.States.{State}
@@ -12,7 +12,9 @@ use Rattle.zk_directory.specs.LogFiles.{IsLogFile}
 use Rattle.zk_directory.specs.declared.file.LogFile.{LogFile}
 use Rattle.zk_directory.specs.declared.file.LogFileFault.{LogFileFault}
 use Rattle.zk_newer_records.specs.declared.newer_record.NewerRecord.{NewerRecord}
+use Rattle.zk_directory.specs.Joints.{joints_of}
 use Rattle.zk_directory_state.specs.Counts.{IsCountOf}
+use Rattle.zk_directory_state.specs.Ends.{last_entries, last_time, next_by}
 use Rattle.zk_directory_state.specs.Joins.{Reading, fault_of_base, read_file, window_fault}
 use Rattle.zk_directory_state.specs.Restorations.{Follows, IsAfterFile, IsFaultOf, Replays, base_fault, exact_of, first_window, is_before, is_early, reading_of, reading_with, start_of}
 use Rattle.zk_directory_state.specs.States.{IsStateFrom, txn_of}
@@ -90,6 +92,10 @@ pub record Restores (base : Base) (upto : Option ℤ) (logs : List (Bor (List �
   pub state : IsStateOf base reading.records restored.table.state
   pub digests : IsCountOf base reading.records restored.digests
   pub ending : restored.ending ≡ last_ending None reads.files
+  -- the entry at which reading stopped is in the last file that was read
+  pub next : restored.next ≡ next_by (not reading.is_over) reading.history.position (last_entries [] reads.files)
+  pub time : restored.time ≡ last_time reading.history.taken
+  pub joints : restored.joints.items ≡ joints_of reading.history restored.digests.last
 
 -- the logs were read up to the fault
 pub record Breaks (base : Base) (upto : Option ℤ) (logs : List (Bor (List ℕ))) (log : ℕ) (fault : RestoreFault) : Type 0 where
@@ -141,6 +147,7 @@ pub record IsAfterLog (old : Restore) (bytes : List ℕ) (step : Step) : Type 0 
   pub of_bytes : IsLogFile bytes file
   pub after : IsAfterFile old file step.restore step.goes_on
   pub ending : step.ending ≡ ending_of file.outcome
+  pub next : step.next ≡ next_by step.goes_on step.restore.chain.position file.entries.items
 
 abbrev pub ReadsLog : Restore → List ℕ → Result Step RestoreFault → Type 0
 ReadsLog old bytes (Ok step) = IsAfterLog old bytes step
@@ -161,6 +168,7 @@ pub record AreRead (old : Restore) (logs : List (Bor (List ℕ))) (read : ℕ) (
 pub record AreAllRead (old : Restore) (logs : List (Bor (List ℕ))) (progress : Progress) : Type 0 where
   pub over : Bool
   pub after : AreRead old logs progress.read progress.restore over progress.ending
+  pub next : progress.next ≡ next_by (not over) progress.restore.chain.position (last_entries [] after.files)
   pub enough : (progress.read ≡ length logs) ⊎ (over ≡ true)
 
 -- logs were read up to a fault

@@ -1,11 +1,14 @@
 -- The state of a directory: the latest snapshot that serves, and the transactions after it; or all
 -- transactions from the first.
-use Rattle.std.specs.Prelude.{◌≡◌, ◌<◌, ◌⊎◌, ◌+◌, ℕ, ℤ, pos, Bool, true, int_le, int_lt, ◌&&◌, List, [], ◌∷◌, ◌++◌, filter, length, map, reverse, slice_get, Option, Some, None, Result, Ok, Err, String, if◌then◌else◌}
+use Rattle.std.specs.Prelude.{◌≡◌, ◌<◌, ◌⊎◌, ◌+◌, ℕ, ℤ, pos, Bool, true, false, int_le, int_lt, ◌&&◌, is_some, List, [], ◌∷◌, ◌++◌, filter, length, map, reverse, slice_get, Option, Some, None, Result, Ok, Err, String, if◌then◌else◌}
 use Rattle.std.specs.Borrow.{Bor}
 use Rattle.std.specs.Global.{Global}
 use Rattle.std.specs.String.{string_bytes}
 use Rattle.zk_replay.specs.declared.exact.Exact.{Exact}
 use Rattle.zk_directory_state.specs.Attempts.{TriesGiven, history_fault}
+use Rattle.std.specs.Ordering.{int_eq}
+use Rattle.zk_directory_state.specs.Evidence.{IsStart, is_first, is_new, proved}
+use Rattle.zk_directory_state.specs.declared.evidence.Start.{Start}
 use Rattle.zk_directory_state.specs.Logs.{AreGiven, IsUnread, bytes_of}
 use Rattle.zk_directory_state.specs.declared.attempt.Attempt.{Attempt}
 use Rattle.zk_directory_state.specs.declared.attempt.Attempt.TheVariants as attempts
@@ -55,11 +58,28 @@ abbrev pub IsLatestAt : (List ℕ → Option (List ℕ)) → ℤ → ℤ → Lis
 IsLatestAt bytes_in time zxid [] latest = latest ≡ zxid
 IsLatestAt bytes_in time zxid (log ∷ logged) latest = (next : ℤ) × IsLatestIn bytes_in log time zxid next × IsLatestAt bytes_in time next logged latest
 
+-- whether one of the logs that the folder gives has an entry
+abbrev pub HaveEntry : (List ℕ → Option (List ℕ)) → List ℤ → Bool → Type 0
+HaveEntry bytes_in logged has = (logs : List (Bor (List ℕ))) × AreGiven bytes_in logged (map bytes_of logs) × ((start : Option Start) × IsStart 0 logs start × (has ≡ is_some start))
+
+-- the one of a zxid above 0 is there
+abbrev pub HaveTime : Bool → (List ℕ → Option (List ℕ)) → List ℤ → Bool → Type 0
+HaveTime true bytes_in logged has = HaveEntry bytes_in logged has
+HaveTime false bytes_in logged has = has ≡ true
+
+abbrev pub upto_by : ℤ → Bool → Result (Option ℤ) HistoryFault
+upto_by latest true = Ok (Some latest)
+upto_by latest false = Err faults.NoTransaction
+
+abbrev pub IsUptoTime : (List ℕ → Option (List ℕ)) → ℤ → List ℤ → Result (Option ℤ) HistoryFault → Type 0
+IsUptoTime bytes_in time logged answer =
+    (latest : ℤ) × IsLatestAt bytes_in time (pos 0) logged latest × ((has : Bool) × HaveTime (int_eq latest (pos 0)) bytes_in logged has × (answer ≡ upto_by latest has))
+
 -- the zxid up to which the directory is shown; none for the end of the logs
-abbrev pub IsUpto : (List ℕ → Option (List ℕ)) → List ℤ → Upto → Option ℤ → Type 0
-IsUpto bytes_in logged Last zxid = zxid ≡ None
-IsUpto bytes_in logged (Zxid upto) zxid = zxid ≡ Some upto
-IsUpto bytes_in logged (Time time) zxid = (latest : ℤ) × IsLatestAt bytes_in time (pos 0) logged latest × (zxid ≡ Some latest)
+abbrev pub IsUpto : (List ℕ → Option (List ℕ)) → List ℤ → Upto → Result (Option ℤ) HistoryFault → Type 0
+IsUpto bytes_in logged Last answer = answer ≡ Ok None
+IsUpto bytes_in logged (Zxid upto) answer = answer ≡ Ok (Some upto)
+IsUpto bytes_in logged (Time time) answer = IsUptoTime bytes_in time logged answer
 
 abbrev pub is_begun : Option ℤ → ℤ → Bool
 is_begun None zxid = true
@@ -113,13 +133,31 @@ abbrev pub without_by : List ℤ → List ℤ → List Broken → Option Early �
 without_by held logged broken early (Ok restored) = restored_by restored (missing early broken held) restored.position
 without_by held logged broken early (Err failed) = Err (fault_without early failed logged failed.fault)
 
+abbrev pub purged_fault : Option Early → ℤ → HistoryFault
+purged_fault None first = faults.Purged first
+purged_fault (Some early) first = early_fault early
+
+-- logs without an entry say nothing, unless a server has just created them; a snapshot says more
+abbrev pub blank_fault : List ℤ → List ℤ → Option HistoryFault
+blank_fault [] logged = if is_new logged then None else Some faults.NoTransaction
+blank_fault (zxid ∷ held) logged = None
+
+-- the history has no beginning
+abbrev pub start_fault : Option Early → List ℤ → List ℤ → Option Start → Option HistoryFault
+start_fault early held logged None = blank_fault held logged
+start_fault early held logged (Some start) = if is_first logged start then None else Some (purged_fault early start.zxid)
+
+abbrev pub AnswersFrom : Folders → List Broken → Option Early → List (Bor (List ℕ)) → Option HistoryFault → Result Restored HistoryFault → Type 0
+AnswersFrom folders broken early logs (Some fault) answer = answer ≡ Err fault
+AnswersFrom folders broken early logs None answer = (result : Result Restored DirectoryFault) × IsRestored bases.Empty folders.upto logs result × (answer ≡ without_by folders.held folders.logged broken early result)
+
 -- all logs, from the empty tree
 pub record IsWithoutSnapshot (folders : Folders) (broken : List Broken) (early : Option Early) (answer : Result Restored HistoryFault) : Type 0 where
   pub logs : List (Bor (List ℕ))
   pub given : AreGiven folders.log_bytes folders.logged (map bytes_of logs)
-  pub result : Result Restored DirectoryFault
-  pub restored : IsRestored bases.Empty folders.upto logs result
-  pub answered : answer ≡ without_by folders.held folders.logged broken early result
+  pub start : Option Start
+  pub is_start : IsStart 0 logs start
+  pub answered : AnswersFrom folders broken early logs (start_fault early folders.held folders.logged start) answer
 
 -- ---- the latest snapshot that serves
 
@@ -163,6 +201,14 @@ Chooses folders answer (zxid ∷ zxids) broken early =
 abbrev pub AreIn : (List ℕ → Option ℤ) → Option (List (List ℕ)) → List ℤ → Type 0
 AreIn zxid_of given zxids = (names : List (String Global)) × IsGiven given (map string_bytes names) × AreZxidsBy (λ name. zxid_of (string_bytes name)) names zxids
 
+-- up to a zxid: a state that the files prove
+abbrev pub AnswersUpto : (List ℕ → Option (List ℕ)) → (List ℕ → Option (List ℕ)) → List ℤ → List ℤ → Upto → Result (Option ℤ) HistoryFault → Result Shown HistoryFault → Type 0
+AnswersUpto snapshot_bytes log_bytes held logged upto (Err fault) answer = answer ≡ Err fault
+AnswersUpto snapshot_bytes log_bytes held logged upto (Ok zxid) answer =
+    (found : Result Shown HistoryFault)
+    × Chooses (record { snapshot_bytes = snapshot_bytes; log_bytes = log_bytes; held = held; logged = logged; upto = zxid }) found (candidates zxid held) [] None
+    × (answer ≡ proved upto found)
+
 -- the snapshots and logs that there are, and up to which zxid they are shown
 pub record IsHistory (snapshots : Option (List (List ℕ))) (snapshot_bytes : List ℕ → Option (List ℕ)) (logs : Option (List (List ℕ))) (log_bytes : List ℕ → Option (List ℕ)) (upto : Upto) (answer : Result Shown HistoryFault) : Type 0 where
   pub held : List ℤ
@@ -170,9 +216,9 @@ pub record IsHistory (snapshots : Option (List (List ℕ))) (snapshot_bytes : Li
   pub are_snapshots : AreIn snapshot_zxid snapshots held
   pub are_logs : AreIn log_zxid logs logged
   pub some : 0 < length held + length logged
-  pub zxid : Option ℤ
+  pub zxid : Result (Option ℤ) HistoryFault
   pub is_upto : IsUpto log_bytes logged upto zxid
-  pub chosen : Chooses (record { snapshot_bytes = snapshot_bytes; log_bytes = log_bytes; held = held; logged = logged; upto = zxid }) answer (candidates zxid held) [] None
+  pub answered : AnswersUpto snapshot_bytes log_bytes held logged upto zxid answer
 
 -- there is no snapshot and no log
 pub record HoldsNone (snapshots logs : Option (List (List ℕ))) : Type 0 where
@@ -191,6 +237,14 @@ Holds snapshots snapshot_bytes logs log_bytes upto (Err fault) = IsUnread fault 
 -- ---- calls within
 
 -- unless a file could not be read
+abbrev pub FindsUpto : (List ℕ → Option (List ℕ)) → List ℤ → Upto → Result (Option ℤ) HistoryFault → Type 0
+FindsUpto bytes_in logged upto (Ok zxid) = IsUpto bytes_in logged upto (Ok zxid)
+FindsUpto bytes_in logged upto (Err fault) = IsUnread fault ⊎ IsUpto bytes_in logged upto (Err fault)
+
+abbrev pub FindsTime : (List ℕ → Option (List ℕ)) → ℤ → List ℤ → Result ℤ HistoryFault → Type 0
+FindsTime bytes_in time logged (Ok latest) = IsUptoTime bytes_in time logged (Ok (Some latest))
+FindsTime bytes_in time logged (Err fault) = IsUnread fault ⊎ IsUptoTime bytes_in time logged (Err fault)
+
 abbrev pub RestoresWithout : Folders → List Broken → Option Early → Result Restored HistoryFault → Type 0
 RestoresWithout folders broken early (Ok restored) = IsWithoutSnapshot folders broken early (Ok restored)
 RestoresWithout folders broken early (Err fault) = IsUnread fault ⊎ IsWithoutSnapshot folders broken early (Err fault)

@@ -1,6 +1,8 @@
 -- What the contracts of this crate cite.
 pub mod Counts
 pub mod Directories
+pub mod Ends
+pub mod Evidence
 pub mod Joins
 pub mod Restorations
 pub mod States
@@ -9,6 +11,7 @@ pub mod Attempts
 pub mod Histories
 pub mod Listings
 pub mod Logs
+pub mod Notices
 pub mod Outcomes
 pub mod Reports
 pub mod Records

@@ -8,7 +8,7 @@ use zk_replay::BaseFault;
 use zk_snapshot::SnapshotFault;
 
 /// The zxid in the name of a log.
-fn log_at(logged: &[i64], place: usize) -> i64
+pub(crate) fn log_at(logged: &[i64], place: usize) -> i64
     ensures { result ≡ log_at logged.now place }
 {
     match logged.get(place) {

@@ -1,8 +1,9 @@
 //! The state of a directory: from which snapshot, and which ones were passed over.
 ghost use Rattle.std.specs.Prelude.{◌≡◌, ◌+◌, ◌==◌, ℕ, ℤ, List, [], Option, None, IfOk, OnOk, filter, length};
-ghost use Rattle.zk_directory_state.specs.Histories.{ChoosesOf, Holds, RestoresWithout, TriesNext, candidates, early_fault, fault_without, first_early, is_begun, missing, with_broken, without_by};
+ghost use Rattle.zk_directory_state.specs.Histories.{ChoosesOf, Holds, RestoresWithout, TriesNext, candidates, blank_fault, early_fault, fault_without, first_early, is_begun, missing, purged_fault, start_fault, with_broken, without_by};
 
 use crate::attempt::{Attempt, try_snapshot};
+use crate::evidence::{Start, is_first, is_new, proved, start_of};
 use crate::fault_causes::history_fault;
 use crate::logs::{logs_in, read_logs, slices_of, snapshots_in};
 use crate::upto::{Upto, zxid_of};
@@ -121,6 +122,48 @@ fn missing(early: Option<Early>, broken: &[Broken], held: &[i64]) -> Option<Hist
     }
 }
 
+/// The fault of logs that begin with this transaction, which is not the first one.
+fn purged_fault(early: Option<Early>, first: i64) -> HistoryFault
+    ensures { result ≡ purged_fault early first }
+{
+    match early {
+        Some(early) => early_fault(early),
+        None => HistoryFault::Purged { first },
+    }
+}
+
+/// The fault of logs without an entry.
+fn blank_fault(held: &[i64], logged: &[i64]) -> Option<HistoryFault>
+    ensures { result ≡ blank_fault held.now logged.now }
+{
+    if held.is_empty() && !is_new(logged) {
+        Some(HistoryFault::NoTransaction)
+    } else {
+        None
+    }
+}
+
+/// The fault of logs that do not begin with the first transaction.
+fn start_fault(
+    early: Option<Early>,
+    held: &[i64],
+    logged: &[i64],
+    start: Option<Start>,
+) -> Option<HistoryFault>
+    ensures { result ≡ start_fault early held.now logged.now start }
+{
+    match start {
+        Some(start) => {
+            if is_first(logged, start) {
+                None
+            } else {
+                Some(purged_fault(early, start.zxid))
+            }
+        }
+        None => blank_fault(held, logged),
+    }
+}
+
 /// The fault of a restoration from the empty tree. If the first transactions are missing, an early
 /// snapshot says from which zxid on there are states.
 fn fault_without(early: Option<Early>, failed: DirectoryFault, logged: &[i64]) -> HistoryFault
@@ -169,6 +212,10 @@ fn without_snapshot<L: Folder>(
 {
     let loaded = read_logs(alloc, logs, logged)?;
     let slices = slices_of(alloc, loaded.as_slice())?;
+    let start = start_of(alloc, slices.as_slice())?;
+    if let Some(fault) = start_fault(over.early, held, logged, start) {
+        return Err(fault);
+    }
     without_by(
         held,
         logged,
@@ -272,11 +319,16 @@ pub(crate) fn has_no_files(held: &[i64], logged: &[i64]) -> bool
 /// from the first. A snapshot serves if it is whole, and exact up to that transaction. Both folders
 /// may be the same.
 ///
+/// A state is returned only if the files prove it: `specs/Evidence.antt`.
+///
 /// Fails with
 /// - [`HistoryFault::Empty`] if there is no snapshot and no log;
 /// - [`HistoryFault::Early`] if no snapshot serves, and one of them is exact only later;
 /// - [`HistoryFault::Purged`] or [`HistoryFault::Snapshot`] if no other snapshot serves, and the
 ///   logs lack the first transaction;
+/// - [`HistoryFault::Beyond`] if the question comes after the last transaction;
+/// - [`HistoryFault::NoTransaction`] if a time is asked for, and no log has a transaction; or if there
+///   is no snapshot either;
 /// - [`HistoryFault::Short`] if the logs end before the snapshot is exact;
 /// - [`HistoryFault::Gap`], [`HistoryFault::Differs`] or [`HistoryFault::Log`] if the logs do not
 ///   continue one another up to that transaction;
@@ -296,15 +348,16 @@ pub fn shown_of<S: Folder, L: Folder>(
     if has_no_files(held.as_slice(), logged.as_slice()) {
         return Err(HistoryFault::Empty);
     }
-    let upto = zxid_of(alloc, logs, logged.as_slice(), upto)?;
-    let begun = candidates(alloc, held.as_slice(), upto)?;
-    shown_from(
+    let zxid = zxid_of(alloc, logs, logged.as_slice(), upto)?;
+    let begun = candidates(alloc, held.as_slice(), zxid)?;
+    let found = shown_from(
         alloc,
         snapshots,
         logs,
         held.as_slice(),
         logged.as_slice(),
-        upto,
+        zxid,
         begun.as_slice(),
-    )
+    );
+    proved(upto, found)
 }

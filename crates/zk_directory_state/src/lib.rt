@@ -7,7 +7,9 @@
 
 mod attempt;
 mod counting;
+mod ends;
 mod entries;
+mod evidence;
 mod fault_causes;
 mod folded_directory;
 mod history;
@@ -15,6 +17,7 @@ mod joining;
 mod list_directory;
 mod listing;
 mod logs;
+mod notices;
 mod records;
 mod report;
 mod restoration;
@@ -32,6 +35,7 @@ pub use joining::{check_end, take_entry};
 pub use list_directory::list;
 pub use listing::first_zxid;
 pub use logs::{logs_in, read_logs, slices_of, snapshots_in};
+pub use notices::{Noticed, notices_text, put_noticed, put_with_notices};
 pub use restoration::{Base, Restore};
 pub use restore_fault::{DirectoryFault, RestoreFault};
 pub use restored_directory::{Restored, restore};

@@ -104,7 +104,7 @@ fn push_equal(text: &mut String, equal: u64) -> Result<(), NoMemory>
 
 /// Appends how many are not, and the zxid of the first of these, if there is one.
 #[tactic(auto, unfolding(crate::specs::Reports::other_line))]
-fn push_other(text: &mut String, other: u64, first: Option<i64>) -> Result<(), NoMemory>
+pub(crate) fn push_other(text: &mut String, other: u64, first: Option<i64>) -> Result<(), NoMemory>
     ensures { OnOk result (string_bytes text.new ≡ string_bytes text.old ++ other_line other first) }
 {
     let Some(first) = first else {

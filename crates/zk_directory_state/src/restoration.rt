@@ -1,13 +1,18 @@
 //! A restoration under way.
-ghost use Rattle.std.specs.Prelude.{◌≡◌};
+ghost use Rattle.std.specs.Prelude.{◌≡◌, IfOk};
+ghost use Rattle.zk_directory.specs.Chains.{history_of};
+ghost use Rattle.zk_directory.specs.Joints.{joints_of};
+ghost use Rattle.zk_directory_state.specs.Ends.{last_time};
 ghost use Rattle.zk_directory_state.specs.Restorations.{Begins, Finishes, Goes, GoesThrough, is_before};
 
 use crate::counting::take_counting;
+use crate::ends::last_time;
 use crate::joining::{check_end, take_entry};
 use crate::restore_fault::RestoreFault;
 use std::alloc::Global;
-use zk_directory::{Chain, FileEntry, LogFile, Turn};
+use zk_directory::{Chain, FileEntry, Joint, LogFile, Turn};
 use zk_fold::Fold;
+use zk_path::NoMemory;
 use zk_replay::{DigestCount, Digests, Draft, Stage, finish};
 use zk_snapshot::Contents;
 
@@ -194,5 +199,19 @@ impl<'a> Restore<'a> {
         ensures { result ≡ self.now.chain.position }
     {
         self.chain.position
+    }
+
+    /// The time of the last entry that was taken, in milliseconds since 1970; `None` if there is none.
+    pub fn time(&self) -> Option<i64>
+        ensures { result ≡ last_time (history_of self.now.chain).taken }
+    {
+        last_time(&self.chain.taken)
+    }
+
+    /// The places at which an epoch follows another, and nothing shows that the first is whole.
+    pub fn joints(&self, alloc: Global) -> Result<Vec<Joint>, NoMemory>
+        ensures { IfOk result (λ joints. joints.items ≡ joints_of (history_of self.now.chain) self.now.digests.count.last) }
+    {
+        self.chain.joints(alloc, self.digests().last)
     }
 }

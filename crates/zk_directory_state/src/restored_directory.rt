@@ -2,10 +2,11 @@
 ghost use Rattle.std.specs.Prelude.{◌≡◌};
 ghost use Rattle.zk_directory_state.specs.Directories.{IsRestored, ReadsLog, ReadsLogs, ending_of};
 
+use crate::ends::next_by;
 use crate::restoration::{Base, Restore};
 use crate::restore_fault::{DirectoryFault, RestoreFault};
 use std::alloc::Global;
-use zk_directory::{LogFile, read_log_file};
+use zk_directory::{Joint, LogFile, read_log_file};
 use zk_fold::Fold;
 use zk_log::Ending;
 use zk_replay::DigestCount;
@@ -23,6 +24,14 @@ pub struct Restored {
     pub ending: Option<Ending>,
     /// The digests of the records after the snapshot's window, compared with those of the trees.
     pub digests: DigestCount,
+    /// The zxid of the entry at which reading stopped, since all that was asked for was taken; `None`
+    /// if the logs were read to their end.
+    pub next: Option<i64>,
+    /// The time of the last entry that was taken, in milliseconds since 1970; `None` if there is none.
+    pub time: Option<i64>,
+    /// The places among the entries at which an epoch follows another, and nothing shows that the
+    /// first is whole.
+    pub joints: Vec<Joint>,
 }
 
 /// How far logs were read.
@@ -33,6 +42,8 @@ struct Progress<'a> {
     read: usize,
     /// How the last one ends.
     ending: Option<Ending>,
+    /// The zxid of the entry at which reading stopped.
+    next: Option<i64>,
 }
 
 /// A log that was read.
@@ -42,6 +53,8 @@ struct Step<'a> {
     ending: Option<Ending>,
     /// Whether reading goes on with the next file.
     goes_on: bool,
+    /// The zxid of the entry at which reading stopped.
+    next: Option<i64>,
 }
 
 /// How a log file ends, unless it is broken.
@@ -64,10 +77,12 @@ fn read_log<'a>(
 {
     let file = read_log_file(alloc, bytes)?;
     let (restore, goes_on) = restore.take_file(alloc, &file)?;
+    let next = next_by(goes_on, restore.position(), file.entries.as_slice());
     Ok(Step {
         restore,
         ending: ending_of(&file),
         goes_on,
+        next,
     })
 }
 
@@ -88,6 +103,7 @@ fn read_logs<'a>(
             restore: next,
             ending: last,
             goes_on,
+            next: stop,
         } = match read_log(alloc, restore, *bytes) {
             Ok(step) => step,
             Err(fault) => return Err(DirectoryFault { log: read, fault }),
@@ -100,6 +116,7 @@ fn read_logs<'a>(
                 restore,
                 read,
                 ending,
+                next: stop,
             });
         }
     }
@@ -107,6 +124,7 @@ fn read_logs<'a>(
         restore,
         read,
         ending,
+        next: None,
     })
 }
 
@@ -132,9 +150,13 @@ pub fn restore<'a>(
         restore,
         read,
         ending,
+        next,
     } = read_logs(alloc, start, logs)?;
-    let position = restore.position();
-    let digests = restore.digests();
+    let (position, digests, time) = (restore.position(), restore.digests(), restore.time());
+    let Ok(joints) = restore.joints(alloc) else {
+        let fault = RestoreFault::NoMemory;
+        return Err(DirectoryFault { log: read, fault });
+    };
     match restore.finish(alloc) {
         Ok(table) => Ok(Restored {
             table,
@@ -142,6 +164,9 @@ pub fn restore<'a>(
             read,
             ending,
             digests,
+            next,
+            time,
+            joints,
         }),
         Err(fault) => Err(DirectoryFault { log: read, fault }),
     }

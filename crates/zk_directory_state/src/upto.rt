@@ -1,9 +1,10 @@
 //! Up to which transaction a directory is shown.
 ghost use Rattle.std.specs.Prelude.{◌≡◌, pos, IfOk, IfErr};
-ghost use Rattle.zk_directory_state.specs.Histories.{IsLatestAt, IsLatestIn, IsUpto, later_at, latest_in};
+ghost use Rattle.zk_directory_state.specs.Histories.{FindsTime, FindsUpto, HaveEntry, IsLatestAt, IsLatestIn, later_at, latest_in};
 ghost use Rattle.zk_directory_state.specs.Logs.{IsUnread};
 
-use crate::logs::read_log;
+use crate::evidence::start_of;
+use crate::logs::{read_log, read_logs, slices_of};
 use std::alloc::Global;
 use zk_directory::{FileEntry, read_log_file};
 use zk_directory_files::{Folder, HistoryFault};
@@ -21,20 +22,52 @@ pub enum Upto {
 }
 
 /// The zxid up to which transactions are shown; `None` for the end of the logs.
+///
+/// Fails with [`HistoryFault::NoTransaction`] if a time is asked for, and no log has a transaction.
 pub(crate) fn zxid_of<L: Folder>(
     alloc: Global,
     logs: &L,
     logged: &[i64],
     upto: Upto,
 ) -> Result<Option<i64>, HistoryFault>
-    ensures upto { IfOk result (λ zxid. IsUpto (L.bytes_in logs.now) logged.now upto zxid) }
-    ensures unread { IfErr result (λ fault. IsUnread fault) }
+    ensures { FindsUpto (L.bytes_in logs.now) logged.now upto result }
 {
     match upto {
         Upto::Last => Ok(None),
         Upto::Zxid { zxid } => Ok(Some(zxid)),
-        Upto::Time { time } => Ok(Some(zxid_at(alloc, logs, logged, time)?)),
+        Upto::Time { time } => Ok(Some(last_at(alloc, logs, logged, time)?)),
     }
+}
+
+/// The greatest zxid of a transaction of these logs that has this time or an earlier one; or 0, if
+/// they have only later ones.
+fn last_at<L: Folder>(
+    alloc: Global,
+    logs: &L,
+    logged: &[i64],
+    time: i64,
+) -> Result<i64, HistoryFault>
+    ensures { FindsTime (L.bytes_in logs.now) time logged.now result }
+{
+    let latest = zxid_at(alloc, logs, logged, time)?;
+    if latest != 0 {
+        return Ok(latest);
+    }
+    if have_entry(alloc, logs, logged)? {
+        Ok(latest)
+    } else {
+        Err(HistoryFault::NoTransaction)
+    }
+}
+
+/// Whether one of these logs has an entry.
+fn have_entry<L: Folder>(alloc: Global, logs: &L, logged: &[i64]) -> Result<bool, HistoryFault>
+    ensures have { IfOk result (λ has. HaveEntry (L.bytes_in logs.now) logged.now has) }
+    ensures unread { IfErr result (λ fault. IsUnread fault) }
+{
+    let loaded = read_logs(alloc, logs, logged)?;
+    let slices = slices_of(alloc, loaded.as_slice())?;
+    Ok(start_of(alloc, slices.as_slice())?.is_some())
 }
 
 /// The greatest zxid of a transaction of these logs that has this time or an earlier one, or 0.

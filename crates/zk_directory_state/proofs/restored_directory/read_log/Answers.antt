@@ -1,4 +1,4 @@
-use Rattle.std.proofs.Common.{Err, sym, subst}
+use Rattle.std.proofs.Common.{rules, Err, sym, subst}
 use Rattle.std.proofs.lemmas.Result.{err_from_is_err_and}
 use Rattle.zk_directory_state.proofs.Files.{log_fails}
 use Rattle.zk_directory_state.specs.Directories.{ReadsLog}
@@ -17,4 +17,5 @@ returns c = record {
   of_bytes = c.in_ok-file.ensures;
   after = c.in_ok-restore.ensures;
   ending = c.ending_of.ensures;
+  next = search rules;
 }
