@@ -68,14 +68,14 @@ const OF_LOGS: [Explanation; 13] = [
     },
 ];
 
-const OF_DIRECTORIES: [Explanation; 14] = [
+const OF_DIRECTORIES: [Explanation; 19] = [
     Explanation {
         code: "D1",
         words: "The directory has no snapshot.* and no log.*: name the one above version-2, and that of the logs with `--logs`.",
     },
     Explanation {
         code: "D2",
-        words: "No snapshot serves, and the logs begin with this transaction: ask for a later one. `zk files DIR` lists the snapshots.",
+        words: "No snapshot serves, and the logs begin with this transaction: earlier files are missing. `zk files DIR` lists the snapshots.",
     },
     Explanation {
         code: "D3",
@@ -92,6 +92,26 @@ const OF_DIRECTORIES: [Explanation; 14] = [
     Explanation {
         code: "D6",
         words: "The snapshot is exact from this transaction on, and no earlier one serves: ask for it or a later one.",
+    },
+    Explanation {
+        code: "D7",
+        words: "What was asked for comes after this transaction, the last one in the files: name the directory of the logs with `--logs`, or ask for `last`.",
+    },
+    Explanation {
+        code: "D8",
+        words: "No log has a transaction: name the directory of the logs with `--logs`.",
+    },
+    Explanation {
+        code: "ends",
+        words: "No log has a transaction after this snapshot's: if the logs are in another directory, name it with `--logs`.",
+    },
+    Explanation {
+        code: "unproved",
+        words: "Nothing shows that the first transaction is the last one of its epoch: a log between the two may be missing. Compare the directory of another server.",
+    },
+    Explanation {
+        code: "otherDigest",
+        words: "The server had another tree after this number of transactions, from this one on: it lost transactions, or files are missing.",
     },
     Explanation {
         code: "S1",

@@ -453,9 +453,17 @@ Of a directory these have the file's NAME before AT, and there are more:
               the logs end before ZXID, from which this snapshot is exact
   D6 NAME ZXID
               this snapshot is exact from ZXID on, and no earlier one serves
+  D7 LAST     what was asked for comes after LAST, the last transaction
+  D8          no log has a transaction
   S1 NAME to S8 NAME
               this snapshot is unusable, and no log has a record
 and `read` and `write` if a file or directory cannot be opened or written, and `memory`.
+With status 0, on what a tree rests beyond the files:
+  ends ZXID   no log has a transaction after this snapshot's
+  unproved LAST NEXT
+              nothing shows that LAST is the last transaction of its epoch
+  otherDigest N FIRST
+              N records, from FIRST on, state other digests than those of the trees
 
 With --json a line is an object of JSON. `zk list` also takes --time iso, for times in UTC, and of a
 directory --follow: it goes on as the server writes, until it is stopped or its output is closed.
