@@ -1,4 +1,6 @@
 -- What the contracts of this crate cite.
+pub mod Breaks
+pub mod Findings
 pub mod Helps
 pub mod Marks
 pub mod Reports

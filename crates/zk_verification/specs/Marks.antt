@@ -8,6 +8,10 @@ use Rattle.zk_log.specs.declared.loaded.Ending.{Ending}
 use Rattle.zk_directory.specs.declared.file.LogFileFault.{LogFileFault}
 use Rattle.zk_verification.specs.declared.mark.Mark.{Mark}
 use Rattle.zk_verification.specs.declared.mark.Mark.TheVariants as marks
+use Rattle.zk_verification.specs.declared.mark.Moment.{Moment}
+
+abbrev pub moment_of : FileEntry → Moment
+moment_of entry = record { zxid = entry.newer.txn.zxid; time = entry.newer.txn.time }
 
 abbrev pub span_by : Option FileEntry → Option FileEntry → Option (ℤ × ℤ)
 span_by (Some first) (Some last) = Some (first.newer.txn.zxid, last.newer.txn.zxid)
@@ -26,14 +30,16 @@ ending_of (Err fault) = None
 abbrev pub log_mark : ℤ → LogFile → Mark
 log_mark zxid file = marks.Log zxid (length file.entries.items) (span_of file.entries.items) (ending_of file.outcome)
 
-abbrev pub is_some : Option ℤ → Bool
-is_some None = false
-is_some (Some zxid) = true
-
--- a fault, or a mismatched digest
+-- a fault, a place of a log that lost transactions, or digests that show that some are missing or that
+-- the tree is another
 abbrev pub is_wrong : Mark → Bool
 is_wrong (marks.Log zxid records span ending) = false
-is_wrong (marks.States snapshot exact last digests) = is_some digests.first
+is_wrong (marks.States snapshot exact last digests) = false
+is_wrong (marks.Stopped snapshot) = false
+is_wrong (marks.Joint joint missing) = missing
+is_wrong (marks.Lost damage) = true
+is_wrong (marks.Gap before after) = true
+is_wrong (marks.Digest mismatch) = true
 is_wrong (marks.Wrong fault) = true
 
 abbrev pub wrong_in : List Mark → ℕ

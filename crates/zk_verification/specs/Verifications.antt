@@ -10,8 +10,10 @@ use Rattle.zk_directory_files.specs.Folders.{IsGiven}
 use Rattle.zk_directory_files.specs.Names.{log_name, log_zxid, snapshot_name, snapshot_zxid}
 use Rattle.zk_directory_files.specs.declared.fault.HistoryFault.{HistoryFault}
 use Rattle.zk_directory_files.specs.declared.fault.HistoryFault.TheVariants as faults
-use Rattle.zk_verification.specs.Following.{FollowsBytes, IsFollowedEmpty}
+use Rattle.zk_verification.specs.Findings.{AreFound}
+use Rattle.zk_verification.specs.Following.{FollowsBytes, IsFollowedEmpty, settled}
 use Rattle.zk_verification.specs.Surveys.{AreSurveyed, Surveyed, start_survey}
+use Rattle.zk_verification.specs.declared.breaks.Break.{Break}
 use Rattle.zk_verification.specs.declared.log_bytes.LogBytes.{LogBytes}
 use Rattle.zk_verification.specs.declared.mark.Mark.{Mark}
 use Rattle.zk_verification.specs.declared.mark.Mark.TheVariants as marks
@@ -38,40 +40,51 @@ log_bytes log = log.bytes.items
 -- ---- the snapshots
 
 -- what the snapshot of this zxid leads to, unless it cannot be read
-abbrev pub IsVerdict : (List ℕ → Option (List ℕ)) → List ℤ → List ℤ → List (Bor (List ℕ)) → ℤ → Option ℤ → Mark → Type 0
-IsVerdict bytes_in ends logged logs zxid next mark =
-    ((bytes : List ℕ) × IsGiven (bytes_in (snapshot_name zxid)) bytes × FollowsBytes bytes zxid ends next logged logs mark)
+abbrev pub IsVerdict : (List ℕ → Option (List ℕ)) → List Break → List ℤ → List (Bor (List ℕ)) → ℤ → Option ℤ → Mark → Type 0
+IsVerdict bytes_in breaks logged logs zxid next mark =
+    ((bytes : List ℕ) × IsGiven (bytes_in (snapshot_name zxid)) bytes × FollowsBytes bytes zxid breaks next logged logs mark)
     ⊎ (mark ≡ marks.Wrong (faults.Unreadable (names.Snapshot zxid)))
+
+-- the same, but for a fault that the marks of the logs say already
+abbrev pub IsSettled : List Mark → (List ℕ → Option (List ℕ)) → List Break → List ℤ → List (Bor (List ℕ)) → ℤ → Option ℤ → Mark → Type 0
+IsSettled said bytes_in breaks logged logs zxid next mark = (verdict : Mark) × IsVerdict bytes_in breaks logged logs zxid next verdict × (mark ≡ settled said (Some zxid) verdict)
 
 -- a snapshot that serves is exact from this zxid on
 abbrev pub next_after : Option ℤ → Mark → Option ℤ
 next_after next (marks.States snapshot exact last digests) = Some exact.zxid
-next_after next (marks.Log zxid records span ending) = next
-next_after next (marks.Wrong fault) = next
+next_after next mark = next
 
 -- these snapshots, the latest first, after the one that is exact from `next` on
-abbrev pub AreFollowed : (List ℕ → Option (List ℕ)) → List ℤ → List ℤ → List (Bor (List ℕ)) → List ℤ → Option ℤ → List Mark → Type 0
-AreFollowed bytes_in ends logged logs [] next followed = followed ≡ []
-AreFollowed bytes_in ends logged logs (zxid ∷ zxids) next followed =
-    (mark : Mark) × (rest : List Mark) × IsVerdict bytes_in ends logged logs zxid next mark × AreFollowed bytes_in ends logged logs zxids (next_after next mark) rest × (followed ≡ mark ∷ rest)
+abbrev pub AreFollowed : List Mark → (List ℕ → Option (List ℕ)) → List Break → List ℤ → List (Bor (List ℕ)) → List ℤ → Option ℤ → List Mark → Type 0
+AreFollowed said bytes_in breaks logged logs [] next followed = followed ≡ []
+AreFollowed said bytes_in breaks logged logs (zxid ∷ zxids) next followed =
+    (mark : Mark) × (rest : List Mark) × IsSettled said bytes_in breaks logged logs zxid next mark × AreFollowed said bytes_in breaks logged logs zxids (next_after next mark) rest × (followed ≡ mark ∷ rest)
 
 -- what the logs lead to from the empty tree, if there is no snapshot
-abbrev pub IsEmptyBy : List ℤ → List ℤ → List ℤ → List (Bor (List ℕ)) → List Mark → Type 0
-IsEmptyBy (zxid ∷ held) ends logged logs followed = followed ≡ []
-IsEmptyBy [] ends logged logs followed = (mark : Mark) × IsFollowedEmpty ends logged logs mark × (followed ≡ mark ∷ [])
+abbrev pub IsEmptyBy : List Mark → List ℤ → List Break → List ℤ → List (Bor (List ℕ)) → List Mark → Type 0
+IsEmptyBy said (zxid ∷ held) breaks logged logs followed = followed ≡ []
+IsEmptyBy said [] breaks logged logs followed = (verdict : Mark) × IsFollowedEmpty breaks logged logs verdict × (followed ≡ settled said None verdict ∷ [])
 
 -- ---- the directory
+
+-- what the snapshots lead to, the latest first; or the logs from the empty tree
+pub record AreStates (surveyed : Surveyed) (snapshot_bytes : List ℕ → Option (List ℕ)) (held logged : List ℤ) (loaded : List LogBytes) (states : List Mark) : Type 0 where
+  pub logs : List (Bor (List ℕ))
+  pub same : map bytes_of logs ≡ map log_bytes loaded
+  pub followed : List Mark
+  pub are_followed : AreFollowed surveyed.marks snapshot_bytes surveyed.breaks logged logs (reverse held) None followed
+  pub empty : List Mark
+  pub is_empty : IsEmptyBy surveyed.marks held surveyed.breaks logged logs empty
+  pub are : states ≡ followed ++ empty
 
 pub record AreMarked (snapshot_bytes : List ℕ → Option (List ℕ)) (held logged : List ℤ) (loaded : List LogBytes) (all : List Mark) : Type 0 where
   pub surveyed : Surveyed
   pub is_survey : AreSurveyed start_survey loaded surveyed
-  pub logs : List (Bor (List ℕ))
-  pub same : map bytes_of logs ≡ map log_bytes loaded
-  pub followed : List Mark
-  pub are_followed : AreFollowed snapshot_bytes surveyed.ends logged logs (reverse held) None followed
-  pub empty : List Mark
-  pub is_empty : IsEmptyBy held surveyed.ends logged logs empty
-  pub are : all ≡ surveyed.marks ++ followed ++ empty
+  pub states : List Mark
+  pub are_states : AreStates surveyed snapshot_bytes held logged loaded states
+  pub found : List Mark
+  pub are_found : AreFound surveyed.history states found
+  pub are : all ≡ surveyed.marks ++ states ++ found
 
 pub record IsChecked (snapshots : Option (List (List ℕ))) (snapshot_bytes : List ℕ → Option (List ℕ)) (logs : Option (List (List ℕ))) (log_bytes : List ℕ → Option (List ℕ)) (all : List Mark) : Type 0 where
   pub held : List ℤ
@@ -91,8 +104,8 @@ FindsMarks snapshots snapshot_bytes logs log_bytes (Err fault) = IsUnread fault
 
 -- ---- calls within
 
-abbrev pub FollowsOn : (List ℕ → Option (List ℕ)) → List ℤ → List ℤ → List (Bor (List ℕ)) → List ℤ → Option ℤ → List Mark → List Mark → Type 0
-FollowsOn bytes_in ends logged logs zxids next old new = (followed : List Mark) × AreFollowed bytes_in ends logged logs zxids next followed × (new ≡ old ++ followed)
+abbrev pub FollowsOn : List Mark → (List ℕ → Option (List ℕ)) → List Break → List ℤ → List (Bor (List ℕ)) → List ℤ → Option ℤ → List Mark → List Mark → Type 0
+FollowsOn said bytes_in breaks logged logs zxids next old new = (followed : List Mark) × AreFollowed said bytes_in breaks logged logs zxids next followed × (new ≡ old ++ followed)
 
-abbrev pub FollowsEmpty : List ℤ → List ℤ → List ℤ → List (Bor (List ℕ)) → List Mark → List Mark → Type 0
-FollowsEmpty held ends logged logs old new = (empty : List Mark) × IsEmptyBy held ends logged logs empty × (new ≡ old ++ empty)
+abbrev pub FollowsEmpty : List Mark → List ℤ → List Break → List ℤ → List (Bor (List ℕ)) → List Mark → List Mark → Type 0
+FollowsEmpty said held breaks logged logs old new = (empty : List Mark) × IsEmptyBy said held breaks logged logs empty × (new ≡ old ++ empty)

@@ -1,9 +1,12 @@
 //! What a snapshot leads to.
 ghost use Rattle.std.specs.Prelude.{◌≡◌, IfOk, drop};
+ghost use Rattle.std.specs.List.{list_any};
 ghost use Rattle.zk_directory_state.specs.Attempts.{FindsExact, broken_by, passed_fault};
-ghost use Rattle.zk_verification.specs.Following.{Follows, FollowsBytes, IsFollowedEmpty, IsRestoredTo, Marks, first_end, upto_of};
+ghost use Rattle.zk_verification.specs.Following.{Follows, FollowsBytes, IsFollowedEmpty, IsRestoredTo, Marks, is_broken, says, settled, upto_of};
 
 use crate::Mark;
+use crate::breaks::{Break, earlier, greater, reach_of};
+use crate::survey::is_differing;
 use std::alloc::Global;
 use zk_directory::first_log;
 use zk_directory_files::{HistoryFault, PassedFault};
@@ -11,20 +14,6 @@ use zk_directory_state::{Base, DirectoryFault, Restored, history_fault, restore,
 use zk_path::NoMemory;
 use zk_replay::{BaseFault, Exact, exact_from};
 use zk_snapshot::{Snapshot, SnapshotFault, read_snapshot};
-
-/// The first of these zxids, in order, that is not below `zxid`.
-fn first_end(zxid: i64, ends: &[i64]) -> Option<i64>
-    ensures { result ≡ first_end zxid ends.now }
-{
-    let mut rest = ends;
-    while let [end, more @ ..] = rest {
-        if zxid <= *end {
-            return Some(*end);
-        }
-        rest = more;
-    }
-    None
-}
 
 /// Up to which zxid a snapshot is followed that is exact from a zxid on: to the end of the history,
 /// or to the zxid from which the next snapshot is exact, if there is one.
@@ -34,11 +23,7 @@ fn upto_of(end: Option<i64>, next: Option<i64>, exact: Exact) -> Option<i64>
     let Some(next) = next else {
         return end;
     };
-    let next = if next < exact.zxid { exact.zxid } else { next };
-    match end {
-        Some(end) if end < next => Some(end),
-        _ => Some(next),
-    }
+    earlier(end, greater(next, exact.zxid))
 }
 
 /// From which zxid on a replay of a snapshot is exact. If the file does not state it, the logs do.
@@ -152,12 +137,12 @@ fn follow(
     alloc: Global,
     snapshot: &Snapshot,
     zxid: i64,
-    ends: &[i64],
+    breaks: &[Break],
     next: Option<i64>,
     logged: &[i64],
     logs: &[&[u8]],
 ) -> Result<Mark, NoMemory>
-    ensures { IfOk result (λ mark. Follows snapshot.now zxid ends.now next logged.now logs.now mark) }
+    ensures { IfOk result (λ mark. Follows snapshot.now zxid breaks.now next logged.now logs.now mark) }
 {
     let exact = match exact_of(alloc, snapshot, zxid, logs) {
         Ok(exact) => exact,
@@ -170,24 +155,23 @@ fn follow(
             }));
         }
     };
-    let upto = upto_of(first_end(zxid, ends), next, exact);
+    let upto = upto_of(reach_of(zxid, breaks), next, exact);
     restore_to(alloc, snapshot, zxid, exact, upto, logged, logs)
 }
 
-/// What the snapshot of this zxid, with these bytes, leads to: states, or a fault. It is followed to
-/// the first of `ends`, in order, that is not below it, and not beyond the zxid `next` from which
-/// the next snapshot is exact. `logs` are all logs of the directory, in order, and `logged` the zxids
+/// What the snapshot of this zxid, with these bytes, leads to: states, or a fault. It is followed as
+/// far as the breaks allow, and not beyond the zxid `next` from which the next snapshot is exact. `logs` are all logs of the directory, in order, and `logged` the zxids
 /// in their names.
 pub(crate) fn follow_snapshot(
     alloc: Global,
     bytes: &[u8],
     zxid: i64,
-    ends: &[i64],
+    breaks: &[Break],
     next: Option<i64>,
     logged: &[i64],
     logs: &[&[u8]],
 ) -> Result<Mark, NoMemory>
-    ensures { IfOk result (λ mark. FollowsBytes bytes.now zxid ends.now next logged.now logs.now mark) }
+    ensures { IfOk result (λ mark. FollowsBytes bytes.now zxid breaks.now next logged.now logs.now mark) }
 {
     match read_snapshot(alloc, bytes) {
         Ok(snapshot) => {
@@ -196,7 +180,7 @@ pub(crate) fn follow_snapshot(
                 alloc,
                 &snapshot,
                 zxid,
-                ends,
+                breaks,
                 next,
                 from_place(logged, first),
                 from_place(logs, first),
@@ -212,20 +196,20 @@ pub(crate) fn follow_snapshot(
     }
 }
 
-/// What all logs lead to from the empty tree, up to the first of `ends`.
+/// What all logs lead to from the empty tree, as far as the breaks allow.
 pub(crate) fn follow_empty(
     alloc: Global,
-    ends: &[i64],
+    breaks: &[Break],
     logged: &[i64],
     logs: &[&[u8]],
 ) -> Result<Mark, NoMemory>
-    ensures { IfOk result (λ mark. IsFollowedEmpty ends.now logged.now logs.now mark) }
+    ensures { IfOk result (λ mark. IsFollowedEmpty breaks.now logged.now logs.now mark) }
 {
     let exact = Exact {
         zxid: 0,
         is_told: true,
     };
-    let upto = first_end(0, ends);
+    let upto = reach_of(0, breaks);
     mark_of(
         None,
         exact,
@@ -233,4 +217,42 @@ pub(crate) fn follow_empty(
         logged,
         restore(alloc, Base::Empty, upto, logs),
     )
+}
+
+/// A mark of a snapshot, or of the empty tree, unless its fault is among the marks that were made.
+pub(crate) fn settled(said: &[Mark], snapshot: Option<i64>, mark: Mark) -> Mark
+    ensures { result ≡ settled said.now snapshot mark }
+{
+    match &mark {
+        Mark::Wrong(fault) if is_said(said, fault) => Mark::Stopped { snapshot },
+        _ => mark,
+    }
+}
+
+/// Whether a mark says what the fault says.
+fn is_said(said: &[Mark], fault: &HistoryFault) -> bool
+    ensures { result ≡ list_any (says fault.now) said.now }
+{
+    said.iter().any(|mark| says(fault, mark))
+}
+
+fn says(fault: &HistoryFault, mark: &Mark) -> bool
+    ensures { result ≡ says fault.now mark.now }
+{
+    match fault {
+        HistoryFault::Log { log, .. } => is_broken(mark, *log),
+        HistoryFault::Differs { log, .. } => is_differing(Some(mark), *log),
+        _ => false,
+    }
+}
+
+/// Whether a mark says that a log is broken at the place where a server stops reading it.
+fn is_broken(mark: &Mark, log: i64) -> bool
+    ensures { result ≡ is_broken mark.now log }
+{
+    match mark {
+        Mark::Lost(damage) => damage.log == log,
+        Mark::Wrong(HistoryFault::Log { log: marked, .. }) => *marked == log,
+        _ => false,
+    }
 }

@@ -12,6 +12,8 @@ pub enum Kind {
     Snapshot,
     /// A log is broken.
     Log,
+    /// Intact entries follow a damaged place of a log.
+    Lost,
     /// The first transactions are missing.
     Purged,
     /// Transactions are missing between two.
@@ -27,9 +29,10 @@ pub enum Kind {
 }
 
 /// All kinds, in the order of their lines.
-pub const KINDS: [Kind; 8] = [
+pub const KINDS: [Kind; 9] = [
     Kind::Snapshot,
     Kind::Log,
+    Kind::Lost,
     Kind::Purged,
     Kind::Gap,
     Kind::Differs,
@@ -66,6 +69,7 @@ fn is_kind(kind: Kind, other: Kind) -> bool
     match (kind, other) {
         (Kind::Snapshot, Kind::Snapshot) => true,
         (Kind::Log, Kind::Log) => true,
+        (Kind::Lost, Kind::Lost) => true,
         (Kind::Purged, Kind::Purged) => true,
         (Kind::Gap, Kind::Gap) => true,
         (Kind::Differs, Kind::Differs) => true,
@@ -82,7 +86,12 @@ fn is_of(kind: Kind, mark: &Mark) -> bool
 {
     match mark {
         Mark::Log { .. } => false,
-        Mark::States { digests, .. } => digests.first.is_some() && is_kind(kind, Kind::Digests),
+        Mark::States { .. } => false,
+        Mark::Stopped { .. } => false,
+        Mark::Joint { is_missing, .. } => *is_missing && is_kind(kind, Kind::Gap),
+        Mark::Lost(_) => is_kind(kind, Kind::Lost),
+        Mark::Gap { .. } => is_kind(kind, Kind::Gap),
+        Mark::Digest(_) => is_kind(kind, Kind::Digests),
         Mark::Wrong(fault) => is_kind(kind, kind_of(fault)),
     }
 }
@@ -103,10 +112,12 @@ pub fn help_line(kind: Kind) -> &'static str
             "help S1 to S8: a server passes over a broken snapshot, and begins at an earlier one; move it away\n",
         Kind::Log =>
             "help G1 to G5: a server does not start over a broken log; move the directory away, and let the server copy its leader's tree\n",
+        Kind::Lost =>
+            "help lost: a server reads a log no further than to a damaged place, or does not start; move the directory away, and let the server copy its leader's tree\n",
         Kind::Purged =>
             "help D2: earlier files were purged; take a snapshot and the logs after it from another server\n",
         Kind::Gap =>
-            "help D3: transactions are missing; take the logs of another server by --logs\n",
+            "help D3, missing: transactions are missing; take the logs of another server by --logs\n",
         Kind::Differs =>
             "help D4: the logs hold two histories; `zk compare` another server's directory, and keep the logs that agree with it\n",
         Kind::Window =>

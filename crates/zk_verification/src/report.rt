@@ -2,14 +2,16 @@
 ghost use Rattle.std.specs.Prelude.{◌≡◌, ◌++◌, IfOk, OnOk};
 ghost use Rattle.std.specs.List.{flat_map};
 ghost use Rattle.std.specs.String.{string_bytes};
+ghost use Rattle.zk_directory_files.specs.FaultLines.{fault_line};
 ghost use Rattle.zk_directory_files.specs.Files.{exact_text};
 ghost use Rattle.zk_verification.specs.Marks.{wrong_in};
-ghost use Rattle.zk_verification.specs.Reports.{base_text, ending_text, help_text, log_text, mark_text, mismatch_text, numbers_text, other_text, report_of, span_text, states_text, verdict_text};
+ghost use Rattle.zk_verification.specs.Reports.{AppendsMark, AppendsMarks, IsReport, base_text, ending_text, help_text, log_text, other_text, span_text, states_text, stopped_text, verdict_text};
 
 use crate::help::{KINDS, Kind, has_kind, help_line};
 use crate::mark::Mark;
+use crate::report_lines::{push_gap, push_joint, push_lost, push_mismatch};
 use std::alloc::Global;
-use zk_directory_files::{fault_line, push_log_name, push_snapshot_name};
+use zk_directory_files::{HistoryFault, fault_line, push_log_name, push_snapshot_name};
 use zk_format::push_id;
 use zk_log::Ending;
 use zk_path::NoMemory;
@@ -30,9 +32,9 @@ pub fn count_wrong(marks: &[Mark]) -> usize
 
 /// The report: a line for each log and for each snapshot that serves, a line for each fault, what
 /// helps, and `well` or how many faults there are.
-#[tactic(auto, unfolding(crate::specs::Reports::report_of))]
+#[tactic(auto, using(crate::proofs::Written::reported))]
 pub fn report_text(alloc: Global, marks: &[Mark]) -> Result<String, NoMemory>
-    ensures { IfOk result (λ text. string_bytes text ≡ report_of marks.now) }
+    ensures { IfOk result (λ text. IsReport marks.now (string_bytes text)) }
 {
     let mut text = String::new(alloc);
     push_marks(&mut text, marks)?;
@@ -41,8 +43,9 @@ pub fn report_text(alloc: Global, marks: &[Mark]) -> Result<String, NoMemory>
     Ok(text)
 }
 
+#[tactic(auto, using(crate::proofs::Written::none_marked, crate::proofs::Written::all_marked))]
 fn push_marks(text: &mut String, marks: &[Mark]) -> Result<(), NoMemory>
-    ensures { OnOk result (string_bytes text.new ≡ string_bytes text.old ++ flat_map mark_text marks.now) }
+    ensures { OnOk result (AppendsMarks marks.now (string_bytes text.old) (string_bytes text.new)) }
 {
     for mark in marks {
         push_mark(text, mark)?;
@@ -51,7 +54,7 @@ fn push_marks(text: &mut String, marks: &[Mark]) -> Result<(), NoMemory>
 }
 
 fn push_mark(text: &mut String, mark: &Mark) -> Result<(), NoMemory>
-    ensures { OnOk result (string_bytes text.new ≡ string_bytes text.old ++ mark_text mark.now) }
+    ensures { OnOk result (AppendsMark mark.now (string_bytes text.old) (string_bytes text.new)) }
 {
     match mark {
         Mark::Log {
@@ -66,12 +69,22 @@ fn push_mark(text: &mut String, mark: &Mark) -> Result<(), NoMemory>
             last,
             digests,
         } => push_states(text, *snapshot, *exact, *last, *digests),
-        Mark::Wrong(fault) => {
-            let line = fault_line(*text.allocator(), fault)?;
-            text.push_str(line.as_str())?;
-            Ok(())
-        }
+        Mark::Stopped { snapshot } => push_stopped(text, *snapshot),
+        Mark::Joint { joint, is_missing } => push_joint(text, joint, *is_missing),
+        Mark::Lost(damage) => push_lost(text, damage),
+        Mark::Gap { before, after } => push_gap(text, *before, after),
+        Mark::Digest(mismatch) => push_mismatch(text, mismatch),
+        Mark::Wrong(fault) => push_wrong(text, fault),
     }
+}
+
+/// Appends the line of a fault.
+fn push_wrong(text: &mut String, fault: &HistoryFault) -> Result<(), NoMemory>
+    ensures { OnOk result (string_bytes text.new ≡ string_bytes text.old ++ fault_line fault.now) }
+{
+    let line = fault_line(*text.allocator(), fault)?;
+    text.push_str(line.as_str())?;
+    Ok(())
 }
 
 /// Appends the line of a log.
@@ -120,7 +133,7 @@ fn push_ending(text: &mut String, ending: Option<Ending>) -> Result<(), NoMemory
     Ok(())
 }
 
-/// Appends the lines of states that can be restored.
+/// Appends the line of states that can be restored.
 #[tactic(auto, unfolding(crate::specs::Reports::states_text))]
 fn push_states(
     text: &mut String,
@@ -135,9 +148,20 @@ fn push_states(
     text.push_str(" to ")?;
     push_id(text, last)?;
     let equal = digests.equal;
-    write!(text, " digest {equal} exact ")?;
-    push_exact(text, exact)?;
-    push_other(text, snapshot, digests.other, digests.first)
+    write!(text, " digest {equal}")?;
+    push_other(text, digests.other, digests.first)?;
+    text.push_str(" exact ")?;
+    push_exact(text, exact)
+}
+
+/// Appends the line of a snapshot that leads to no state.
+#[tactic(auto, unfolding(crate::specs::Reports::stopped_text))]
+fn push_stopped(text: &mut String, snapshot: Option<i64>) -> Result<(), NoMemory>
+    ensures { OnOk result (string_bytes text.new ≡ string_bytes text.old ++ stopped_text snapshot) }
+{
+    push_base(text, snapshot)?;
+    text.push_str(" to none\n")?;
+    Ok(())
 }
 
 /// Appends the name of the snapshot that states begin at.
@@ -167,43 +191,12 @@ fn push_exact(text: &mut String, exact: Exact) -> Result<(), NoMemory>
 }
 
 /// Appends how many digests are not those of the trees, if any is not.
-fn push_other(
-    text: &mut String,
-    snapshot: Option<i64>,
-    other: u64,
-    first: Option<i64>,
-) -> Result<(), NoMemory>
-    ensures { OnOk result (string_bytes text.new ≡ string_bytes text.old ++ other_text snapshot other first) }
+fn push_other(text: &mut String, other: u64, first: Option<i64>) -> Result<(), NoMemory>
+    ensures { OnOk result (string_bytes text.new ≡ string_bytes text.old ++ other_text other first) }
 {
-    match first {
-        Some(first) => push_mismatch(text, snapshot, other, first),
-        None => Ok(()),
+    if first.is_some() {
+        write!(text, " otherDigest {other}")?;
     }
-}
-
-/// Appends how many digests are not those of the trees, and the zxid of the first of these records.
-#[tactic(auto, unfolding(crate::specs::Reports::mismatch_text))]
-fn push_mismatch(
-    text: &mut String,
-    snapshot: Option<i64>,
-    other: u64,
-    first: i64,
-) -> Result<(), NoMemory>
-    ensures { OnOk result (string_bytes text.new ≡ string_bytes text.old ++ mismatch_text snapshot other first) }
-{
-    text.push_str("otherDigest ")?;
-    push_base(text, snapshot)?;
-    push_numbers(text, other, first)
-}
-
-/// Appends a number and a zxid, and ends the line.
-#[tactic(auto, unfolding(crate::specs::Reports::numbers_text))]
-fn push_numbers(text: &mut String, other: u64, first: i64) -> Result<(), NoMemory>
-    ensures { OnOk result (string_bytes text.new ≡ string_bytes text.old ++ numbers_text other first) }
-{
-    write!(text, " {other} ")?;
-    push_id(text, first)?;
-    text.push_str("\n")?;
     Ok(())
 }
 

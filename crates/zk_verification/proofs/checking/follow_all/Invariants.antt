@@ -3,4 +3,4 @@ use Rattle.zk_verification.proofs.Followed.{AreFollowedTo}
 use Rattle.zk_verification.proofs.checking.follow_all.Given as goal
 
 abbrev pub invariant-loop-zxid : goal.invariant-loop-zxid
-invariant-loop-zxid g l = AreFollowedTo (g.S.Folder.bytes_in l.snapshots) l.ends l.logged l.logs l.zxids l.zxid-index l.fn.marks.items l.marks.items l.next
+invariant-loop-zxid g l = AreFollowedTo l.said (g.S.Folder.bytes_in l.snapshots) l.breaks l.logged l.logs l.zxids l.zxid-index l.fn.marks.items l.marks.items l.next

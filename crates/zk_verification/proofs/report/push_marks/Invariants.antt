@@ -1,9 +1,7 @@
--- The lines of the marks so far were appended.
-use Rattle.std.proofs.Common.{◌≡◌, ◌++◌, take}
-use Rattle.std.specs.List.{flat_map}
+-- The lines so far.
 use Rattle.std.specs.String.{string_bytes}
-use Rattle.zk_verification.specs.Reports.{mark_text}
+use Rattle.zk_verification.proofs.Written.{AreMarked}
 use Rattle.zk_verification.proofs.report.push_marks.Given as goal
 
 abbrev pub invariant-loop-mark : goal.invariant-loop-mark
-invariant-loop-mark l = string_bytes l.text ≡ string_bytes l.fn.text ++ flat_map mark_text (take l.mark-index l.marks)
+invariant-loop-mark l = AreMarked l.fn.marks l.mark-index (string_bytes l.fn.text) (string_bytes l.text)
