@@ -1,7 +1,7 @@
 #!/usr/bin/env python3
 """`zk list --time iso` of the real directory examples/directories/follower, of those named and of the log examples/first_log.log: it is
 the listing with the times of Python's datetime. `--json` of that log: each line is read by Python's json module, and is that of a directory that
-holds the log, or has the fields of the node in the text of `zk show`.
+holds the log, or has the fields of the line in the text of `zk show`.
 
 usage: forms.py [DIR ..]"""
 import sys
@@ -9,7 +9,7 @@ import tempfile
 from pathlib import Path
 
 from incidents import ROOT, moment
-from json_lines import node, objects, printed, same
+from json_lines import objects, printed, same, shown
 
 LOG = ROOT / "examples" / "first_log.log"
 
@@ -32,9 +32,9 @@ def check_log(log):
         Path(room, "log.100000001").write_bytes(log.read_bytes())
         records = [dict(fields) for fields in objects("list", "--json", room)]
     same("list of a log", objects("list", log, "--json"), records)
-    nodes = [node(line) for line in printed("show", log, "last").splitlines() if line.startswith('"')]
-    same("show of a log", objects("show", "--json", log, "last"), nodes)
-    print(f"{log}: {check_times(log)} transactions, {len(nodes)} nodes")
+    lines = shown(printed("show", log, "last"))
+    same("show of a log", objects("show", "--json", log, "last"), lines)
+    print(f"{log}: {check_times(log)} transactions, {len(lines)} lines of its tree")
 
 
 if __name__ == "__main__":

@@ -5,3 +5,5 @@ pub mod Loaded
 pub mod Differing
 pub mod Words
 pub mod WrittenReports
+pub mod StateLines
+pub mod LostLines

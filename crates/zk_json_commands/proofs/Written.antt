@@ -10,7 +10,7 @@ use Rattle.zk_tree.specs.declared.entry.Entry.{Entry}
 use Rattle.zk_txn.specs.Nodes.{stat_with}
 use Rattle.zk_txn.specs.declared.node.Node.{Node}
 use Rattle.zk_json_commands.specs.Lines.{AppendsLines, AreLines}
-use Rattle.zk_json_commands.specs.Nodes.{AppendsEntryLine, AreNodeLines, IsEntryLine, IsLine}
+use Rattle.zk_json_commands.specs.Nodes.{AppendsEntryLine, IsEntryLine, IsLine}
 
 -- ---- one line more
 
@@ -50,8 +50,7 @@ abbrev IsLentLine : List ℕ × (Node × ℕ) → List ℕ → Type 0
 IsLentLine l line = IsNodeLine l.0 l.1.0 (stat_with l.1.0 l.1.1) line
 
 -- the lines of all entries are those of the nodes
-pub tree_written : (nodes : NodeMap) (es : List Entry) (old new : List ℕ) → map lent es ≡ entries_of nodes → old ≡ [] → AppendsLines IsEntryLine es old new → AreNodeLines nodes new
-tree_written nodes es old new all none h =
+pub nodes_told : (nodes : NodeMap) (es : List Entry) (old new : List ℕ) → map lent es ≡ entries_of nodes → AppendsLines IsEntryLine es old new → AppendsLines (IsLine nodes) (entries nodes) old new
+nodes_told nodes es old new all h =
     let lines = subst (λ (ls : List (List ℕ × (Node × ℕ))). AreLines IsLentLine ls h.0) all (lines_mapped lent IsLentLine es h.0 h.1) in
-    subst (λ (t : List ℕ). AreNodeLines nodes t) (sym (h.2 ∙ ap (λ t. t ++ h.0) none))
-    (lines_unmapped (λ (e : List ℕ × Node). (e.0, (e.1, length (children_of nodes e.0)))) IsLentLine (entries nodes) h.0 lines)
+    (h.0, lines_unmapped (λ (e : List ℕ × Node). (e.0, (e.1, length (children_of nodes e.0)))) IsLentLine (entries nodes) h.0 lines, h.2)

@@ -4,7 +4,9 @@ use Rattle.std.proofs.KnownBytes.{Keeps-refl}
 use Rattle.std.proofs.Math.Seq.{take-suc}
 use Rattle.std.proofs.lemmas.List.{take_all}
 use Rattle.std.proofs.lemmas.List.Elements.{filter-append}
+use Rattle.zk_directory.specs.declared.joint.Joint.{Joint}
 use Rattle.zk_json.specs.Json.{AppendsLineOf, IsLineOf, id_of, object_of}
+use Rattle.zk_json.specs.Times.{AppendsTime, IsTimeText}
 use Rattle.zk_json_commands.proofs.Written.{lines_more}
 use Rattle.zk_json_commands.specs.Lines.{AppendsLines, AreLines}
 use Rattle.zk_log_commands.specs.Telling.{Outputs}
@@ -19,7 +21,7 @@ use Rattle.json.specs.Json.{Json, boolean, number}
 use Rattle.zk_replay.specs.declared.exact.Exact.{Exact}
 use Rattle.zk_replay.specs.declared.count.DigestCount.{DigestCount}
 use Rattle.std.specs.Prelude.{OnOk, decimal, not}
-use Rattle.zk_json_commands.specs.Verifications.{AppendsHelp, AppendsHelps, AppendsMarks, IsHelpLine, IsMarkLine, IsReport, OutputsReport, help_fields, id_or_null, kinds_in, mark_fields, states_fields, verdict_fields}
+use Rattle.zk_json_commands.specs.Verifications.{AppendsHelp, AppendsHelps, AppendsMark, AppendsMarks, IsHelpLine, IsMarkLine, IsReport, OutputsReport, help_fields, id_or_null, joint_fields, kinds_in, states_fields, verdict_fields}
 
 -- ---- marks
 
@@ -29,16 +31,19 @@ AreMarked all count old new = AppendsMarks (take count all) old new
 pub none_marked : (all : List Mark) (old : List ℕ) → AreMarked all 0 old old
 none_marked all old = ([], refl, sym (append-nil old))
 
-pub next_marked : (all : List Mark) (count : ℕ) (d : Mark) (old now new : List ℕ) → count < length all → AreMarked all count old now → AppendsLineOf (object_of (mark_fields (get_or all count d))) now new → AreMarked all (count + 1) old new
-next_marked all count d old now new lt so_far h =
-    let mark = get_or all count d in
+pub next_marked : (all : List Mark) (count : ℕ) (mark : Mark) (old now new : List ℕ) → count < length all → mark ≡ get_or all count mark → AreMarked all count old now → AppendsMark mark now new → AreMarked all (count + 1) old new
+next_marked all count mark old now new lt is so_far h =
     let one : count + 1 ≡ suc count = omega arith in
-    let more : take count all ++ mark ∷ [] ≡ take (count + 1) all = sym (take-suc all count d lt) ∙ ap (λ n. take n all) (sym one) in
+    let more : take count all ++ mark ∷ [] ≡ take (count + 1) all = ap (λ (m : Mark). take count all ++ m ∷ []) is ∙ sym (take-suc all count mark lt) ∙ ap (λ n. take n all) (sym one) in
     subst (λ (ms : List Mark). AppendsMarks ms old new) more
     (so_far.0 ++ h.0, lines_more IsMarkLine (take count all) mark so_far.0 h.0 so_far.1 h.1, h.2 ∙ ap (λ t. t ++ h.0) so_far.2 ∙ append_assoc old so_far.0 h.0)
 
 pub all_marked : (all : List Mark) (count : ℕ) (old new : List ℕ) → length all ≤ count → AreMarked all count old new → AppendsMarks all old new
 all_marked all count old new le h = subst (λ (ms : List Mark). AppendsMarks ms old new) (take_all count all le) h
+
+-- a time alone
+pub clock : (time : ℤ) (old text : List ℕ) → old ≡ [] → AppendsTime old time text → IsTimeText time text
+clock time old text none t = subst (IsTimeText time) (sym (t.2 ∙ ap (λ (o : List ℕ). o ++ t.0) none)) t.1
 
 -- ---- states
 
@@ -53,6 +58,15 @@ stated r base exact last digests old new to' exact' later equal' other' first' h
     (subst (λ (t : Bool). OnOk r (AppendsLineOf (object_of ((codes "base", base) ∷ (codes "to", id_of last) ∷ (codes "exact", id_of exact.zxid) ∷ (codes "orLater", boolean t) ∷ (codes "digest", number (decimal equal')) ∷ (codes "otherDigest", number (decimal other')) ∷ (codes "otherFrom", first') ∷ [])) old new)) c
     (subst (λ (z : ℤ). OnOk r (AppendsLineOf (object_of ((codes "base", base) ∷ (codes "to", id_of last) ∷ (codes "exact", id_of z) ∷ (codes "orLater", boolean later) ∷ (codes "digest", number (decimal equal')) ∷ (codes "otherDigest", number (decimal other')) ∷ (codes "otherFrom", first') ∷ [])) old new)) b
     (subst (λ (z : ℤ). OnOk r (AppendsLineOf (object_of ((codes "base", base) ∷ (codes "to", id_of z) ∷ (codes "exact", id_of exact') ∷ (codes "orLater", boolean later) ∷ (codes "digest", number (decimal equal')) ∷ (codes "otherDigest", number (decimal other')) ∷ (codes "otherFrom", first') ∷ [])) old new)) a h)))))
+
+-- an epoch after another
+pub joined : (r : Result (Unit {0}) NoMemory) (joint : Joint) (missing : Bool) (old new : List ℕ) (last' next' : ℤ) (missing' : Bool)
+    → OnOk r (AppendsLineOf (object_of ((codes "epochEnd", id_of last') ∷ (codes "next", id_of next') ∷ (codes "missing", boolean missing') ∷ [])) old new)
+    → last' ≡ joint.last → next' ≡ joint.next → missing' ≡ missing → OnOk r (AppendsLineOf (object_of (joint_fields joint missing)) old new)
+joined r joint missing old new last' next' missing' h a b c =
+    subst (λ (m : Bool). OnOk r (AppendsLineOf (object_of ((codes "epochEnd", id_of joint.last) ∷ (codes "next", id_of joint.next) ∷ (codes "missing", boolean m) ∷ [])) old new)) c
+    (subst (λ (z : ℤ). OnOk r (AppendsLineOf (object_of ((codes "epochEnd", id_of joint.last) ∷ (codes "next", id_of z) ∷ (codes "missing", boolean missing') ∷ [])) old new)) b
+    (subst (λ (z : ℤ). OnOk r (AppendsLineOf (object_of ((codes "epochEnd", id_of z) ∷ (codes "next", id_of next') ∷ (codes "missing", boolean missing') ∷ [])) old new)) a h))
 
 -- by another base and zxid
 pub stated_from : (r : Result (Unit {0}) NoMemory) (base base' : Json) (exact : Exact) (last last' : ℤ) (digests : DigestCount) (old new : List ℕ) → OnOk r (AppendsLineOf (object_of (states_fields base' exact last' digests)) old new) → base' ≡ base → last' ≡ last → OnOk r (AppendsLineOf (object_of (states_fields base exact last digests)) old new)

@@ -6,3 +6,4 @@ pub mod Nodes
 pub mod Tops
 pub mod Differences
 pub mod Verifications
+pub mod States

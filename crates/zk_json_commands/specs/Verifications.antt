@@ -1,7 +1,8 @@
 -- What `zk verify --json` writes: an object for each mark, for each help, and for the verdict.
-use Rattle.std.specs.Prelude.{◌≡◌, ◌≢◌, ℕ, ℤ, nat_lt, not, List, [], ◌∷◌, ◌++◌, codes, decimal, Option, Some, None, Result, Ok, Err, Vec, if◌then◌else◌}
+use Rattle.std.specs.Prelude.{◌≡◌, ◌≢◌, ℕ, ℤ, nat_lt, Bool, not, List, [], ◌∷◌, ◌++◌, codes, decimal, Option, Some, None, Result, Ok, Err, String, Vec, if◌then◌else◌}
 use Rattle.std.specs.Global.{Global}
 use Rattle.std.specs.List.{filter}
+use Rattle.std.specs.String.{string_bytes}
 use Rattle.json.specs.Json.{Json, boolean, null, number, string}
 use Rattle.zk_replay.specs.declared.exact.Exact.{Exact}
 use Rattle.zk_replay.specs.declared.count.DigestCount.{DigestCount}
@@ -9,7 +10,9 @@ use Rattle.zk_directory_files.specs.Names.{log_name, snapshot_name}
 use Rattle.zk_directory_files.specs.FaultLines.{fault_text}
 use Rattle.zk_directory_files.specs.Outcomes.{Rejects}
 use Rattle.zk_directory_files.specs.declared.fault.HistoryFault.{HistoryFault}
+use Rattle.zk_directory.specs.declared.joint.Joint.{Joint}
 use Rattle.zk_json.specs.Json.{Fields, IsLineOf, id_of, object_of}
+use Rattle.zk_json.specs.Times.{IsTimeText}
 use Rattle.zk_json_commands.specs.Lines.{AreLines}
 use Rattle.zk_log.specs.declared.loaded.Ending.{Ending}
 use Rattle.zk_log.specs.declared.loaded.Ending.TheVariants.{Whole, Padding, Torn}
@@ -20,8 +23,12 @@ use Rattle.zk_records.specs.declared.sink.Sink.{Sink}
 use Rattle.zk_verification.specs.Helps.{has_kind, help_line, kinds}
 use Rattle.zk_verification.specs.Marks.{wrong_in}
 use Rattle.zk_verification.specs.declared.help.Kind.{Kind}
+use Rattle.zk_verification.specs.Reports.{stop_word}
+use Rattle.zk_verification.specs.declared.mark.Damage.{Damage}
+use Rattle.zk_verification.specs.declared.mark.Facts.{Facts}
 use Rattle.zk_verification.specs.declared.mark.Mark.{Mark}
 use Rattle.zk_verification.specs.declared.mark.Mark.TheVariants as marks
+use Rattle.zk_verification.specs.declared.mark.Moment.{Moment}
 use Rattle.zk_verification.specs.Verifications.{FindsMarks}
 
 -- ---- marks
@@ -67,13 +74,60 @@ states_fields base exact last digests =
 abbrev pub wrong_fields : List ℕ → Fields
 wrong_fields words = (codes "fault", string words) ∷ []
 
-abbrev pub mark_fields : Mark → Fields
-mark_fields (marks.Log zxid records span ending) = log_fields (log_name zxid) records span ending
-mark_fields (marks.States snapshot exact last digests) = states_fields (base_of snapshot) exact last digests
-mark_fields (marks.Wrong fault) = wrong_fields (fault_text fault)
+-- a snapshot, or the empty tree, that leads to no state
+abbrev pub stopped_fields : Json → Fields
+stopped_fields base = (codes "base", base) ∷ (codes "to", null) ∷ []
+
+-- the last transaction of an epoch that the logs have, and the first of the next one
+abbrev pub joint_fields : Joint → Bool → Fields
+joint_fields joint missing = (codes "epochEnd", id_of joint.last) ∷ (codes "next", id_of joint.next) ∷ (codes "missing", boolean missing) ∷ []
+
+-- ---- marks with times
+
+abbrev pub zxid_of : Option Moment → Json
+zxid_of None = null
+zxid_of (Some moment) = id_of moment.zxid
+
+abbrev pub IsTimeOf : Option Moment → Json → Type 0
+IsTimeOf None json = json ≡ null
+IsTimeOf (Some moment) json = (text : List ℕ) × IsTimeText moment.time text × (json ≡ string text)
+
+-- a log's name, why a server stops there, the bytes that hold no entry, and the transactions around them
+abbrev pub place_fields : List ℕ → List ℕ → ℕ → ℕ → Json → Json → ℤ → Json → Fields
+place_fields name stop at to before time after time' =
+    (codes "lost", string name) ∷ (codes "stop", string stop) ∷ (codes "at", number (decimal at)) ∷ (codes "to", number (decimal to))
+    ∷ (codes "before", before) ∷ (codes "beforeTime", time) ∷ (codes "after", id_of after) ∷ (codes "afterTime", time') ∷ []
+
+abbrev pub lost_fields : Damage → Json → Json → Fields
+lost_fields damage time time' = place_fields (log_name damage.log) (stop_word damage.stop) damage.at damage.to (zxid_of damage.before) time damage.after.zxid time'
+
+abbrev pub gap_fields : Option Moment → Json → Moment → Json → Fields
+gap_fields before time after time' =
+    (codes "fault", string (codes "D3")) ∷ (codes "before", zxid_of before) ∷ (codes "beforeTime", time) ∷ (codes "after", id_of after.zxid) ∷ (codes "afterTime", time') ∷ []
+
+abbrev pub IsRangeLine : Option Moment → Moment → (Json → Json → Fields) → List ℕ → Type 0
+IsRangeLine before after fields line = (time : Json) × (time' : Json) × IsTimeOf before time × IsTimeOf (Some after) time' × IsLineOf (object_of (fields time time')) line
+
+abbrev pub path_or_null : Option (List ℕ) → Json
+path_or_null None = null
+path_or_null (Some path) = string path
+
+abbrev pub record_fields : ℤ → Json → Json → Json → Fields
+record_fields zxid time session path = (codes "mismatch", id_of zxid) ∷ (codes "time", time) ∷ (codes "session", session) ∷ (codes "path", path) ∷ []
+
+abbrev pub IsRecordLine : ℤ → Option Facts → List ℕ → Type 0
+IsRecordLine zxid None line = IsLineOf (object_of (record_fields zxid null null null)) line
+IsRecordLine zxid (Some facts) line = (time : List ℕ) × IsTimeText facts.time time × IsLineOf (object_of (record_fields zxid (string time) (id_of facts.session) (path_or_null facts.path))) line
 
 abbrev pub IsMarkLine : Mark → List ℕ → Type 0
-IsMarkLine mark line = IsLineOf (object_of (mark_fields mark)) line
+IsMarkLine (marks.Log zxid records span ending) line = IsLineOf (object_of (log_fields (log_name zxid) records span ending)) line
+IsMarkLine (marks.States snapshot exact last digests) line = IsLineOf (object_of (states_fields (base_of snapshot) exact last digests)) line
+IsMarkLine (marks.Stopped snapshot) line = IsLineOf (object_of (stopped_fields (base_of snapshot))) line
+IsMarkLine (marks.Joint joint missing) line = IsLineOf (object_of (joint_fields joint missing)) line
+IsMarkLine (marks.Lost damage) line = IsRangeLine damage.before damage.after (lost_fields damage) line
+IsMarkLine (marks.Gap before after) line = IsRangeLine before after (λ time time'. gap_fields before time after time') line
+IsMarkLine (marks.Digest mismatch) line = IsRecordLine mismatch.zxid mismatch.facts line
+IsMarkLine (marks.Wrong fault) line = IsLineOf (object_of (wrong_fields (fault_text fault))) line
 
 -- ---- helps
 
@@ -130,6 +184,9 @@ abbrev pub CutsLine : List ℕ → Option (List ℕ) → Type 0
 CutsLine text None = (words : List ℕ) → text ≢ words ++ codes "\n"
 CutsLine text (Some words) = text ≡ words ++ codes "\n"
 
+abbrev pub AppendsMark : Mark → List ℕ → List ℕ → Type 0
+AppendsMark mark old new = (line : List ℕ) × IsMarkLine mark line × (new ≡ old ++ line)
+
 abbrev pub AppendsMarks : List Mark → List ℕ → List ℕ → Type 0
 AppendsMarks all old new = (text : List ℕ) × AreLines IsMarkLine all text × (new ≡ old ++ text)
 
@@ -138,3 +195,11 @@ AppendsHelps all some old new = (text : List ℕ) × AreLines IsHelpLine (kinds_
 
 abbrev pub AppendsHelp : List Mark → Kind → List ℕ → List ℕ → Type 0
 AppendsHelp all kind old new = AppendsHelps all (kind ∷ []) old new
+
+-- a text, if there is one
+abbrev pub text_by : Option (String Global) → Json
+text_by None = null
+text_by (Some text) = string (string_bytes text)
+
+abbrev pub AppendsRecord : ℤ → Facts → List ℕ → List ℕ → Type 0
+AppendsRecord zxid facts old new = (line : List ℕ) × IsRecordLine zxid (Some facts) line × (new ≡ old ++ line)

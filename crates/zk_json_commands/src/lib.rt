@@ -7,12 +7,14 @@ mod difference_lines;
 mod fault_text;
 mod history;
 mod history_lines;
+mod lost_lines;
 mod marks;
 mod node_lines;
 mod report;
 mod row_lines;
 mod show;
 mod show_log;
+mod state_lines;
 mod top;
 mod verification;
 

@@ -1,21 +1,24 @@
 //! The line of a mark.
 ghost use Rattle.std.specs.Prelude.{OnOk, IfOk, ◌≡◌};
 ghost use Rattle.std.specs.String.{string_bytes};
+ghost use Rattle.zk_directory_files.specs.FaultLines.{fault_text};
 ghost use Rattle.zk_directory_files.specs.Names.{log_name, snapshot_name};
 ghost use Rattle.zk_json.specs.Json.{AppendsLineOf, object_of};
 ghost use Rattle.zk_json.specs.Objects.{value_of};
-ghost use Rattle.zk_json_commands.specs.Verifications.{base_of, end_of, first_of, id_or_null, last_of, log_fields, mark_fields, states_fields, torn_of, wrong_fields};
+ghost use Rattle.zk_json_commands.specs.Verifications.{AppendsMark, base_of, end_of, first_of, id_or_null, joint_fields, last_of, log_fields, states_fields, stopped_fields, torn_of, wrong_fields};
 
 use crate::fault_text::fault_words;
+use crate::lost_lines::{push_gap, push_lost, push_mismatch};
 use std::alloc::Global;
-use zk_directory_files::{push_log_name, push_snapshot_name};
+use zk_directory::Joint;
+use zk_directory_files::{HistoryFault, push_log_name, push_snapshot_name};
 use zk_json::{Value, push_object_line};
 use zk_log::Ending;
 use zk_path::NoMemory;
 use zk_replay::{DigestCount, Exact};
 use zk_verification::Mark;
 
-fn id_or_null(id: Option<i64>) -> Value<'static>
+pub(crate) fn id_or_null(id: Option<i64>) -> Value<'static>
     ensures { value_of result ≡ id_or_null id }
 {
     match id {
@@ -45,7 +48,7 @@ fn last_of(span: Option<(i64, i64)>) -> Value<'static>
 }
 
 /// How a log ends, unless it is broken.
-fn end_of(ending: Option<Ending>) -> Value<'static>
+pub(crate) fn end_of(ending: Option<Ending>) -> Value<'static>
     ensures { value_of result ≡ end_of ending }
 {
     match ending {
@@ -57,7 +60,7 @@ fn end_of(ending: Option<Ending>) -> Value<'static>
 }
 
 /// Where the end of a log is torn.
-fn torn_of(ending: Option<Ending>) -> Value<'static>
+pub(crate) fn torn_of(ending: Option<Ending>) -> Value<'static>
     ensures { value_of result ≡ torn_of ending }
 {
     match ending {
@@ -117,7 +120,7 @@ fn push_wrong(text: &mut String, words: &str) -> Result<(), NoMemory>
 }
 
 /// The name of the log of this zxid.
-fn name_of_log(alloc: Global, zxid: i64) -> Result<String, NoMemory>
+pub(crate) fn name_of_log(alloc: Global, zxid: i64) -> Result<String, NoMemory>
     ensures { IfOk result (λ name. string_bytes name ≡ log_name zxid) }
 {
     let mut name = String::new(alloc);
@@ -126,7 +129,7 @@ fn name_of_log(alloc: Global, zxid: i64) -> Result<String, NoMemory>
 }
 
 /// The name of the snapshot of this zxid.
-fn name_of_snapshot(alloc: Global, zxid: i64) -> Result<String, NoMemory>
+pub(crate) fn name_of_snapshot(alloc: Global, zxid: i64) -> Result<String, NoMemory>
     ensures { IfOk result (λ name. string_bytes name ≡ snapshot_name zxid) }
 {
     let mut name = String::new(alloc);
@@ -153,9 +156,62 @@ fn push_states_from(
     }
 }
 
+/// Appends the line of a snapshot, or of the empty tree, that leads to no state.
+fn push_stopped(text: &mut String, base: Value<'_>) -> Result<(), NoMemory>
+    ensures { OnOk result (AppendsLineOf (object_of (stopped_fields (value_of base.entry))) (string_bytes text.old) (string_bytes text.new)) }
+{
+    push_object_line(text, &[("base", base), ("to", Value::Null)])
+}
+
+fn push_stopped_from(text: &mut String, snapshot: Option<i64>) -> Result<(), NoMemory>
+    ensures { OnOk result (AppendsLineOf (object_of (stopped_fields (base_of snapshot))) (string_bytes text.old) (string_bytes text.new)) }
+{
+    match snapshot {
+        Some(zxid) => {
+            let name = name_of_snapshot(*text.allocator(), zxid)?;
+            push_stopped(text, Value::Text(name.as_str()))
+        }
+        None => push_stopped(text, Value::Null),
+    }
+}
+
+/// Appends the line of a place at which an epoch follows another.
+fn push_joint(text: &mut String, joint: &Joint, is_missing: bool) -> Result<(), NoMemory>
+    ensures { OnOk result (AppendsLineOf (object_of (joint_fields joint.now is_missing)) (string_bytes text.old) (string_bytes text.new)) }
+{
+    let fields = [
+        ("epochEnd", Value::Id(joint.last)),
+        ("next", Value::Id(joint.next)),
+        ("missing", Value::Flag(is_missing)),
+    ];
+    push_object_line(text, &fields)
+}
+
+/// Appends the line of a log.
+fn push_log_of(
+    text: &mut String,
+    zxid: i64,
+    records: usize,
+    span: Option<(i64, i64)>,
+    ending: Option<Ending>,
+) -> Result<(), NoMemory>
+    ensures { OnOk result (AppendsLineOf (object_of (log_fields (log_name zxid) records span ending)) (string_bytes text.old) (string_bytes text.new)) }
+{
+    let name = name_of_log(*text.allocator(), zxid)?;
+    push_log(text, name.as_str(), records, span, ending)
+}
+
+/// Appends the line of a fault.
+fn push_fault(text: &mut String, fault: &HistoryFault) -> Result<(), NoMemory>
+    ensures { OnOk result (AppendsLineOf (object_of (wrong_fields (fault_text fault.now))) (string_bytes text.old) (string_bytes text.new)) }
+{
+    let words = fault_words(*text.allocator(), fault)?;
+    push_wrong(text, words.as_str())
+}
+
 /// Appends the line of a mark.
 pub(crate) fn push_mark(text: &mut String, mark: &Mark) -> Result<(), NoMemory>
-    ensures { OnOk result (AppendsLineOf (object_of (mark_fields mark.now)) (string_bytes text.old) (string_bytes text.new)) }
+    ensures { OnOk result (AppendsMark mark.now (string_bytes text.old) (string_bytes text.new)) }
 {
     match mark {
         Mark::Log {
@@ -163,19 +219,18 @@ pub(crate) fn push_mark(text: &mut String, mark: &Mark) -> Result<(), NoMemory>
             records,
             span,
             ending,
-        } => {
-            let name = name_of_log(*text.allocator(), *zxid)?;
-            push_log(text, name.as_str(), *records, *span, *ending)
-        }
+        } => push_log_of(text, *zxid, *records, *span, *ending),
         Mark::States {
             snapshot,
             exact,
             last,
             digests,
         } => push_states_from(text, *snapshot, *exact, *last, *digests),
-        Mark::Wrong(fault) => {
-            let words = fault_words(*text.allocator(), fault)?;
-            push_wrong(text, words.as_str())
-        }
+        Mark::Stopped { snapshot } => push_stopped_from(text, *snapshot),
+        Mark::Joint { joint, is_missing } => push_joint(text, joint, *is_missing),
+        Mark::Lost(damage) => push_lost(text, damage),
+        Mark::Gap { before, after } => push_gap(text, *before, after),
+        Mark::Digest(mismatch) => push_mismatch(text, mismatch),
+        Mark::Wrong(fault) => push_fault(text, fault),
     }
 }

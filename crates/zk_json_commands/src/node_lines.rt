@@ -1,11 +1,9 @@
 //! The lines of a tree's nodes.
-ghost use Rattle.std.specs.Prelude.{IfOk, OnOk};
+ghost use Rattle.std.specs.Prelude.{OnOk};
 ghost use Rattle.std.specs.String.{string_bytes};
 ghost use Rattle.zk_json_commands.specs.Lines.{AppendsLines};
-ghost use Rattle.zk_json_commands.specs.Nodes.{AppendsEntryLine, AreNodeLines, IsEntryLine};
+ghost use Rattle.zk_json_commands.specs.Nodes.{AppendsEntryLine, IsEntryLine};
 
-use std::alloc::Global;
-use zk_fold::Fold;
 use zk_json::push_node_line;
 use zk_path::NoMemory;
 use zk_tree::Entry;
@@ -20,21 +18,11 @@ fn push_entry(text: &mut String, entry: &Entry<'_>) -> Result<(), NoMemory>
 
 /// Appends the lines of entries.
 #[tactic(auto, using(crate::proofs::Written::none_written, crate::proofs::Written::next_written, crate::proofs::Written::all_written))]
-fn push_entries(text: &mut String, entries: &[Entry<'_>]) -> Result<(), NoMemory>
+pub(crate) fn push_entries(text: &mut String, entries: &[Entry<'_>]) -> Result<(), NoMemory>
     ensures { OnOk result (AppendsLines IsEntryLine entries.now (string_bytes text.old) (string_bytes text.new)) }
 {
     for entry in entries {
         push_entry(text, entry)?;
     }
     Ok(())
-}
-
-/// The lines of a table's nodes.
-pub(crate) fn node_lines(alloc: Global, table: &Fold) -> Result<String, NoMemory>
-    ensures { IfOk result (λ text. AreNodeLines table.now.state.nodes (string_bytes text)) }
-{
-    let entries = table.entries()?;
-    let mut text = String::new(alloc);
-    push_entries(&mut text, entries.as_slice())?;
-    Ok(text)
 }

@@ -1,9 +1,9 @@
 //! `zk show --json`.
 ghost use Rattle.std.specs.Prelude.{◌-◌, ◌<◌, ◌^◌};
-ghost use Rattle.zk_json_commands.specs.Nodes.{FindsNodes, TellsNodes};
+ghost use Rattle.zk_json_commands.specs.States.{FindsState, TellsState};
 ghost use Rattle.zk_records.specs.Sinks.{write_failures_of};
 
-use crate::node_lines::node_lines;
+use crate::state_lines::state_lines;
 use std::alloc::Global;
 use std::io::Write;
 use zk_directory_files::{Folder, HistoryFault, put_text, tell_fault};
@@ -11,22 +11,22 @@ use zk_directory_state::{Upto, shown_of};
 use zk_log::Sink;
 use zk_path::NoMemory;
 
-/// The lines of the nodes of the tree that a data directory holds.
+/// The lines of the state that a data directory holds.
 fn lines_of<S: Folder, L: Folder>(
     alloc: Global,
     snapshots: &S,
     logs: &L,
     upto: Upto,
 ) -> Result<String, HistoryFault>
-    ensures { FindsNodes (S.names_in snapshots.now) (S.bytes_in snapshots.now) (L.names_in logs.now) (L.bytes_in logs.now) upto result }
+    ensures { FindsState (S.names_in snapshots.now) (S.bytes_in snapshots.now) (L.names_in logs.now) (L.bytes_in logs.now) upto result }
 {
     let shown = shown_of(alloc, snapshots, logs, upto)?;
-    let text = node_lines(alloc, &shown.restored.table)?;
+    let text = state_lines(alloc, &shown)?;
     Ok(text)
 }
 
-/// Writes a JSON object for each node of the tree that a data directory holds, in order of path:
-/// that of the first folder's snapshots and the second folder's logs. Returns the exit status.
+/// Writes a JSON object for each line of the report on the state that a data directory holds: that of
+/// the first folder's snapshots and the second folder's logs. Returns the exit status.
 pub fn show_json<S: Folder, L: Folder, O: Write, E: Write>(
     alloc: Global,
     snapshots: &S,
@@ -37,7 +37,7 @@ pub fn show_json<S: Folder, L: Folder, O: Write, E: Write>(
 ) -> Result<u8, NoMemory>
     requires output { write_failures_of output.old < 2 ^ 64 - 1 }
     requires faults { write_failures_of faults.old < 2 ^ 64 - 1 }
-    ensures { TellsNodes O.contents E.contents (S.names_in snapshots.now) (S.bytes_in snapshots.now)
+    ensures { TellsState O.contents E.contents (S.names_in snapshots.now) (S.bytes_in snapshots.now)
         (L.names_in logs.now) (L.bytes_in logs.now) upto output.old output.new faults.old faults.new result }
 {
     match lines_of(alloc, snapshots, logs, upto) {
