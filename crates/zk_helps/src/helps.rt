@@ -472,15 +472,23 @@ In the source repository, docs/ERRORS.md has what helps."#;
 
 /// The lines of `zk verify`, and its errors.
 const VERIFY_NOTES: &str =
-    r#"Each log is read as far as it can be; then each snapshot, the latest first, is followed in the logs
-to the zxid from which the next one is exact. The lines are:
+    r#"Each log is read as far as a server reads it, and then searched for intact entries; each snapshot, the
+latest first, is followed in the logs to the zxid from which the next one is exact. The lines are:
   NAME records N FIRST LAST end ..
                       a log, as `zk files` prints it
-  NAME to LAST digest N exact ZXID
+  lost LOG WHY AT TO FROM NEXT TIME TIME
+                      the bytes AT to TO hold no entry, and intact ones follow: the transactions between
+                      FROM and NEXT are lost. WHY is what a server finds at AT: G1 to G5, padding or torn
+  zk: D3 FROM NEXT TIME TIME
+                      the transactions between FROM and NEXT are in no log
+  NAME to LAST digest N otherDigest N exact ZXID
                       a snapshot: it leads to the states from ZXID to LAST, and N records state the
-                      digest of the tree after them; `empty` is the empty tree, if no snapshot serves
-  otherDigest NAME N FIRST
-                      N records after this snapshot state other digests, and FIRST is the first of them
+                      digest of the tree after them, or another; `empty` is the empty tree, if there is
+                      no snapshot; `to none`, if a fault of a log keeps it from a state
+  missing LAST NEXT   after LAST, at the end of its epoch, transactions are missing: the digests say so
+  unproved LAST NEXT  no digest says whether LAST is the last transaction of its epoch
+  otherDigest ZXID TIME SESSION PATH
+                      the first record that states the digest of another tree
   zk: ..              a fault, as other commands print it on standard error
   help ..             what helps against each kind of fault
   well, or wrong N    nothing is wrong, or N things are; then the status is 1
