@@ -75,7 +75,8 @@ const LISTLESS: &[(&str, &[u8])] = &[
     ("log.6", LOG_6),
 ];
 
-const TRIALS: &[Trial] = &[
+/// Directories that are shown.
+const SHOWN: &[Trial] = &[
     (
         ALL,
         Upto::Last,
@@ -117,6 +118,34 @@ const TRIALS: &[Trial] = &[
         "",
     ),
     (
+        &[("log.1", b"")],
+        Upto::Last,
+        "zxid 0000000000000000\n",
+        "base none\nend whole\n",
+        "",
+        "zk: ends 0000000000000000\n",
+    ),
+    (
+        &[("log.1", LOG_WITH_DIGEST)],
+        Upto::Last,
+        "zxid 0000000000000001\n",
+        "base none\ndigest 1\nend whole\n",
+        "",
+        "",
+    ),
+    (
+        &[("log.1", LOG_WITH_OTHER)],
+        Upto::Last,
+        "zxid 0000000000000001\n",
+        "base none\notherDigest 1 0000000000000001\nend whole\n",
+        "",
+        "zk: otherDigest 1 0000000000000001\n",
+    ),
+];
+
+/// Directories that do not hold what is asked.
+const REFUSED: &[Trial] = &[
+    (
         FROM_6,
         Upto::Zxid { zxid: 6 },
         "",
@@ -157,30 +186,6 @@ const TRIALS: &[Trial] = &[
         "",
     ),
     (&[("log.6", b"")], Upto::Last, "", "", "zk: D8\n", ""),
-    (
-        &[("log.1", b"")],
-        Upto::Last,
-        "zxid 0000000000000000\n",
-        "base none\nend whole\n",
-        "",
-        "zk: ends 0000000000000000\n",
-    ),
-    (
-        &[("log.1", LOG_WITH_DIGEST)],
-        Upto::Last,
-        "zxid 0000000000000001\n",
-        "base none\ndigest 1\nend whole\n",
-        "",
-        "",
-    ),
-    (
-        &[("log.1", LOG_WITH_OTHER)],
-        Upto::Last,
-        "zxid 0000000000000001\n",
-        "base none\notherDigest 1 0000000000000001\nend whole\n",
-        "",
-        "zk: otherDigest 1 0000000000000001\n",
-    ),
     (&[("myid", b"1")], Upto::Last, "", "", "zk: D1\n", ""),
 ];
 
@@ -204,8 +209,15 @@ fn is_shown(alloc: Global, trial: &Trial) -> bool {
 
 #[test]
 fn directories_are_shown(rt: HostRuntime) {
-    for trial in TRIALS {
+    for trial in SHOWN {
         assert!(rt; is_shown(rt.alloc(), trial), "{}", trial.2);
+    }
+}
+
+#[test]
+fn directories_that_lack_it_are_refused(rt: HostRuntime) {
+    for trial in REFUSED {
+        assert!(rt; is_shown(rt.alloc(), trial), "{}", trial.4);
     }
 }
 
