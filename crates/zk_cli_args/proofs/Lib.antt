@@ -6,8 +6,6 @@ pub mod DigitsLaws
 pub mod DirectoryLaws
 pub mod EnsembleLaws
 pub mod FolderLaws
-pub mod FormLaws
-pub mod KindLaws
 pub mod GivenLaws
 pub mod LinesLaws
 pub mod MomentLaws

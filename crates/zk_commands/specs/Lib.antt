@@ -22,4 +22,3 @@ pub mod Acting
 pub mod Later
 pub mod Outcomes
 pub mod Starts
-pub mod Questions

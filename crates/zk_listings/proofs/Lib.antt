@@ -1,3 +1,4 @@
+pub mod FormLaws
 pub mod Finished
 pub mod Following
 pub mod Sights

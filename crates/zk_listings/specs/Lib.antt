@@ -1,4 +1,5 @@
 -- What the contracts of this crate cite.
+pub mod Forms
 pub mod Lines
 pub mod Tails
 pub mod Growths
