@@ -1,7 +1,7 @@
 #!/usr/bin/env bash
 # The helps of `zk debug` and `zk run` list the lines of a script, and that of `zk serve` the lines of a connection: every word of the
-# definitions of these lines, and no other. Each help lists the numbers of its command's errors, and names docs/ERRORS.md, which has
-# each number and each word of the definitions of faults.
+# definitions of these lines, and no other. The helps list the options of the definitions of command lines, and no other. Each help lists
+# the numbers of its command's errors, and names docs/ERRORS.md, which has each number and each word of the definitions of faults.
 set -euo pipefail
 work=$(mktemp -d)
 trap 'rm -rf "$work"' EXIT
@@ -17,6 +17,7 @@ debug_lines=$(defining 'command_text commands\.Step')
 session_lines=$(defining 'abbrev pub own_words')
 run_lines=$(defining 'SpellsWorldEvent \(Lead|SpellsRequest \(requests\.Create|abbrev pub SpellsWeights')
 serve_lines=$(defining 'SpellsRequest \(requests\.Create|pub record SpellsProof')
+option_lines=$(grep -l 'codes "--[a-z]' crates/*/specs/*.antt)
 fault_lines=$(defining 'line_of_(log_fault log_faults\.Header|mend_fault \(faults\.NoReason)|abbrev pub mismatch_line')
 debug_numbers=$(defining 'fault_text faults\.AtEnd')
 run_numbers=$(defining 'fault_text \(faults\.Behind')
@@ -45,6 +46,20 @@ lists debug $debug_lines $session_lines
 lists run $run_lines
 lists serve $serve_lines
 
+# options_in_help COMMAND: the options of a command, without those of every program
+options_in_help() {
+    "$zk" "$1" --help </dev/null | sed -n '/^Options:/,/^$/p' | grep -oE '^ +--?[a-z-]+' | tr -d ' ' | grep -vx -- -h
+}
+
+for command in $("$zk" --help | sed -n '/^Commands:/,/^$/s/^  \([a-z]*\) .*/\1/p' | grep -vx help); do
+    options_in_help "$command" >"$work/of_command"
+    grep -qx -- --explain "$work/of_command"
+    cat "$work/of_command" >>"$work/of_all"
+done
+sort -u "$work/of_all" >"$work/helped"
+texts_in $option_lines | grep -oE '^--?[a-z][a-z-]*' | sort -u >"$work/defined"
+diff "$work/defined" "$work/helped"
+
 # the numbers of all faults; an allocation failure has a word, and never G8 or L8
 numbers=$(texts_in $fault_lines $debug_numbers $run_numbers | grep -oE '\b[BCEGLN][0-9]+\b' | sort -u | grep -v '[GL]8')
 
@@ -72,4 +87,4 @@ done
 for word in $(texts_in $fault_lines | grep -o '^zk: [a-z][a-z0-9]*' | sed 's/^zk: //' | sort -u) read write listen memory utf8; do
     grep -qE "^\\| \`zk: $word\\b" "$faults"
 done
-echo "helps: the words of scripts and connections, and each fault"
+echo "helps: the words of scripts and connections, each option, and each fault"

@@ -18,12 +18,21 @@ if git diff --quiet HEAD 2>/dev/null; then
     [ "$("$work/prefix/bin/zk" --version)" = "zk $version, commit $(git rev-parse HEAD)" ]
 fi
 
-# each command is in the man page and in the completions
+# each command is in the man page and in the completions, with each of its options
 page=$work/prefix/share/man/man1/zk.1
+bash_words=$work/prefix/share/bash-completion/completions/zk
+zsh_words=$work/prefix/share/zsh/site-functions/_zk
 for command in $("$zk" --help | sed -n '/^Commands:/,/^$/s/^  \([a-z]*\) .*/\1/p'); do
-    [ "$command" = help ] || grep -qx "\.SH ${command^^}" "$page"
-    grep -qw "$command" "$work/prefix/share/bash-completion/completions/zk"
-    [ "$command" = help ] || grep -q "^        '$command:" "$work/prefix/share/zsh/site-functions/_zk"
+    grep -qw "$command" "$bash_words"
+    [ "$command" != help ] || continue
+    grep -qx "\.SH ${command^^}" "$page"
+    grep -q "^        '$command:" "$zsh_words"
+    sed -n "/^\.SH ${command^^}\$/,/^\.fi/p" "$page" | tr -d '\\' >"$work/section"
+    for option in $("$zk" "$command" --help | sed -n '/^Options:/,/^$/p' | grep -oE '^ +(-h, )?--?[a-z-]+' | sed 's/-h, //'); do
+        grep -qE -- "^ +(-h, )?$option\b" "$work/section"
+        grep -qE -- "^        $command\) options=.*[\" ]$option[\" ]" "$bash_words"
+        grep -qF -- "'$option[" <(grep "^        $command) _arguments" "$zsh_words")
+    done
 done
 if command -v groff >/dev/null; then
     groff -man -Tascii -ww "$page" 2>"$work/err" >"$work/out"

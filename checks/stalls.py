@@ -11,12 +11,16 @@
 - writer: while one client has 20,000 writes in flight, another makes a read for every 200 of them.
 - idle: 1,000 idle connections cost a read less than four times the CPU seconds that 100 do.
 - watches: a setWatches of 240 kB with 26,000 watches costs less than 5 CPU seconds.
+- resumed: while a setWatches of 1 MB is worked, another makes a read for every 2,048 of its watches.
+- counts: while a client counts all nodes 200 times, another makes a read for every two of these.
+- unreadable: a setWatches sets a watch on the children of a node that the client may not read.
 - identities: a connection has at most 100 identities; the next proof is rejected, and it closes.
 
-usage: stalls.py [NAME ..]     the parts with these names; if none is named, all but writer, idle and watches, which measure and want a
-                               machine of their own
+usage: stalls.py [NAME ..]     the parts with these names; if none is named, all but writer, idle, watches, resumed and counts, which
+                               measure and want a machine of their own
 """
 import os
+import random
 import resource
 import signal
 import socket
@@ -34,7 +38,9 @@ PROGRAM = os.environ.get("ZK", str(ROOT / "crates" / "zk_cli" / "out" / "zk_cli"
 # Seconds in which a reply comes, and in which a connection that waited is accepted.
 LIMIT = 120
 PATIENCE = 20
-CREATE, EXISTS, GET, SET, PING, AUTH, SET_WATCHES = 1, 3, 4, 5, 11, 100, 101
+CREATE, EXISTS, GET, SET, PING, AUTH, SET_WATCHES, COUNT = 1, 3, 4, 5, 11, 100, 101, 104
+# `jute.maxbuffer`
+MOST_BYTES = 1_048_575
 NO_NODE, AUTH_FAILED = -101, -115
 EPHEMERAL = 1
 EVENT = -1
@@ -318,6 +324,65 @@ def watches() -> None:
             raise Wrong("a watch is not set")
 
 
+def reads_beside(server: Server, busy: Client, frames: bytes, replies: int) -> int:
+    """The reads of another client from when the frames of one are sent until it has these replies."""
+    other, errors = Client(server.port), []
+    receiver = threading.Thread(target=lambda: errors.extend(busy.reply()[2] for _ in range(replies)), daemon=True)
+    busy.stream.sendall(frames)
+    receiver.start()
+    reads = 0
+    while receiver.is_alive():
+        other.get(b"/")
+        reads += 1
+    if len(errors) < replies or any(errors):
+        raise Wrong(f"replies: {errors}")
+    return reads
+
+
+def resumed() -> None:
+    with Server() as server:
+        client, watches, none = Client(server.port), 104_000, struct.pack(">i", 0)
+        numbers = list(range(0x10000, 0x10000 + watches))
+        random.Random(1).shuffle(numbers)
+        paths = b"".join(text(b"/%x" % it) for it in numbers)
+        body = struct.pack(">iiq", -8, SET_WATCHES, 1 << 60) + none + struct.pack(">i", watches) + paths + none
+        if len(body) > MOST_BYTES:
+            raise Wrong(f"a frame of {len(body)} bytes")
+        reads = reads_beside(server, client, framed(body), 1)
+        if reads < watches // 2048:
+            raise Wrong(f"{reads} reads beside {watches} watches")
+
+
+def counts() -> None:
+    with Server() as server:
+        client = Client(server.port)
+        for it in range(1_000):
+            client.send(CREATE, text(b"/%d" % it) + text(b"x") + OPEN_ACL + struct.pack(">i", 0))
+        for it in range(1_000):
+            client.reply()
+        frames = b"".join(framed(struct.pack(">ii", 10 + it, COUNT) + text(b"/")) for it in range(200))
+        reads = reads_beside(server, client, frames, 200)
+        if reads < 100:
+            raise Wrong(f"{reads} reads beside 200 counts")
+
+
+def unreadable() -> None:
+    with Server() as server:
+        owner, client, none = Client(server.port), Client(server.port), struct.pack(">i", 0)
+        if owner.ask(AUTH, struct.pack(">i", 0) + text(b"digest") + text(b"u:p"), -4):
+            raise Wrong("no identity")
+        own_acl = struct.pack(">ii", 1, 31) + text(b"auth") + text(b"")
+        if error := owner.ask(CREATE, text(b"/own") + text(b"x") + own_acl + struct.pack(">i", 0)):
+            raise Wrong(f"create: {error}")
+        body = struct.pack(">q", 1 << 60) + none + none + struct.pack(">i", 1) + text(b"/own")
+        if error := client.ask(SET_WATCHES, body, -8):
+            raise Wrong(f"setWatches: {error}")
+        owner.create(b"/own/child")
+        client.ping()
+        if client.reply()[0] != EVENT:
+            raise Wrong("the watch is not set")
+
+
 def identities() -> None:
     with Server() as server:
         client = Client(server.port)
@@ -332,9 +397,9 @@ def identities() -> None:
         raise Wrong("the connection goes on")
 
 
-PARTS = [pause, silent, full, addresses, unread, headers, identities, disk]
+PARTS = [pause, silent, full, addresses, unread, headers, identities, unreadable, disk]
 # They measure, and want a machine of their own.
-MEASURED = [writer, idle, watches]
+MEASURED = [writer, idle, watches, resumed, counts]
 
 
 def main() -> None:

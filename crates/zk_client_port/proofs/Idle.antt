@@ -9,7 +9,7 @@ use Rattle.zk_client_port.specs.declared.admission.Admission.{Admission}
 use Rattle.zk_client_port.specs.declared.execution.Moment.{Moment}
 use Rattle.zk_client_port.specs.declared.expected.Expected.{Expected}
 use Rattle.zk_connections.specs.Connections.{closing, session_of}
-use Rattle.zk_connections.specs.Inputs.{taken_in, taken_next, taken_of, taken_opening, taken_word}
+use Rattle.zk_connections.specs.Inputs.{rests, taken_in, taken_next, taken_of, taken_opening, taken_word}
 use Rattle.zk_connections.specs.Words.{word_in}
 use Rattle.zk_connections.specs.declared.connection.Connection.{Connection}
 use Rattle.zk_connections.specs.declared.connection.Phase.{Phase}
@@ -34,7 +34,7 @@ either true it taken is = refl
 either false it taken is = is
 
 pub no_frame : (it : Connection) → it.input ≡ [] → taken_of it ≡ (it, None)
-no_frame it none = either it.ends it (taken_in it.phase it) (none_in it.phase it none)
+no_frame it none = either (rests it) it (taken_in it.phase it) (none_in it.phase it none)
 
 pub idle : {S : Type 0} (setting : Setting Call) (moment : Moment) (host : ReplicaHost S) (hub : List (Outstanding Expected Outcome)) (it : Connection) (admission : Admission)
     → length it.input ≡ 0 → ServesAll setting moment (served host hub it) admission (served host hub it) admission

@@ -1,15 +1,13 @@
 -- The ensemble's sessions as connections get and lose them. ZooKeeper Programmer's Guide,
 -- "ZooKeeper Sessions".
-use Rattle.std.specs.Prelude.{ℕ, ℤ, List, [], ◌∷◌, ◌++◌, find, Option, Some, None, if◌then◌else◌}
+use Rattle.std.specs.Prelude.{ℕ, ℤ, List, [], ◌∷◌, ◌++◌, find, Option, Some, None}
 use Rattle.std.specs.Int.{w64, cast_signed}
-use Rattle.zk_client_port.specs.Demands.{is_open}
 use Rattle.zk_client_port.specs.declared.result.Attachment.{Attachment}
-use Rattle.zk_connections.specs.Sessions.{has_id, new_session, attached, touched, with_first, without_session}
+use Rattle.zk_connections.specs.Sessions.{has_id, new_session, attached, touched, with_first, with_opened, without_session}
 use Rattle.zk_connections.specs.declared.session.Session.{Session}
 
 abbrev pub opened_if_new : ℤ → ℤ → ℤ → List Session → List Session
-opened_if_new session timeout now sessions =
-    if is_open session sessions then sessions else sessions ++ new_session session timeout now ∷ []
+opened_if_new session timeout now sessions = with_opened (new_session session timeout now) sessions
 
 -- ---- a connection gets a session
 

@@ -86,9 +86,6 @@ impl Admission {
         ensures opened { OnOk result (self.new ≡ record self.old { sessions = opened_if_new session timeout now self.old.sessions }) }
         ensures unchanged { OnErr result (self.new ≡ self.old) }
     {
-        if self.is_open(session) {
-            return Ok(());
-        }
         self.sessions.open(session, timeout, now)
     }
 

@@ -209,9 +209,17 @@ zxid_in (answers.WatchesRemoved found zxid) = zxid
 zxid_in (answers.Paths paths zxid) = zxid
 zxid_in (answers.Count count zxid) = zxid
 
+-- the first watches of a setWatches have events, and no reply
+abbrev pub is_begun : ReplyKind → Bool
+is_begun kinds.WatchesBegun = true
+is_begun other = false
+
+abbrev pub reply_frame : ExpectedReply → Reply → List ℕ
+reply_frame expected reply = if is_begun expected.kind then [] else framed (reply_of (reply_to expected reply))
+
 -- events come before the reply that they came with
 abbrev pub bytes_of : ExpectedReply → Reply → List ℕ
-bytes_of expected reply = events_bytes (events_in reply) ++ framed (reply_of (reply_to expected reply))
+bytes_of expected reply = events_bytes (events_in reply) ++ reply_frame expected reply
 
 -- the state after a reply
 abbrev pub after_reply : Link → Reply → Link

@@ -1,5 +1,5 @@
 ghost use Rattle.std.specs.Prelude.{◌≡◌};
-ghost use Rattle.zk_client_session.specs.Replies.{closes_by};
+ghost use Rattle.zk_client_session.specs.Replies.{closes_by, is_begun};
 
 use std::marker::Model;
 use zk_acl::Text;
@@ -18,6 +18,13 @@ impl ExpectedReply {
         ensures { result ≡ closes_by self.now.kind }
     {
         matches!(self.kind, ReplyKind::Closed)
+    }
+
+    /// Whether a later part of the request has the reply.
+    pub(crate) fn is_begun(&self) -> bool
+        ensures { result ≡ is_begun self.now.kind }
+    {
+        matches!(self.kind, ReplyKind::WatchesBegun)
     }
 }
 
@@ -50,6 +57,9 @@ pub enum ReplyKind {
     Synced(Text),
     /// Nothing: the watches are set, or have fired.
     WatchesSet,
+    /// None at all: the first watches of a `setWatches` are set, or have fired, and the others have
+    /// the reply.
+    WatchesBegun,
     /// Nothing: the watches are removed.
     WatchesRemoved,
     /// The paths of ephemeral nodes.

@@ -13,6 +13,7 @@ mod identities;
 pub mod laws;
 mod link;
 mod multi;
+mod parts;
 mod path_set;
 mod paths;
 mod read_kind;

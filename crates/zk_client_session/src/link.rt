@@ -6,7 +6,7 @@ ghost use Rattle.zk_client_session.specs.declared.ask.Action.TheVariants as acti
 ghost use Rattle.zk_client_session.specs.declared.expected_reply.ReplyKind.TheVariants as kinds;
 ghost use Rattle.zk_requests.specs.declared.call.Request.TheVariants as requests;
 ghost use Rattle.zk_txn.specs.Nodes.{content_length};
-ghost use Rattle.zk_client_session.specs.Replies.{immediate_bytes, bytes_of, after_reply, event_frame};
+ghost use Rattle.zk_client_session.specs.Replies.{immediate_bytes, bytes_of, after_reply, event_frame, reply_frame};
 
 use crate::ask::{Action, Ask, Immediate, WatcherType};
 use crate::auth::digest_in;
@@ -345,8 +345,7 @@ impl Link {
     {
         self.see(reply.zxid());
         push_events(alloc, out, &reply)?;
-        let reply = reply_to(alloc, expected, reply)?;
-        write_reply(out, &reply)
+        push_reply(alloc, out, expected, reply)
     }
 
     /// Appends a watch event. After an error, part of the frame may have been appended, and the
@@ -371,6 +370,22 @@ impl Link {
             self.seen = zxid;
         }
     }
+}
+
+/// Appends the reply, unless a later part of the request has it.
+fn push_reply(
+    alloc: Global,
+    out: &mut Vec<u8>,
+    expected: ExpectedReply,
+    reply: Reply,
+) -> Result<(), FrameFault>
+    ensures { OnOk result (out.new.items ≡ out.old.items ++ reply_frame expected reply) }
+{
+    if expected.is_begun() {
+        return Ok(());
+    }
+    let reply = reply_to(alloc, expected, reply)?;
+    write_reply(out, &reply)
 }
 
 fn asks(ask: Ask, xid: i32, kind: ReplyKind) -> Action

@@ -117,6 +117,9 @@ impl Model for SavedWatches {
 }
 
 impl SavedWatches {
+    ghost use Rattle.std.specs.Prelude.{◌≡◌, ◌≤◌, length, take, drop, IfOk, OnOk};
+    ghost use Rattle.zk_client_session.specs.SavedWatches.{saved_in};
+
     /// The watches of a record, in its order.
     pub(crate) fn of(alloc: Global, r: SetWatches) -> Result<SavedWatches, NoMemory>
         ensures { IfOk result (λ watches. watches ≡ saved_in r) }
@@ -132,6 +135,23 @@ impl SavedWatches {
         ensures { result.now ≡ self.now }
     {
         self.watches.as_slice()
+    }
+
+    /// Their number.
+    pub(crate) fn len(&self) -> usize
+        ensures { result ≡ length self.now }
+    {
+        self.watches.len()
+    }
+
+    /// Splits off those after the first `count`.
+    pub(crate) fn split_off(&mut self, count: usize) -> Result<SavedWatches, NoMemory>
+        requires { count ≤ length self.old }
+        ensures first { OnOk result (self.new ≡ take count self.old) }
+        ensures rest { IfOk result (λ rest. rest ≡ drop count self.old) }
+    {
+        let watches = self.watches.split_off(count)?;
+        Ok(SavedWatches { watches })
     }
 }
 

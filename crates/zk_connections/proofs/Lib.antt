@@ -1,2 +1,4 @@
 pub mod Each
+pub mod SessionOrder
 pub mod Taking
+pub mod Turns

@@ -16,6 +16,10 @@ use Rattle.zk_client_session.specs.declared.expected_reply.ExpectedReply.{Expect
 use Rattle.zk_client_session.specs.declared.reply.Reply.{Reply}
 use Rattle.zk_machine.specs.declared.change.ChangeKind.{ChangeKind}
 
+-- the most that is taken in a turn: frames, and watches of a setWatches
+abbrev pub most_work : ℕ
+most_work = 1024
+
 abbrev pub new_connection : ℕ → Connection
 new_connection number = record {
   number = number;
@@ -24,6 +28,8 @@ new_connection number = record {
   watches = no_watches;
   input = [];
   output = [];
+  left = None;
+  work = most_work;
   listing = None;
   ends = false;
   closes = false;

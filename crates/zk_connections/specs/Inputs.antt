@@ -1,6 +1,6 @@
 -- What is taken of a connection's input: frames, one after another. `zookeeper.jute`, module
 -- `org.apache.zookeeper.proto`.
-use Rattle.std.specs.Prelude.{ℕ, List, ◌++◌, ◌+◌, length, take, drop, nat_lt, Bool, true, not, ◌&&◌, Option, Some, None, Result, Ok, Err, if◌then◌else◌}
+use Rattle.std.specs.Prelude.{ℕ, List, ◌++◌, ◌+◌, length, take, drop, nat_lt, Bool, true, not, ◌&&◌, ◌||◌, nat_eq, Option, Some, None, Result, Ok, Err, if◌then◌else◌}
 use Rattle.zk_connections.specs.Words.{word_in}
 use Rattle.zk_connections.specs.declared.connection.Connection.{Connection}
 use Rattle.zk_connections.specs.declared.connection.Phase.{Phase}
@@ -14,6 +14,7 @@ use Rattle.zk_frames.specs.declared.fault.FrameFault.{FrameFault}
 use Rattle.zk_frames.specs.declared.records.ConnectRequest.{ConnectRequest}
 use Rattle.zk_jute.specs.declared.fault.JuteFault.{JuteFault}
 use Rattle.zk_client_session.specs.Links.{action_of}
+use Rattle.zk_client_session.specs.Parts.{left_by, split}
 use Rattle.zk_client_session.specs.Replies.{closes_by, closes_after}
 use Rattle.zk_client_session.specs.declared.ask.Action.{Action}
 use Rattle.zk_client_session.specs.declared.ask.Action.TheVariants as actions
@@ -25,9 +26,13 @@ use Rattle.zk_client_session.specs.declared.link.Link.{Link}
 abbrev pub heard : List ℕ → Connection → Connection
 heard bytes it = if it.ends then it else record it { input = it.input ++ bytes }
 
+-- the bytes of the longest frame, with its length
+abbrev pub longest_frame : ℕ
+longest_frame = 4 + most_bytes
+
 -- no more is read while a whole frame may wait
 abbrev pub wants_input : Connection → Bool
-wants_input it = not it.ends && nat_lt (length it.input) (4 + most_bytes)
+wants_input it = not it.ends && nat_lt (length it.input) longest_frame
 
 -- the contents of the first frame, and what follows it
 abbrev pub frame_in : ℕ → List ℕ → List ℕ
@@ -69,15 +74,26 @@ ends_by (actions.Replies immediate) = closes_after immediate
 ends_by (actions.Asks ask expected) = closes_by expected.kind
 ends_by actions.Closes = true
 
-abbrev pub acts : Link × Action → ℕ → Connection → Connection × Option Taken
-acts acted n it = (record (without_frame n it) { phase = Connected acted.0; ends = ends_by acted.1 }, Some (taken.Acts acted.1))
+-- A part of an action is taken, or all that is left of it. Its frame stays until then.
+abbrev pub worked : Action × Option Action → ℕ → Connection → Connection × Option Taken
+worked (action, None) n it = (record (without_frame n it) { left = None; work = left_by action it.work; ends = ends_by action }, Some (taken.Acts action))
+worked (part, Some rest) n it = (record it { left = Some rest; work = left_by part it.work }, Some (taken.Acts part))
 
-abbrev pub taken_frame : Phase → ℕ → Connection → Connection × Option Taken
-taken_frame (Connected link) n it = acts (action_of link (frame_in n it.input)) n it
-taken_frame other n it = (it, None)
+-- no more watches than may be taken in this turn
+abbrev pub acts : Link × Action → ℕ → Connection → Connection × Option Taken
+acts acted n it = worked (split it.work acted.1) n (record it { phase = Connected acted.0 })
+
+abbrev pub taken_action : Phase → ℕ → Connection → Connection × Option Taken
+taken_action (Connected link) n it = acts (action_of link (frame_in n it.input)) n it
+taken_action other n it = (it, None)
+
+-- what is left of an action comes first
+abbrev pub taken_frame : Option Action → ℕ → Connection → Connection × Option Taken
+taken_frame None n it = taken_action it.phase n it
+taken_frame (Some action) n it = worked (split it.work action) n it
 
 abbrev pub taken_next : Result (Option ℕ) FrameFault → Connection → Connection × Option Taken
-taken_next (Ok (Some n)) it = taken_frame it.phase n it
+taken_next (Ok (Some n)) it = taken_frame it.left n it
 taken_next (Ok None) it = (it, None)
 taken_next (Err fault) it = broken it
 
@@ -92,5 +108,12 @@ taken_in New it = taken_first it
 taken_in Connecting it = (it, None)
 taken_in (Connected link) it = taken_request it
 
+-- no more is taken in this turn
+abbrev pub is_spent : Connection → Bool
+is_spent it = nat_eq it.work 0
+
+abbrev pub rests : Connection → Bool
+rests it = it.ends || is_spent it
+
 abbrev pub taken_of : Connection → Connection × Option Taken
-taken_of it = if it.ends then (it, None) else taken_in it.phase it
+taken_of it = if rests it then (it, None) else taken_in it.phase it

@@ -1,3 +1,4 @@
+pub mod ConnectionLaws
 pub mod Passwords
 pub mod Sessions
 pub mod Connections

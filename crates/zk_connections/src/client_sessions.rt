@@ -1,10 +1,15 @@
+ghost use Rattle.std.specs.List.Sorted.{IsStrictlySortedBy};
+ghost use Rattle.std.specs.Ordering.{int_cmp};
+ghost use Rattle.std.specs.Prelude.{◌≡◌, ◌<◌, ◌≤◌, length, IfOk, MatchResult};
+ghost use Rattle.zk_connections.specs.Sessions.{is_at, with_first, detached, without_session, expired_at, session_cmp, IsSessionPlace};
+
 use crate::session::Session;
 use std::alloc::Global;
+use std::cmp::Ordering;
 use std::marker::Model;
 use zk_path::NoMemory;
 
-/// The sessions of an ensemble's clients, in the order in which they were opened. Contracts see
-/// their list.
+/// The sessions of an ensemble's clients, in the order of their numbers. Contracts see their list.
 #[derive(Debug, Drop)]
 pub struct ClientSessions {
     sessions: Vec<Session>,
@@ -12,17 +17,34 @@ pub struct ClientSessions {
 
 impl Model for ClientSessions {
     ghost use Rattle.std.specs.Prelude.{List};
+    ghost use Rattle.std.specs.List.Sorted.{IsStrictlySortedBy};
+    ghost use Rattle.zk_connections.specs.Sessions.{session_cmp};
     ghost use Rattle.zk_connections.specs.declared.session.Session.{Session};
 
     ghost Value = { List Session };
 
     ghost view = { λ it. it.sessions.items };
+
+    ghost invariant = { λ it. IsStrictlySortedBy session_cmp it.sessions.items };
+}
+
+/// The position of a session, or else the one where it would be inserted.
+fn position_of(sessions: &[Session], id: i64) -> Result<usize, usize>
+    requires { IsStrictlySortedBy session_cmp sessions.now }
+    ensures within { MatchResult result (λ at. at < length sessions.now) (λ at. at ≤ length sessions.now) }
+    ensures place { IsSessionPlace id sessions.now result }
+{
+    sessions.binary_search_by(
+        |it: &Session| -> Ordering
+            ensures { result ≡ int_cmp it.now.id id }
+        { it.id.cmp(&id) },
+    )
 }
 
 impl ClientSessions {
-    ghost use Rattle.std.specs.Prelude.{◌≡◌, ◌++◌, ◌∷◌, [], find, IfOk, OnOk, OnErr};
+    ghost use Rattle.std.specs.Prelude.{◌≡◌, [], find, IfOk, OnOk, OnErr};
     ghost use Rattle.std.specs.Option.{option_copied};
-    ghost use Rattle.zk_connections.specs.Sessions.{new_session, has_id, is_at, with_first, touched, attached, detached, without_session, expired_at};
+    ghost use Rattle.zk_connections.specs.Sessions.{new_session, has_id, is_at, with_first, with_opened, touched, attached, detached, without_session, expired_at};
 
     /// Allocates no memory.
     pub fn new(alloc: Global) -> ClientSessions
@@ -33,12 +55,16 @@ impl ClientSessions {
         }
     }
 
-    /// Adds a session that was opened now, and that no connection has yet.
+    /// Adds a session that was opened now, and that no connection has yet. One that is there stays as
+    /// it is.
     pub fn open(&mut self, id: i64, timeout: i32, now: i64) -> Result<(), NoMemory>
-        ensures opened { OnOk result (self.new ≡ self.old ++ new_session id timeout now ∷ []) }
+        ensures opened { OnOk result (self.new ≡ with_opened (new_session id timeout now) self.old) }
         ensures unchanged { OnErr result (self.new ≡ self.old) }
     {
-        self.sessions.push(Session::new(id, timeout, now))?;
+        match position_of(&self.sessions, id) {
+            Ok(_) => {}
+            Err(at) => self.sessions.insert(at, Session::new(id, timeout, now))?,
+        }
         Ok(())
     }
 
@@ -46,14 +72,20 @@ impl ClientSessions {
     pub fn session(&self, id: i64) -> Option<&Session>
         ensures { option_copied result ≡ find (has_id id) self.now }
     {
-        find_in(&self.sessions, id)
+        match position_of(&self.sessions, id) {
+            Ok(at) => Some(&self.sessions[at]),
+            Err(_) => None,
+        }
     }
 
     /// Records that a session's client was heard of now: the session expires its timeout later.
     pub fn touch(&mut self, id: i64, now: i64)
         ensures { self.new ≡ with_first (has_id id) (touched now) self.old }
     {
-        touch_in(&mut self.sessions, id, now);
+        match position_of(&self.sessions, id) {
+            Ok(at) => self.sessions[at].touch(now),
+            Err(_) => {}
+        }
     }
 
     /// Gives a session to a connection, which takes it from the one that had it. The timeout is that
@@ -61,7 +93,10 @@ impl ClientSessions {
     pub fn attach(&mut self, id: i64, connection: u64, timeout: i32, now: i64)
         ensures { self.new ≡ with_first (has_id id) (attached connection timeout now) self.old }
     {
-        attach_in(&mut self.sessions, id, connection, timeout, now);
+        match position_of(&self.sessions, id) {
+            Ok(at) => self.sessions[at].attach(connection, timeout, now),
+            Err(_) => {}
+        }
     }
 
     /// Records that a connection has ended. Its session lives on until its deadline.
@@ -86,16 +121,6 @@ impl ClientSessions {
     }
 }
 
-ghost use Rattle.std.specs.Prelude.{◌≡◌, find, IfOk};
-ghost use Rattle.std.specs.Option.{option_copied};
-ghost use Rattle.zk_connections.specs.Sessions.{has_id, is_at, with_first, touched, attached, detached, without_session, expired_at};
-
-fn find_in(sessions: &[Session], id: i64) -> Option<&Session>
-    ensures { option_copied result ≡ find (has_id id) sessions.now }
-{
-    sessions.iter().find(|it| it.id == id)
-}
-
 fn expired_in(alloc: Global, sessions: &[Session], now: i64) -> Result<Vec<i64>, NoMemory>
     ensures { IfOk result (λ ids. ids.items ≡ expired_at now sessions.now) }
 {
@@ -112,30 +137,6 @@ fn end_in(sessions: &mut Vec<Session>, id: i64)
     ensures { sessions.new.items ≡ without_session id sessions.old.items }
 {
     sessions.retain(|it| it.id != id);
-}
-
-fn touch_in(sessions: &mut Vec<Session>, id: i64, now: i64)
-    ensures { sessions.new.items ≡ with_first (has_id id) (touched now) sessions.old.items }
-{
-    for index in 0..sessions.len() {
-        let session = &mut sessions[index];
-        if session.id == id {
-            session.touch(now);
-            return;
-        }
-    }
-}
-
-fn attach_in(sessions: &mut Vec<Session>, id: i64, connection: u64, timeout: i32, now: i64)
-    ensures { sessions.new.items ≡ with_first (has_id id) (attached connection timeout now) sessions.old.items }
-{
-    for index in 0..sessions.len() {
-        let session = &mut sessions[index];
-        if session.id == id {
-            session.attach(connection, timeout, now);
-            return;
-        }
-    }
 }
 
 fn detach_in(sessions: &mut Vec<Session>, connection: u64)

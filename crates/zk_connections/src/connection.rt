@@ -5,7 +5,7 @@ use crate::byte_queue::ByteQueue;
 use crate::word::Word;
 use std::alloc::Global;
 use std::net::SocketAddr;
-use zk_client_session::{ConnectionWatches, Link};
+use zk_client_session::{Action, ConnectionWatches, Link};
 
 /// How far a connection has come.
 #[derive(Debug, Drop)]
@@ -33,6 +33,10 @@ pub struct Connection {
     pub(crate) input: ByteQueue,
     /// What was written, and is not sent yet.
     pub(crate) output: ByteQueue,
+    /// What is left of the action of the first frame, if some of it was taken.
+    pub(crate) left: Option<Action>,
+    /// How much more may be taken in this turn: frames, and watches of a `setWatches`.
+    pub(crate) work: usize,
     /// The word that it has sent, if the reply is a list that is not written yet.
     pub(crate) listing: Option<Word>,
     /// No more is taken.
@@ -48,6 +52,9 @@ impl Connection {
     /// The most bytes of output that may wait while more of the client's input is taken.
     pub const ENOUGH_OUTPUT: usize = 1_048_576;
 
+    /// The most that is taken in a turn: frames, and watches of a `setWatches`.
+    pub const MOST_WORK: usize = 1024;
+
     /// Allocates no memory.
     pub fn new(alloc: Global, number: u64) -> Connection
         ensures { result ≡ new_connection number }
@@ -59,6 +66,8 @@ impl Connection {
             watches: ConnectionWatches::new(alloc),
             input: ByteQueue::new(alloc),
             output: ByteQueue::new(alloc),
+            left: None,
+            work: Connection::MOST_WORK,
             listing: None,
             ends: false,
             closes: false,

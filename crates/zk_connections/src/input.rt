@@ -1,10 +1,13 @@
-ghost use Rattle.std.specs.Prelude.{◌≡◌, ◌+◌, ◌≤◌, length, IfOk, IfNone, IfSome, OnOk, OnErr};
-ghost use Rattle.zk_connections.specs.Inputs.{heard, broken, frame_in, ends_by, taken_connect, taken_frame, taken_of, taken_first, taken_request, wants_input};
+ghost use Rattle.std.specs.Prelude.{◌≡◌, ◌+◌, ◌≤◌, length, is_some, IsTrue, IfOk, IfNone, IfSome, OnOk, OnErr};
+ghost use Rattle.zk_connections.specs.Inputs.{heard, is_spent, rests, taken_action, worked, broken, frame_in, ends_by, taken_connect, taken_frame, taken_of, taken_first, taken_request, wants_input};
+ghost use Rattle.zk_connections.specs.Connections.{most_work};
+ghost use Rattle.zk_client_session.specs.Parts.{split};
 ghost use Rattle.zk_frames.specs.Frames.{next_frame_in};
 
 use crate::connection::{Connection, Phase};
 use crate::word::{Word, word_in};
 use std::alloc::Global;
+use std::mem::replace;
 use zk_client_session::Action;
 use zk_frames::{ConnectRequest, FrameFault, MOST_BYTES, next_frame, read_connect_request};
 use zk_jute::JuteFault;
@@ -57,14 +60,15 @@ impl Connection {
         self.input.append(bytes)
     }
 
-    /// Takes the first frame of the input, if it is whole. `None` if there is none, or if the
-    /// connection waits for its session, or has ended. After an allocation failure, the connection
+    /// Takes the first frame of the input, if it is whole; of many watches, as many as may be taken
+    /// in this turn. `None` if there is none, if the connection waits for its session or for the
+    /// next turn, or has ended. After an allocation failure, the connection
     /// is lost.
     pub fn take(&mut self, alloc: Global) -> Result<Option<Taken>, NoMemory>
         ensures taken { IfOk result (λ taken. taken_of self.old ≡ (self.new, taken)) }
         ensures idle { IfOk result (λ taken. IfNone taken (self.new ≡ self.old)) }
     {
-        if self.ends {
+        if self.rests() {
             return Ok(None);
         }
         match &self.phase {
@@ -119,19 +123,74 @@ impl Connection {
         }
     }
 
-    /// Takes a frame of this length.
+    /// Takes a frame of this length, or what is left of it.
     fn take_frame(&mut self, alloc: Global, count: usize) -> Result<Option<Taken>, NoMemory>
         requires { 4 + count ≤ length self.old.input }
-        ensures taken { IfOk result (λ taken. taken_frame self.old.phase count self.old ≡ (self.new, taken)) }
+        ensures taken { IfOk result (λ taken. taken_frame self.old.left count self.old ≡ (self.new, taken)) }
+        ensures idle { IfOk result (λ taken. IfNone taken (self.new ≡ self.old)) }
+    {
+        if self.left.is_none() {
+            return self.take_action(alloc, count);
+        }
+        match replace(&mut self.left, None) {
+            Some(action) => self.work_on(action, count),
+            None => Ok(None),
+        }
+    }
+
+    /// Takes a frame of this length.
+    fn take_action(&mut self, alloc: Global, count: usize) -> Result<Option<Taken>, NoMemory>
+        requires { 4 + count ≤ length self.old.input }
+        ensures taken { IfOk result (λ taken. taken_action self.old.phase count self.old ≡ (self.new, taken)) }
         ensures idle { IfOk result (λ taken. IfNone taken (self.new ≡ self.old)) }
     {
         let Phase::Connected(link) = &mut self.phase else {
             return Ok(None);
         };
         let action = link.take(alloc, frame_in(self.input.as_slice(), count))?;
-        self.input.remove(LENGTH + count);
-        self.ends = ends_by(&action);
-        Ok(Some(Taken::Acts(action)))
+        self.work_on(action, count)
+    }
+
+    /// Takes an action, or as much of it as may be taken in this turn. Its frame has this length.
+    fn work_on(&mut self, action: Action, count: usize) -> Result<Option<Taken>, NoMemory>
+        requires { 4 + count ≤ length self.old.input }
+        ensures taken { IfOk result (λ taken. worked (split self.old.work action) count self.old ≡ (self.new, taken)) }
+        ensures some { IfOk result (λ taken. IsTrue (is_some taken)) }
+    {
+        // Its length fits its type.
+        let _waiting = self.input.len();
+        let (part, left) = action.split(self.work)?;
+        self.work = part.left_by(self.work);
+        if left.is_none() {
+            self.input.remove(LENGTH + count);
+            self.ends = ends_by(&part);
+        }
+        self.left = left;
+        Ok(Some(Taken::Acts(part)))
+    }
+
+    /// Whether no more is taken, or none in this turn.
+    fn rests(&self) -> bool
+        ensures { result ≡ rests self.now }
+    {
+        self.ends || self.is_spent()
+    }
+
+    /// Whether no more is taken in this turn.
+    fn is_spent(&self) -> bool
+        ensures { result ≡ is_spent self.now }
+    {
+        self.work == 0
+    }
+
+    /// Begins another turn. Returns whether more may have waited for it.
+    pub fn begin_turn(&mut self) -> bool
+        ensures waited { result ≡ is_spent self.old }
+        ensures begun { self.new ≡ record self.old { work = most_work } }
+    {
+        let waited = self.is_spent();
+        self.work = Connection::MOST_WORK;
+        waited
     }
 
     fn break_off(&mut self) -> Taken

@@ -9,6 +9,7 @@ mod byte_queue;
 mod client_sessions;
 mod connection;
 mod input;
+pub mod laws;
 mod listing;
 mod output;
 mod password;

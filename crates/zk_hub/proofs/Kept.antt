@@ -2,7 +2,7 @@
 use Rattle.std.proofs.Common.{◌≡◌, ◌∙◌, ℕ, Bool, true, false, List, [], ◌∷◌, Option, Some, None, if◌then◌else◌, refl}
 use Rattle.zk_hub.specs.Reads.{Reader, after_look}
 use Rattle.zk_hub.specs.Replies.{after_ask, question, resumption}
-use Rattle.zk_hub.specs.Resumptions.{after_watch, after_watches, event_since, question_for, unless_fired, with_watch_at}
+use Rattle.zk_hub.specs.Resumptions.{after_watch, after_watches, event_since, question_for, setter, unless_fired, with_watch_at}
 use Rattle.zk_hub.specs.declared.reading.Resumption.{Resumption}
 use Rattle.zk_connections.specs.declared.connection.Connection.{Connection}
 use Rattle.zk_client_session.specs.Links.{path_in}
@@ -12,6 +12,7 @@ use Rattle.zk_client_session.specs.declared.ask.Ask.TheVariants as asks
 use Rattle.zk_client_session.specs.declared.saved_watch.SavedWatch.{SavedWatch}
 use Rattle.zk_machine.specs.declared.change.ChangeKind.{ChangeKind}
 use Rattle.zk_model.specs.declared.event.Question.{Question}
+use Rattle.zk_txn.specs.Replies.{path_read}
 
 abbrev pub own : Connection → ℕ × List ℕ
 own it = (it.number, it.input)
@@ -25,7 +26,7 @@ look_keeps question it = watch_keeps question.watch _ it.connection refl
 
 set_keeps : (client : Resumption) (watch : SavedWatch) (path : Option (List ℕ)) (it : Reader) → own (with_watch_at client watch path it).connection ≡ own it.connection
 set_keeps client watch None it = refl
-set_keeps client watch (Some path) it = look_keeps (question_for client (setting_call watch.kind path) true) it
+set_keeps client watch (Some path) it = look_keeps (question_for (setter watch.kind client (path_read (setting_call watch.kind path)) it) (setting_call watch.kind path) true) it
 
 fired_keeps : (event : Option ChangeKind) (client : Resumption) (watch : SavedWatch) (it : Reader) → own (unless_fired event client watch it).connection ≡ own it.connection
 fired_keeps (Some kind) client watch it = refl

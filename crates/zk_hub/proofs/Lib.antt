@@ -1,3 +1,5 @@
+pub mod Kept
+pub mod NoReads
 pub mod Order
 pub mod Requests
-pub mod Kept
+pub mod Setting

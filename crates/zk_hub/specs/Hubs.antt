@@ -29,6 +29,10 @@ is_read_of connection request = is_of connection request && is_read request.stag
 abbrev pub is_blocked : {E R : Type 0} → ℕ → List (Outstanding E R) → Bool
 is_blocked connection requests = list_any (is_read_of connection) requests
 
+-- a connection's read waits
+abbrev pub has_read : {E R : Type 0} → List (Outstanding E R) → Bool
+has_read requests = list_any (λ request. is_read request.stage) requests
+
 -- why no request of the connection is taken, where there may be this many
 abbrev pub push_fault : {E R : Type 0} → ℕ → ℕ → List (Outstanding E R) → Option HubFault
 push_fault most connection requests =

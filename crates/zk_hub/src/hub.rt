@@ -40,15 +40,20 @@ impl<T: Drop> From<AllocFailed<T>> for HubFault {
 #[derive(Debug, Drop)]
 pub struct Hub<E: Drop, R: Drop> {
     requests: Vec<Outstanding<E, R>>,
+    /// Whether some request may be a read. If none is, no connection is blocked.
+    reading: bool,
 }
 
 impl<E: Drop, R: Drop> Model for Hub<E, R> {
-    ghost use Rattle.std.specs.Prelude.{List};
+    ghost use Rattle.std.specs.Prelude.{◌≡◌, false, List};
+    ghost use Rattle.zk_hub.specs.Hubs.{has_read};
     ghost use Rattle.zk_hub.specs.declared.request.Outstanding.{Outstanding};
 
     ghost Value = { List (Outstanding E R) };
 
     ghost view = { λ hub. hub.requests.items };
+
+    ghost invariant = { λ hub. hub.reading ≡ false → has_read hub.requests.items ≡ false };
 }
 
 impl<E: Drop, R: Drop> Hub<E, R> {
@@ -63,6 +68,7 @@ impl<E: Drop, R: Drop> Hub<E, R> {
     {
         Hub {
             requests: Vec::new(alloc),
+            reading: false,
         }
     }
 
@@ -76,7 +82,7 @@ impl<E: Drop, R: Drop> Hub<E, R> {
     pub fn is_blocked(&self, connection: u64) -> bool
         ensures { result ≡ is_blocked connection self.now }
     {
-        is_blocked_in(&self.requests, connection)
+        self.reading && is_blocked_in(&self.requests, connection)
     }
 
     fn push_fault(&self, connection: u64) -> Option<HubFault>
@@ -103,7 +109,9 @@ impl<E: Drop, R: Drop> Hub<E, R> {
         if let Some(fault) = self.push_fault(request.connection) {
             return Err(fault);
         }
+        let reads = request.stage.is_read();
         self.requests.push(request)?;
+        self.reading = self.reading || reads;
         Ok(())
     }
 
@@ -160,7 +168,16 @@ impl<E: Drop, R: Drop> Hub<E, R> {
         ensures read { result ≡ next_read connection self.old }
         ensures rest { self.new ≡ without_read connection self.old }
     {
-        take_read_in(&mut self.requests, connection)
+        let expected = take_read_in(&mut self.requests, connection);
+        self.note_reads();
+        expected
+    }
+
+    /// Notes whether a read is left.
+    fn note_reads(&mut self)
+        ensures { self.new ≡ self.old }
+    {
+        self.reading = self.reading && has_read(&self.requests);
     }
 
     /// Drops the requests of a connection that has ended.
@@ -168,12 +185,19 @@ impl<E: Drop, R: Drop> Hub<E, R> {
         ensures { self.new ≡ without_connection connection self.old }
     {
         close_in(&mut self.requests, connection);
+        self.note_reads();
     }
 }
 
 ghost use Rattle.std.specs.Prelude.{◌≡◌, ◌==◌, ◌++◌, not, true, filter, find, IfOk, OnOk};
-ghost use Rattle.zk_hub.specs.Hubs.{is_blocked, waits_for, with_result, connection_of, next_read, without_read};
+ghost use Rattle.zk_hub.specs.Hubs.{has_read, is_blocked, waits_for, with_result, connection_of, next_read, without_read};
 ghost use Rattle.zk_hub.specs.Sorting.{reply_now, kept_now, still_ready, replies_from, kept_from};
+
+fn has_read<E: Drop, R: Drop>(requests: &[Outstanding<E, R>]) -> bool
+    ensures { result ≡ has_read requests.now }
+{
+    requests.iter().any(|it| it.stage.is_read())
+}
 
 fn is_blocked_in<E: Drop, R: Drop>(requests: &[Outstanding<E, R>], connection: u64) -> bool
     ensures { result ≡ is_blocked connection requests.now }

@@ -1,17 +1,18 @@
-ghost use Rattle.std.specs.Prelude.{◌≡◌, ◌++◌, ◌∷◌, [], IfOk, OnOk};
+ghost use Rattle.std.specs.Prelude.{◌≡◌, ◌++◌, ◌∷◌, [], map, IfOk, OnOk};
 ghost use Rattle.zk_hub.specs.Reads.{reader, KeepsNodes, Looks};
 ghost use Rattle.zk_hub.specs.Replies.{children_at, count_by, is_refused, Counts, Replies};
 ghost use Rattle.zk_txn.specs.Replies.{path_read};
-ghost use Rattle.zk_hub.specs.Resumptions.{after_watch, after_watches, event_of, events_of, found_at, question_for, with_watch_at, Resumes};
+ghost use Rattle.zk_hub.specs.Resumptions.{after_watch, after_watches, event_of, events_of, found_at, named_in, question_for, set_by, setter, with_watch_at, Resumes};
 ghost use Rattle.zk_client_session.specs.Links.{path_in};
 ghost use Rattle.zk_client_session.specs.TreeReads.{descendant_count, ephemerals_of};
 
 use crate::read;
 use std::alloc::Global;
 use zab_host::Storage;
-use zk_acl::{Ids, Text};
+use zk_acl::{Acl, Ids, Text};
 use zk_client_session::{
-    Ask, Reply, SavedWatch, SavedWatches, WatchEvent, WatchEvents, descendant_count, ephemerals,
+    Ask, Reply, SavedWatch, SavedWatchKind, SavedWatches, WatchEvent, WatchEvents,
+    descendant_count, ephemerals,
 };
 use zk_connections::Connection;
 use zk_host::{ReadFault, ReplicaHost};
@@ -195,14 +196,21 @@ impl Resumption {
     fn question(&self, call: ReadCall, watch: bool) -> Result<Question, NoMemory>
         ensures { IfOk result (λ it. it ≡ question_for self.now call watch) }
     {
-        Ok(Question {
+        Ok(self.question_by(self.auths.copy()?, call, watch))
+    }
+
+    /// A read by these identities in place of the client's.
+    fn question_by(&self, auths: Ids, call: ReadCall, watch: bool) -> Question
+        ensures { result ≡ question_for (record self.now { auths = auths }) call watch }
+    {
+        Question {
             server: self.server,
             session: self.session,
             seen: 0,
-            auths: self.auths.copy()?,
+            auths,
             call,
             watch,
-        })
+        }
     }
 }
 
@@ -262,6 +270,7 @@ fn probe<S: Storage>(
 }
 
 /// Sets a watch, unless its path is invalid.
+#[tactic(auto, using(crate::proofs::Setting::by_call, crate::proofs::Setting::by_none))]
 fn set_watch<S: Storage>(
     alloc: Global,
     host: &mut ReplicaHost<S>,
@@ -276,11 +285,80 @@ fn set_watch<S: Storage>(
     ensures written { host.new.tree.news ≡ [] }
     ensures rest { (host.new.host ≡ host.old.host) × ((host.new.shown ≡ host.old.shown) × (host.new.tags ≡ host.old.tags)) }
 {
-    let Some(call) = watch.setting_call(alloc)? else {
-        return Ok(());
-    };
-    look(host, connection, &resumption.question(call, true)?)?;
+    match watch.setting_call(alloc)? {
+        Some(call) => set_by(alloc, host, connection, resumption, watch.kind, call),
+        None => Ok(()),
+    }
+}
+
+/// Sets a watch of a kind by this read.
+fn set_by<S: Storage>(
+    alloc: Global,
+    host: &mut ReplicaHost<S>,
+    connection: &mut Connection,
+    resumption: &Resumption,
+    kind: SavedWatchKind,
+    call: ReadCall,
+) -> Result<(), ReadFault>
+    requires written { host.old.tree.news ≡ [] }
+    ensures sets { Resumes tt (set_by kind resumption.now call (reader host.old.tree connection.old))
+        (reader host.old.tree connection.old) (reader host.new.tree connection.new) result }
+    ensures nodes { KeepsNodes (reader host.old.tree connection.old) (reader host.new.tree connection.new) }
+    ensures written { host.new.tree.news ≡ [] }
+    ensures rest { (host.new.host ≡ host.old.host) × ((host.new.shown ≡ host.old.shown) × (host.new.tags ≡ host.old.tags)) }
+{
+    let auths = setter(alloc, host, connection, resumption, kind, call.path())?;
+    let question = resumption.question_by(auths, call, true);
+    look(host, connection, &question)?;
     Ok(())
+}
+
+/// The identities that set a watch: the client's, or for one of children all that the node's access
+/// control list names.
+fn setter<S: Storage>(
+    alloc: Global,
+    host: &mut ReplicaHost<S>,
+    connection: &mut Connection,
+    resumption: &Resumption,
+    kind: SavedWatchKind,
+    path: &Path,
+) -> Result<Ids, ReadFault>
+    requires written { host.old.tree.news ≡ [] }
+    ensures sets { Resumes (setter kind resumption.now path.now (reader host.old.tree connection.old)).auths
+        (reader host.old.tree connection.old) (reader host.old.tree connection.old) (reader host.new.tree connection.new) result }
+    ensures nodes { KeepsNodes (reader host.old.tree connection.old) (reader host.new.tree connection.new) }
+    ensures written { host.new.tree.news ≡ [] }
+    ensures rest { (host.new.host ≡ host.old.host) × ((host.new.shown ≡ host.old.shown) × (host.new.tags ≡ host.old.tags)) }
+{
+    match kind {
+        SavedWatchKind::Data | SavedWatchKind::Exist => Ok(resumption.auths.copy()?),
+        SavedWatchKind::Child => {
+            let path = path.copy()?;
+            let list = ReadCall::GetAcl { path };
+            let reply = look(host, connection, &resumption.question(list, false)?)?;
+            Ok(named_in(alloc, &reply)?)
+        }
+    }
+}
+
+/// The identities that an access control list names.
+fn named_in(alloc: Global, reply: &ReadReply) -> Result<Ids, NoMemory>
+    ensures { IfOk result (λ ids. ids ≡ named_in reply.now) }
+{
+    let ReadReply::AclIs { acl, .. } = reply else {
+        return Ok(Ids::new(Vec::new(alloc)));
+    };
+    ids_of(alloc, acl.as_slice())
+}
+
+fn ids_of(alloc: Global, entries: &[Acl]) -> Result<Ids, NoMemory>
+    ensures { IfOk result (λ ids. ids ≡ map (λ entry. entry.id) entries.now) }
+{
+    let mut ids = Vec::new(alloc);
+    for entry in entries {
+        ids.push(entry.id.copy()?)?;
+    }
+    Ok(Ids::new(ids))
 }
 
 /// Sets a watch, unless it has fired since. Returns its event if it has.

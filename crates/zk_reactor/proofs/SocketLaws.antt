@@ -1,6 +1,8 @@
 -- What a socket took, write by write.
-use Rattle.std.proofs.Common.{◌≡◌, ◌∙◌, ℕ, zero, suc, ◌+◌, ◌≤◌, ◌⊎◌, inl, inr, ◌==◌, Bool, true, false, List, [], ◌++◌, length, take, drop, Option, Some, None, Result, Ok, Err, if◌then◌else◌, refl, sym, ap, subst, arith, append_assoc, append-nil, length-drop}
-use Rattle.std.proofs.lemmas.List.{drop-drop, take-append-drop, take-take, drop-take}
+use Rattle.std.proofs.Common.{◌≡◌, ◌∙◌, ℕ, zero, suc, ◌+◌, ◌≤◌, ◌⊎◌, inl, inr, ◌==◌, Bool, true, false, List, [], ◌++◌, length, take, drop, Option, Some, None, Result, Ok, Err, if◌then◌else◌, refl, sym, ap, subst, arith, append_assoc, append-nil, length-append, length-drop, ◌<◌, not}
+use Rattle.std.proofs.lemmas.Bool.{and_parts, cond_both}
+use borrow.Author.Tests.{ltb-true}
+use Rattle.std.proofs.lemmas.List.{length-take, drop-drop, take-append-drop, take-take, drop-take}
 use Rattle.std.specs.Io.{WritesAtMost}
 use Rattle.std.specs.Io.KnownBytes.{Appends, Keeps, WriteAppends}
 use Rattle.std.specs.IoError.{error_kind}
@@ -8,8 +10,10 @@ use Rattle.std.specs.declared.io.Error.{Error}
 use Rattle.std.specs.declared.io.ErrorKind.{ErrorKind}
 use Rattle.std.specs.declared.io.ErrorKind.TheVariants as kinds
 use Rattle.zk_connections.specs.Connections.{lost}
+use Rattle.zk_connections.specs.Inputs.{heard, longest_frame, wants_input}
 use Rattle.zk_connections.specs.declared.connection.Connection.{Connection}
-use Rattle.zk_reactor.specs.Sockets.{SendsTo, after_write, failed_with, outcome_of, without_sent}
+use Rattle.zk_reactor.specs.Sockets.{HearsFrom, HearsOutcome, SendsTo, after_write, failed_with, most_input, outcome_of, without_sent}
+use Rattle.zk_reactor.specs.declared.outcome.Outcome.{Outcome}
 use Rattle.zk_reactor.specs.declared.outcome.Outcome.TheVariants as outcomes
 
 -- ---- known bytes
@@ -31,6 +35,28 @@ appends_both None b c xs ys p q = tt
 appends_both (Some held) None c xs ys p q = absurd p
 appends_both (Some held) (Some bs) None xs ys p q = absurd q
 appends_both (Some held) (Some bs) (Some cs) xs ys p q = q ∙ ap (λ (l : List ℕ). l ++ ys) p ∙ append_assoc held xs ys
+
+-- ---- one read
+
+bytes_bounded : (n : ℕ) (chunk : List ℕ) (old : Connection) → length chunk ≡ 8192 → wants_input old ≡ true → length old.input ≤ most_input → length (heard (take n chunk) old).input ≤ most_input
+bytes_bounded n chunk old few wants within =
+    let short : length old.input < longest_frame = ltb-true (length old.input) longest_frame (and_parts (not old.ends) _ wants).1 in
+    cond_both old.ends old (record old { input = old.input ++ take n chunk }) (λ it. length it.input ≤ most_input)
+    (λ _. within)
+    (λ _. grind (arith, few, short, length-append old.input (take n chunk), length-take n chunk))
+
+-- the input stays within the longest frame and one read
+pub heard_bounded : (outcome : Outcome) (chunk : List ℕ) (old new : Connection) → length chunk ≡ 8192 → wants_input old ≡ true → HearsOutcome outcome chunk old new
+    → length old.input ≤ most_input → length new.input ≤ most_input
+heard_bounded outcomes.Ended chunk old new few wants is within = rw is within
+heard_bounded (outcomes.Bytes n) chunk old new few wants (inl is) within = rw is (bytes_bounded n chunk old few wants within)
+heard_bounded (outcomes.Bytes n) chunk old new few wants (inr is) within = rw is within
+heard_bounded outcomes.Waits chunk old new few wants is within = rw is within
+heard_bounded outcomes.Interrupted chunk old new few wants is within = rw is within
+heard_bounded outcomes.Failed chunk old new few wants is within = rw is within
+
+pub hears_bounded : (before after : Known) (old new : Connection) → wants_input old ≡ true → HearsFrom before after old new → length old.input ≤ most_input → length new.input ≤ most_input
+hears_bounded before after old new wants hears within = heard_bounded (outcome_of hears.returned) hears.chunk old new hears.few wants hears.hears within
 
 -- ---- one write
 

@@ -7,7 +7,7 @@ use Rattle.std.specs.declared.io.Error.{Error}
 use Rattle.std.specs.declared.io.ErrorKind.{ErrorKind}
 use Rattle.std.specs.declared.io.ErrorKind.TheVariants as kinds
 use Rattle.zk_connections.specs.Connections.{lost, session_of}
-use Rattle.zk_connections.specs.Inputs.{heard}
+use Rattle.zk_connections.specs.Inputs.{heard, longest_frame}
 use Rattle.zk_connections.specs.declared.connection.Connection.{Connection}
 use Rattle.zk_reactor.specs.declared.outcome.Outcome.{Outcome}
 use Rattle.zk_reactor.specs.declared.outcome.Outcome.TheVariants as outcomes
@@ -31,6 +31,10 @@ HearsOutcome (outcomes.Bytes n) chunk old new = (new ≡ heard (take n chunk) ol
 HearsOutcome outcomes.Waits chunk old new = new ≡ old
 HearsOutcome outcomes.Interrupted chunk old new = new ≡ old
 HearsOutcome outcomes.Failed chunk old new = new ≡ lost old
+
+-- the most bytes of a connection's input: those of the longest frame, and of one read
+abbrev pub most_input : ℕ
+most_input = longest_frame + 8192
 
 -- of a socket with these bytes before and after, at most 8,192 are read and heard
 pub record HearsFrom (before after : Option (List ℕ)) (old new : Connection) : Type 0 where

@@ -12,6 +12,24 @@ use zk_client_service::ClientService;
 use zk_connections::Connection;
 use zk_path::NoMemory;
 
+/// What has come of writing to clients.
+#[derive(Clone, Copy, Debug, Default)]
+pub(crate) struct Written {
+    /// Frames that had to wait, for that or for another turn, may be taken.
+    pub(crate) may_go_on: bool,
+    /// A connection is over.
+    pub(crate) is_over: bool,
+}
+
+impl Written {
+    fn and(self, other: Written) -> Written {
+        Written {
+            may_go_on: self.may_go_on || other.may_go_on,
+            is_over: self.is_over || other.is_over,
+        }
+    }
+}
+
 /// The sockets of all connections, at most `most`, in the order of the connections' numbers.
 #[derive(Drop)]
 pub(crate) struct Clients {
@@ -89,9 +107,8 @@ impl Clients {
         Ok(())
     }
 
-    /// Writes what clients are sent. Returns whether a client whose frames had to wait for that may
-    /// have more of them taken.
-    pub(crate) fn write<S: Storage>(&mut self, service: &mut ClientService<S>) -> bool
+    /// Writes what clients are sent.
+    pub(crate) fn write<S: Storage>(&mut self, service: &mut ClientService<S>) -> Written
         ensures { self.new.most ≡ self.old.most }
     {
         write_all(self.list.as_mut_slice(), service)
@@ -184,26 +201,36 @@ fn read_client<S: Storage>(client: &mut Client, service: &mut ClientService<S>, 
     client.readable
 }
 
-fn write_all<S: Storage>(clients: &mut [Client], service: &mut ClientService<S>) -> bool {
-    let mut may_go_on = false;
+fn write_all<S: Storage>(clients: &mut [Client], service: &mut ClientService<S>) -> Written {
+    let mut written = Written::default();
     for server in 1..=service.len() {
         if let Some(connections) = service.connections_mut(server) {
-            may_go_on = write_server(clients, connections) || may_go_on;
+            written = written.and(write_server(clients, connections));
         }
     }
-    may_go_on
+    written
 }
 
-fn write_server(clients: &mut [Client], connections: &mut Vec<Connection>) -> bool {
-    let mut may_go_on = false;
+fn write_server(clients: &mut [Client], connections: &mut Vec<Connection>) -> Written {
+    let mut written = Written::default();
     for connection in connections {
-        if !connection.unsent().is_empty()
-            && let Some(place) = place_of(clients, connection.number())
-        {
-            may_go_on = write_client(&mut clients[place], connection) || may_go_on;
-        }
+        written = written.and(end_turn(clients, connection));
     }
-    may_go_on
+    written
+}
+
+/// Writes to a connection's client, and begins the connection's next turn.
+fn end_turn(clients: &mut [Client], connection: &mut Connection) -> Written {
+    let mut may_go_on = connection.begin_turn();
+    if !connection.unsent().is_empty()
+        && let Some(place) = place_of(clients, connection.number())
+    {
+        may_go_on = write_client(&mut clients[place], connection) || may_go_on;
+    }
+    Written {
+        may_go_on,
+        is_over: connection.is_over(),
+    }
 }
 
 /// Writes to a client. Returns whether frames of it that had to wait for that may be taken.

@@ -316,8 +316,12 @@ impl<S: Storage + Drop> Reactor<S> {
     /// closes the connections that are over.
     fn flush<W: Write + Drop>(&mut self, script: &mut Script<W>) -> Result<(), ReactorFault> {
         script.write_events(self.alloc, &mut self.service);
-        if self.clients.write(&mut self.service) {
+        let written = self.clients.write(&mut self.service);
+        if written.may_go_on {
             self.is_unsettled = true;
+        }
+        if !written.is_over {
+            return Ok(());
         }
         for server in 1..=self.service.len() {
             for number in self.service.remove_over(server)? {

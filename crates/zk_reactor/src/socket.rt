@@ -2,7 +2,7 @@
 ghost use Rattle.std.specs.Prelude.{◌≡◌, ◌≤◌, ◌==◌, true, false, length, not};
 ghost use Rattle.std.specs.Io.{ReadsAtMost};
 ghost use Rattle.zk_connections.specs.Inputs.{wants_input};
-ghost use Rattle.zk_reactor.specs.Sockets.{HearsFrom, HearsOutcome, SendsTo, after_tick, after_write, has_settled, ticks_after};
+ghost use Rattle.zk_reactor.specs.Sockets.{HearsFrom, HearsOutcome, SendsTo, after_tick, after_write, has_settled, most_input, ticks_after};
 
 use crate::outcome::{Outcome, outcome_of};
 use std::io::{Read, Write};
@@ -20,6 +20,7 @@ pub(crate) fn read_socket<R: Read>(socket: &mut R, connection: &mut Connection) 
     ensures full { wants_input connection.old ≡ false → (socket.new ≡ socket.old) × (connection.new ≡ connection.old) }
     ensures heard { wants_input connection.old ≡ true
         → HearsFrom (R.remaining socket.old) (R.remaining socket.new) connection.old connection.new }
+    ensures bounded { length connection.old.input ≤ most_input → length connection.new.input ≤ most_input }
 {
     if !connection.wants_input() {
         return true;

@@ -1,0 +1,100 @@
+#!/usr/bin/env bash
+# No answer of `zk` about a data directory goes beyond what its files prove. Over the files of real servers (examples/directories), as
+# they are, and as autopurge, a crash, a compression or a lost disk leaves them: the lines for a question after the last transaction,
+# for a history without its beginning, and for the end of an epoch that nothing proves.
+. checks/lib.sh
+real=$PWD/examples/directories/follower
+last=000000020000013f
+at=2026-11-27T14:58:02.694
+clock=${at}Z
+for name in epochs; do
+    mkdir "$work/$name"
+    tar -C "$work/$name" -xJf "examples/directories/$name.tar.xz"
+done
+
+# says STATUS-AND-LINES WORD..: `zk WORD..` ends so; what it prints on a fault is nothing
+says() {
+    local told=$1
+    shift
+    [ "$(ends "$zk" "$@")" = "$told" ] || { echo "zk $*: $(cat "$work/err")"; return 1; }
+    [ "${told:0:1}" = 0 ] || [ ! -s "$work/out" ]
+}
+
+# copied NAME: a copy of the directory
+copied() {
+    cp -r "$real" "$work/$1"
+    echo "$work/$1"
+}
+
+# ---- a question after the last transaction
+
+says "0 " show "$real" $last
+says "0 " show "$real" $at
+says "0 " show "$real" last
+for words in "0000000200000140" "2026-11-27T14:58:02.695" "2027-01-01T00:00"; do
+    says "1 zk: D7 $last $clock" show "$real" "$words"
+    says "1 zk: D7 $last $clock" show --json "$real" "$words"
+    says "1 zk: D7 $last $clock" diff "$real" 00000002000000d6 "$words"
+    says "1 zk: D7 $last $clock" diff --json "$real" 00000002000000d6 "$words"
+    says "1 zk: D7 $last $clock" diff "$real" "$words" last
+    says "1 zk: D7 $last $clock" restore "$real" /app --at "$words"
+done
+
+# the logs are in another directory, and `--logs` is forgotten
+mkdir "$work/snapshots" "$work/logs"
+cp "$real"/snapshot.* "$work/snapshots"
+cp "$real"/log.* "$work/logs"
+says "0 zk: ends 00000002000000d6" show "$work/snapshots" last
+says "0 " show "$work/snapshots" 00000002000000d6
+says "1 zk: D7 00000002000000d6" show "$work/snapshots" 00000002000000d7
+says "1 zk: D8" show "$work/snapshots" $at
+says "1 zk: D8" diff "$work/snapshots" $at last
+says "0 " show "$work/snapshots" $at --logs "$work/logs"
+
+# a time between two transactions, of which those between are missing
+missing=$(copied missing)
+rm "$missing/log.200000050"
+says "1 zk: D3 000000020000004f 00000002000000d8" show "$missing" 2026-11-27T14:56:20
+
+# ---- a history without its beginning
+
+purged=$work/purged
+mkdir "$purged"
+cp "$real"/log.2* "$purged"
+says "1 zk: D2 0000000200000050" show "$purged" last
+for snapshot in "$real"/snapshot.*; do
+    gzip -n <"$snapshot" >"$purged/${snapshot##*/}"
+done
+says "1 zk: D2 0000000200000050" show "$purged" last
+
+# the same where a log begins with an epoch: the snapshots are compressed, corrupt or deleted
+begins=$work/begins
+mkdir "$begins"
+cp "$work"/epochs/log.[23]* "$begins"
+says "1 zk: D2 0000000200000001" show "$begins" last
+says "1 zk: D2 0000000200000001" show "$begins" 0000000000000005
+head -c 1000 "$work/epochs/snapshot.20000035b" >"$begins/snapshot.20000035b"
+says "1 zk: D2 0000000200000001" show "$begins" last
+gzip -n <"$work/epochs/snapshot.20000035b" >"$begins/snapshot.20000035b"
+says "1 zk: D2 0000000200000001" show "$begins" last
+says "1 zk: D2 0000000200000001" restore "$begins" / --at last
+
+# the first epoch, and a log without a transaction
+mkdir "$work/first" "$work/blank"
+cp "$work"/epochs/log.1* "$work/first"
+says "0 " show "$work/first" last
+: >"$work/blank/log.300000001"
+says "1 zk: D8" show "$work/blank" last
+mv "$work/blank/log.300000001" "$work/blank/log.100000001"
+says "0 zk: ends 0000000000000000" show "$work/blank" last
+
+# ---- the end of an epoch
+
+# the logs and snapshots after 20000035f are missing, and no record has a digest: a server restores a tree from the others without a
+# word
+says "0 zk: unproved 000000020000035f 0000000300000001" show "$work/epochs" last
+# an earlier snapshot serves these questions, so that the end of epoch 1 counts too
+first="zk: unproved 0000000100000bde 0000000200000001"
+says "0 $first"$'\n'"zk: unproved 000000020000035f 0000000300000001" show "$work/epochs" 0000000200000400
+says "0 $first" show "$work/epochs" 000000020000035f
+echo "evidence: as real servers, or with a word"
