@@ -1,13 +1,12 @@
 //! The debugger over a data directory.
 
-use crate::disk_folder::{DiskFolder, is_directory};
+use crate::disk_folder::DiskFolder;
 use crate::faults::{faults, refuse};
-use crate::looking::upto_of;
 use std::io::{IsTerminal, Read};
 use std::{fs, io};
 use zk_cli_args::FolderDebug;
-use zk_commands::debug;
 use zk_commands::directory_session::run_repl;
+use zk_commands::{debug, upto_of};
 use zk_directory_state::Upto;
 use zk_log::{Sink, Source};
 use zk_path::NoMemory;
@@ -20,11 +19,6 @@ struct Place<'a> {
     from: Option<Upto>,
 }
 
-/// Whether a debugger is one of a directory: its first value names one, or an option says so.
-pub(crate) fn debugs_directory(rt: &HostRuntime, job: &FolderDebug) -> bool {
-    job.logs.is_some() || job.from.is_some() || (job.folder != "@" && is_directory(rt, job.folder))
-}
-
 /// Opens the script, if there is one, and runs the debugger over a data directory. Returns the exit
 /// status.
 ///
@@ -35,7 +29,10 @@ pub(crate) fn debug_directory(rt: &HostRuntime, job: &FolderDebug) -> Result<u8,
     let place = Place {
         snapshots: &snapshots,
         logs: &logs,
-        from: job.from.map(upto_of),
+        from: match job.from {
+            Some(until) => Some(upto_of(until)),
+            None => None,
+        },
     };
     match job.script {
         None => hold_session(rt, place, job.prompts),

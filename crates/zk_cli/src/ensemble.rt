@@ -5,7 +5,7 @@ use std::fs;
 use std::fs::File;
 use std::net::{Ipv4Addr, Net};
 use zab_host::MemoryStorage;
-use zk_cli_args::{Ensemble, ensemble_of, record_of};
+use zk_cli_args::Ensemble;
 use zk_data_files::{DataDirectory, DataFault, DataStore, UnknownStart};
 use zk_path::NoMemory;
 use zk_reactor::{InMemory, ReactorFault, Settings, Stores, new_secret, run};
@@ -33,7 +33,8 @@ impl<'b> Stores<DataStore<'b, UnknownStart>> for OnDisk<'_, 'b> {
     }
 }
 
-/// Runs an ensemble for ZooKeeper's clients. Returns the exit status.
+/// Runs an ensemble for ZooKeeper's clients, with the file of a record if there is one. Returns the
+/// exit status.
 pub(crate) fn run_ensemble<N: Net>(
     rt: &HostRuntime,
     net: &N,
@@ -57,24 +58,6 @@ pub(crate) fn run_ensemble<N: Net>(
     match ensemble.directory {
         Some(directory) => run_on_disk(rt, net, &settings, directory, record),
         None => run_in_memory(rt, net, &settings, record),
-    }
-}
-
-/// Runs an ensemble of several servers whose words name the file of a record. Returns the exit status;
-/// `None` for other words.
-pub(crate) fn run_recorded<N: Net>(
-    rt: &HostRuntime,
-    net: &N,
-    words: &[&str],
-) -> Result<Option<u8>, NoMemory> {
-    let Some(found) = record_of(rt.alloc(), words)? else {
-        return Ok(None);
-    };
-    match ensemble_of(rt.alloc(), found.others.as_slice())? {
-        Some(ensemble) if ensemble.serving.servers > 1 => {
-            Ok(Some(run_ensemble(rt, net, &ensemble, Some(found.value))?))
-        }
-        _ => Ok(None),
     }
 }
 

@@ -1,10 +1,11 @@
 -- The debugger that words name.
-use Rattle.std.proofs.Common.{◌≡◌, ◌∙◌, ℕ, ◌≤◌, ◌-◌, Bool, true, false, List, [], ◌∷◌, Bor, get_or, take, drop, length, Option, Some, None, refl, sym, ap, subst, codes, arith, option_map}
+use Rattle.std.proofs.Common.{◌≡◌, ◌∙◌, ℕ, ◌≤◌, ◌-◌, Bool, true, false, List, [], ◌∷◌, Bor, get_or, take, drop, length, Option, Some, None, refl, sym, ap, subst, codes, arith, option_map, is_some, ◌||◌}
 use Rattle.std.proofs.lemmas.List.{take_all}
 use Rattle.zk_cli_args.specs.Commands.{values_of}
 use Rattle.zk_cli_args.specs.Debugs.{IsOver, NamesDebugBehind, NamesDebugFrom, NamesDebugLine, NamesDebugPlain, NamesDebugPrompted, ReadsDebugAfter, ReadsDebugBehind, ReadsDebugLine, ReadsDebugNamed, ReadsDebugPrompted, ReadsDebugValues, ReadsDebugWith, SpellsFrom, debug_logs_of, debug_script_of, logged, prompted, starting}
 use Rattle.zk_cli_args.specs.Ensembles.{flag_or, value_or}
 use Rattle.zk_cli_args.specs.Folders.{ReadsUntil, SpellsUntil}
+use Rattle.zk_cli_args.specs.Lines.{ReadsDirectoryDebug, needs_directory}
 use Rattle.zk_cli_args.specs.Options.{ValueBeside, flag_in, option_in}
 use Rattle.zk_cli_args.specs.declared.debugging.FolderDebug.{FolderDebug}
 use Rattle.zk_cli_args.specs.declared.folders.Until.{Until}
@@ -109,3 +110,34 @@ of_values given from prompts words values read e r = of_given given from prompts
 
 pub has_no_values : (given : Option (List ℕ)) (from : Option Until) (prompts : Bool) (words : List (List ℕ)) → values_of words ≡ None → ReadsDebugPrompted given from prompts words None
 has_no_values given from prompts words e = λ it same names. absurd (cc (sym e ∙ names.given))
+
+-- ---- what only a directory has
+
+has_some : (x : Option (Bor (List ℕ))) (word : Option (List ℕ)) → option_map (λ (w : Bor (List ℕ)). w.now) x ≡ word → is_some x ≡ is_some word
+has_some None None e = refl
+has_some None (Some w) e = absurd (cc e)
+has_some (Some x) None e = absurd (cc e)
+has_some (Some x) (Some w) e = refl
+
+has_from : (word : Option (List ℕ)) (from : Option Until) → SpellsFrom word from → is_some from ≡ is_some word
+has_from None from e = ap is_some e
+has_from (Some word) None e = absurd e
+has_from (Some word) (Some from) e = refl
+
+need : (words : List (List ℕ)) (it : FolderDebug) → NamesDebugBehind words it → needs_directory it ≡ (is_some (logged words).0 || is_some (starting (logged words).1).0)
+need words it p =
+    let logs : is_some it.logs ≡ is_some (logged words).0 = has_some it.logs (logged words).0 p.logs in
+    let from : is_some it.from ≡ is_some (starting (logged words).1).0 = has_from (starting (logged words).1).0 it.from p.others.start in
+    ap (λ (b : Bool). b || is_some it.from) logs ∙ ap (λ (b : Bool). is_some (logged words).0 || b) from
+
+both_need : (words : List (List ℕ)) (it other : FolderDebug) → NamesDebugLine words it → NamesDebugLine words other → needs_directory it ≡ needs_directory other
+both_need words it other p q =
+    let both : p.program ∷ codes "debug" ∷ p.rest ≡ q.program ∷ codes "debug" ∷ q.rest = sym p.spelled ∙ q.spelled in
+    let rest : q.rest ≡ p.rest = cc both in
+    need p.rest it p.named ∙ sym (need p.rest other (subst (λ (r : List (List ℕ)). NamesDebugBehind r other) rest q.named))
+
+pub same_need : (words : List (List ℕ)) (it : FolderDebug) → ReadsDebugLine words (Some it) → needs_directory it ≡ false → ReadsDirectoryDebug words None
+same_need words it p none = λ other q. sym (both_need words it other p q) ∙ none
+
+pub no_line : (words : List (List ℕ)) → ReadsDebugLine words None → ReadsDirectoryDebug words None
+no_line words none = λ it p. absurd (none it p)

@@ -6,6 +6,8 @@ pub mod DigitsLaws
 pub mod DirectoryLaws
 pub mod EnsembleLaws
 pub mod FolderLaws
+pub mod FormLaws
+pub mod KindLaws
 pub mod GivenLaws
 pub mod LinesLaws
 pub mod MomentLaws

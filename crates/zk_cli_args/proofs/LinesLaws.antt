@@ -1,16 +1,24 @@
 -- A command line names at most one job, on files or on a directory, or one set of servers.
-use Rattle.std.proofs.Common.{◌≡◌, ℕ, ◌<◌, ◌≤◌, ◌^◌, List, [], ◌∷◌, Option, Some, None, refl, sym, ap, ◌∙◌, subst, codes, arith}
+use Rattle.std.proofs.Common.{◌≡◌, false, ℕ, ◌<◌, ◌≤◌, ◌^◌, List, [], ◌∷◌, Option, Some, None, refl, sym, ap, ◌∙◌, subst, codes, arith}
 use Rattle.std.proofs.lemmas.Fmt.{decimal_injective}
-use Rattle.zk_cli_args.specs.Commands.{Names, NamesBy, script_of}
-use Rattle.zk_cli_args.specs.Folders.{logs_of}
-use Rattle.zk_cli_args.specs.Lines.{NamesCommand, NamesOnly}
-use Rattle.zk_cli_args.specs.Serving.{NamesBehind, NamesServers, NamesServing, SpellsConnections, SpellsWithin}
+use Rattle.zk_cli_args.specs.Commands.{Names, NamesBy, NamesNoJob, script_of}
+use Rattle.zk_cli_args.specs.Folders.{NamesNoFolder, logs_of}
+use Rattle.zk_cli_args.specs.Comparing.{words_of_compare}
+use Rattle.zk_cli_args.specs.Ensembles.{NamesEnsemble, NamesEnsembleBehind, ReadsEnsemble}
+use Rattle.zk_cli_args.specs.Incidents.{words_of_history}
+use Rattle.zk_cli_args.specs.Lines.{IsAsked, IsSeveral, NamesCommand, NamesEnsembleBy, NamesOnly, ReadsRecorded, ReadsRecordedBy, file_of, name_of}
+use Rattle.zk_cli_args.specs.Options.{ValueBeside, record_of}
+use Rattle.zk_cli_args.specs.Verifying.{words_of_verify}
+use Rattle.zk_cli_args.specs.Serving.{NamesBehind, NamesNoServing, NamesServers, NamesServing, SpellsConnections, SpellsWithin}
 use Rattle.zk_cli_args.specs.declared.command.Order.{Order}
 use Rattle.zk_cli_args.specs.declared.command.Order.TheVariants as orders
 use Rattle.zk_cli_args.specs.declared.serving.Serving.{Serving}
-use Rattle.zk_cli_args.specs.declared.line.Command.{Command}
-use Rattle.zk_cli_args.specs.declared.line.Command.TheVariants as commands
+use Rattle.zk_cli_args.specs.declared.commands.Command.{Command}
+use Rattle.zk_cli_args.specs.declared.commands.Command.TheVariants as commands
+use Rattle.zk_cli_args.specs.declared.ensemble.Ensemble.{Ensemble}
+use Rattle.zk_cli_args.specs.declared.ensemble_job.EnsembleJob.{EnsembleJob}
 use Rattle.zk_cli_args.proofs.DirectoryLaws.{no_folder_job, no_folder_serving, same_folder}
+use Rattle.zk_cli_args.proofs.KindLaws.{compare_name, diff_name, history_name, is_known, no_debug_folder, no_debug_serving, no_known_folder, no_known_job, no_known_serving, restore_name, top_name, verify_name}
 use Rattle.zk_cli_args.proofs.NamesLaws.{apart, same_named}
 
 same_given : (x y : Option (List ℕ) × List (List ℕ)) → Some x ≡ Some y → x ≡ y
@@ -78,6 +86,25 @@ same_serving words a b p q =
 
 -- ---- a command line
 
+-- a command whose name no job, directory or servers have
+pub names_other : (words : List (List ℕ)) (command : Command) (name : List ℕ) → name_of words ≡ name → is_known name ≡ false → NamesCommand words command → NamesOnly words command
+names_other words command name e unknown p = record {
+  names = p;
+  job = λ o i s t q. absurd (no_known_job words o i s t name e unknown q);
+  folder = λ o f l q. absurd (no_known_folder words o f l name e unknown q);
+  serving = λ serving q. absurd (no_known_serving words serving name e unknown q);
+}
+
+ensemble_only : (words : List (List ℕ)) (job : EnsembleJob) (file : Option (List ℕ)) → file_of job ≡ file → NamesEnsembleBy words file job.ensemble → NamesOnly words (commands.Ensemble job)
+ensemble_only words job None e p =
+    names_other words (commands.Ensemble job) (codes "ensemble") (ap name_of p.spelled) refl (subst (λ (f : Option (List ℕ)). NamesEnsembleBy words f job.ensemble) (sym e) p)
+ensemble_only words job (Some file) e p = record {
+  names = subst (λ (f : Option (List ℕ)). NamesEnsembleBy words f job.ensemble) (sym e) p;
+  job = λ o i s t q. absurd (p.1 o i s t q);
+  folder = λ o f l q. absurd (p.2 o f l q);
+  serving = λ serving q. absurd (p.3 serving q);
+}
+
 pub names_only : (words : List (List ℕ)) (command : Command) → NamesCommand words command → NamesOnly words command
 names_only words (commands.Act job) p = record {
   names = p;
@@ -97,3 +124,75 @@ names_only words (commands.Serve it) p = record {
   folder = λ o f l q. no_folder_serving words o f l it q p;
   serving = λ serving q. same_serving words serving it q p;
 }
+names_only words (commands.Debug it) p = record {
+  names = p;
+  job = λ o i s t q. absurd (p.2 o i s t q);
+  folder = λ o f l q. absurd (no_debug_folder words o f l (ap name_of p.0.spelled) q);
+  serving = λ serving q. absurd (no_debug_serving words serving (ap name_of p.0.spelled) q);
+}
+names_only words (commands.History job) p = names_other words (commands.History job) (codes "history") (history_name words (words_of_history job) p) refl p
+names_only words (commands.Top job) p = names_other words (commands.Top job) (codes "top") (top_name words p.given p.parted) refl p
+names_only words (commands.Compare job) p = names_other words (commands.Compare job) (codes "compare") (compare_name words (words_of_compare job) p) refl p
+names_only words (commands.Verify job) p = names_other words (commands.Verify job) (codes "verify") (verify_name words (words_of_verify job) p) refl p
+names_only words (commands.Diff job) p = names_other words (commands.Diff job) (codes "diff") (diff_name words p.given p.parted) refl p
+names_only words (commands.Restore job) p = names_other words (commands.Restore job) (codes "restore") (restore_name words p.given p.parted) refl p
+names_only words (commands.Ensemble job) p = ensemble_only words job (file_of job) refl p
+
+pub asked_named : (words : List (List ℕ)) (command : Command) → IsAsked words command → NamesCommand words command
+asked_named words (commands.Act job) p = absurd p
+asked_named words (commands.Look job) p = absurd p
+asked_named words (commands.Debug it) p = absurd p
+asked_named words (commands.Serve it) p = absurd p
+asked_named words (commands.Ensemble job) p = absurd p
+asked_named words (commands.History job) p = p
+asked_named words (commands.Top job) p = p
+asked_named words (commands.Compare job) p = p
+asked_named words (commands.Verify job) p = p
+asked_named words (commands.Diff job) p = p
+asked_named words (commands.Restore job) p = p
+
+pub recorded_named : (words : List (List ℕ)) (job : EnsembleJob) → ReadsRecorded words (Some job) → NamesNoJob words → NamesNoFolder words → NamesNoServing words → NamesCommand words (commands.Ensemble job)
+recorded_named words job p no_job no_folder no_serving =
+    subst (λ (f : Option (List ℕ)). NamesEnsembleBy words f job.ensemble) (sym p.1) (p.2, no_job, no_folder, no_serving)
+
+-- ---- an ensemble's record
+
+same_found : (x y : ValueBeside) → Some x ≡ Some y → x ≡ y
+same_found x y e = cc
+
+pub recorded : (words others : List (List ℕ)) (file : List ℕ) (read : Option EnsembleJob) → record_of words ≡ Some (file, others) → ReadsRecordedBy file others read → ReadsRecorded words read
+recorded words others file (Some job) e r = (file, r.0, record { others = others; found = e; named = r.1; several = r.2 })
+recorded words others file None e r = λ asked it names.
+    let found = same_found (file, others) (asked, names.others) (sym e ∙ names.found) in
+    let same : others ≡ names.others = ap (λ (x : ValueBeside). x.1) found in
+    r it (subst (λ (w : List (List ℕ)). NamesEnsemble w it) (sym same) names.named) names.several
+
+pub not_recorded : (words : List (List ℕ)) → record_of words ≡ None → ReadsRecorded words None
+not_recorded words e = λ file it names. absurd (cc (sym e ∙ names.found))
+
+same_count : (values : List (List ℕ)) (a b : Serving) → NamesServers 1 values a → NamesServers 1 values b → a.servers ≡ b.servers
+same_count values a b p q =
+    let both : p.port ∷ p.servers ∷ [] ≡ q.port ∷ q.servers ∷ [] = sym p.two ∙ q.two in
+    let servers : q.servers ≡ p.servers = cc both in
+    one_number 1 15 p.servers a.servers b.servers (omega arith) p.are_servers (subst (λ (w : List ℕ). SpellsWithin 1 15 w b.servers) servers q.are_servers)
+
+same_size : (words : List (List ℕ)) (a b : Ensemble) → NamesEnsemble words a → NamesEnsemble words b → a.serving.servers ≡ b.serving.servers
+same_size words a b p q =
+    let both : p.program ∷ codes "ensemble" ∷ p.rest ≡ q.program ∷ codes "ensemble" ∷ q.rest = sym p.spelled ∙ q.spelled in
+    let rest : q.rest ≡ p.rest = cc both in
+    let named : NamesEnsembleBehind p.rest b = subst (λ (r : List (List ℕ)). NamesEnsembleBehind r b) rest q.named in
+    let left = p.named.others.others.others.others in
+    let right = named.others.others.others.others in
+    let values : right.values ≡ left.values = cc (sym right.given ∙ left.given) in
+    same_count left.values a.serving b.serving left.named (subst (λ (v : List (List ℕ)). NamesServers 1 v b.serving) values right.named)
+
+-- one server has no record
+pub of_several : (file : List ℕ) (words : List (List ℕ)) (it : Ensemble) (read : Option EnsembleJob) → ReadsEnsemble words (Some it) → IsSeveral file it read → ReadsRecordedBy file words read
+of_several file words it (Some job) named r =
+    (r.0, subst (λ (e : Ensemble). NamesEnsemble words e) (sym r.1) named, subst (λ (e : Ensemble). 1 < e.serving.servers) (sym r.1) r.2)
+of_several file words it None named few = λ other names several.
+    let same : it.serving.servers ≡ other.serving.servers = same_size words it other named names in
+    omega (arith, few, several, same)
+
+pub no_ensemble : (file : List ℕ) (words : List (List ℕ)) → ReadsEnsemble words None → ReadsRecordedBy file words None
+no_ensemble file words none = λ it names several. none it names

@@ -4,6 +4,8 @@ use Rattle.zk_cli_args.specs.Commands.{values_of}
 use Rattle.zk_cli_args.specs.Ensembles.{flag_or, value_or}
 use Rattle.zk_cli_args.specs.Folders.{SpellsUntil}
 use Rattle.zk_cli_args.specs.Options.{flag_in, option_in}
+use Rattle.zk_cli_args.specs.declared.command.Order.{Order}
+use Rattle.zk_cli_args.specs.declared.command.Order.TheVariants as orders
 use Rattle.zk_cli_args.specs.declared.debugging.FolderDebug.{FolderDebug}
 use Rattle.zk_cli_args.specs.declared.folders.Until.{Until}
 
@@ -29,6 +31,12 @@ debug_logs_of it = option_map (λ word. word.now) it.logs
 
 abbrev pub debug_script_of : FolderDebug → Option (List ℕ)
 debug_script_of it = option_map (λ word. word.now) it.script
+
+-- the job of a script, or of a session, on a file
+abbrev pub debugs : Order → Bool
+debugs orders.Debug = true
+debugs (orders.Session prompts) = true
+debugs order = false
 
 -- ---- a command line
 

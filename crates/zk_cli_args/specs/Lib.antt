@@ -6,6 +6,7 @@ pub mod Debugs
 pub mod Differing
 pub mod Ensembles
 pub mod Folders
+pub mod Forms
 pub mod Incidents
 pub mod Lines
 pub mod Moments

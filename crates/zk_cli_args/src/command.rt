@@ -43,7 +43,7 @@ pub struct Job<'a> {
 
 /// The job that words name.
 #[tactic(auto, using(crate::proofs::GivenLaws::named_behind))]
-pub(crate) fn job_of<'a>(alloc: Global, words: &'a [&'a str]) -> Result<Option<Job<'a>>, NoMemory>
+pub(crate) fn job_of<'a>(alloc: Global, words: &[&'a str]) -> Result<Option<Job<'a>>, NoMemory>
     ensures { IfOk result (λ read. ReadsJob (map (λ word. word.now) words.now) read) }
 {
     let [_, name, rest @ ..] = words else {

@@ -16,9 +16,9 @@ pub struct CompareJob<'a> {
 }
 
 /// The comparison that words name.
-pub fn compare_of<'a>(
+pub(crate) fn compare_of<'a>(
     alloc: Global,
-    words: &'a [&'a str],
+    words: &[&'a str],
 ) -> Result<Option<CompareJob<'a>>, NoMemory>
     ensures { IfOk result (λ read. option_map words_of_compare read ≡ compare_of (map (λ word. word.now) words.now)) }
 {

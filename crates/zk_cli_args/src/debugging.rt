@@ -1,13 +1,15 @@
-ghost use Rattle.std.specs.Prelude.{IfOk, map, option_map};
-ghost use Rattle.zk_cli_args.specs.Debugs.{ReadsDebugAfter, ReadsDebugBehind, ReadsDebugLine, ReadsDebugNamed, ReadsDebugPrompted, ReadsDebugValues, ReadsDebugWith};
+ghost use Rattle.std.specs.Prelude.{◌≡◌, None, is_some, IfOk, IfSome, map, option_map};
+ghost use Rattle.zk_cli_args.specs.Commands.{prompts_of, script_of};
+ghost use Rattle.zk_cli_args.specs.Debugs.{ReadsDebugAfter, ReadsDebugBehind, ReadsDebugLine, ReadsDebugNamed, ReadsDebugPrompted, ReadsDebugValues, ReadsDebugWith, debug_script_of, debugs};
+ghost use Rattle.zk_cli_args.specs.Lines.{ReadsDirectoryDebug, needs_directory};
 
-use crate::command::values_of;
+use crate::command::{Job, Order, values_of};
 use crate::folders::{Until, read_until};
 use crate::options::{flag_in, option_in};
 use std::alloc::Global;
 use zk_path::NoMemory;
 
-/// A debugger, if its first value names a data directory.
+/// A debugger of a data directory.
 #[derive(Clone, Copy, Debug)]
 pub struct FolderDebug<'a> {
     /// The data directory, or its `version-2`.
@@ -22,11 +24,55 @@ pub struct FolderDebug<'a> {
     pub prompts: bool,
 }
 
+/// The debugger that words name with an option that only a directory has.
+#[tactic(auto, using(crate::proofs::DebugLaws::same_need))]
+pub(crate) fn directory_debug_of<'a>(
+    alloc: Global,
+    words: &[&'a str],
+) -> Result<Option<FolderDebug<'a>>, NoMemory>
+    ensures { IfOk result (λ read. ReadsDirectoryDebug (map (λ word. word.now) words.now) read) }
+{
+    let Some(debug) = folder_debug_of(alloc, words)? else {
+        return Ok(None);
+    };
+    if !needs_directory(&debug) {
+        return Ok(None);
+    }
+    Ok(Some(debug))
+}
+
+fn needs_directory(debug: &FolderDebug) -> bool
+    ensures { result ≡ needs_directory debug.now }
+{
+    debug.logs.is_some() || debug.from.is_some()
+}
+
+/// The debugger of a directory, for a job whose input is one; `None` if its command does not debug.
+pub fn folder_debug_from<'a>(job: &Job<'a>) -> Option<FolderDebug<'a>>
+    ensures debugs { is_some result ≡ debugs job.now.order }
+    ensures folder { IfSome result (λ it. (it.folder.now ≡ job.now.input.now) × (it.logs ≡ None) × (it.from ≡ None)) }
+    ensures script { IfSome result (λ it. debug_script_of it ≡ script_of job.now) }
+    ensures prompts { IfSome result (λ it. it.prompts ≡ prompts_of job.now.order) }
+{
+    let prompts = match job.order {
+        Order::Debug => false,
+        Order::Session { prompts } => prompts,
+        _ => return None,
+    };
+    Some(FolderDebug {
+        folder: job.input,
+        logs: None,
+        from: None,
+        script: job.script,
+        prompts,
+    })
+}
+
 /// The debugger that words name.
 #[tactic(auto, using(crate::proofs::DebugLaws::from_words))]
-pub fn folder_debug_of<'a>(
+fn folder_debug_of<'a>(
     alloc: Global,
-    words: &'a [&'a str],
+    words: &[&'a str],
 ) -> Result<Option<FolderDebug<'a>>, NoMemory>
     ensures { IfOk result (λ read. ReadsDebugLine (map (λ word. word.now) words.now) read) }
 {

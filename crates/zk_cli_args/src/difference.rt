@@ -35,7 +35,7 @@ pub(crate) struct DiffGiven<'a> {
 
 /// The two states that words name.
 #[tactic(auto, using(crate::proofs::DiffLaws::given_diff, crate::proofs::DiffLaws::no_diff))]
-pub fn diff_of<'a>(alloc: Global, words: &'a [&'a str]) -> Result<Option<DiffJob<'a>>, NoMemory>
+pub(crate) fn diff_of<'a>(alloc: Global, words: &[&'a str]) -> Result<Option<DiffJob<'a>>, NoMemory>
     ensures { IfOk result (λ read. ReadsDiff (map (λ word. word.now) words.now) read) }
 {
     match diff_words(alloc, words)? {

@@ -23,9 +23,9 @@ pub struct Ensemble<'a> {
 }
 
 /// The ensemble that words name.
-pub fn ensemble_of<'a>(
+pub(crate) fn ensemble_of<'a>(
     alloc: Global,
-    words: &'a [&'a str],
+    words: &[&'a str],
 ) -> Result<Option<Ensemble<'a>>, NoMemory>
     ensures { IfOk result (λ read. ReadsEnsemble (map (λ word. word.now) words.now) read) }
 {

@@ -45,7 +45,7 @@ pub struct FolderJob<'a> {
 #[tactic(auto, using(crate::proofs::FolderLaws::named_folder))]
 pub(crate) fn folder_job_of<'a>(
     alloc: Global,
-    words: &'a [&'a str],
+    words: &[&'a str],
 ) -> Result<Option<FolderJob<'a>>, NoMemory>
     ensures { IfOk result (λ read. ReadsFolder (map (λ word. word.now) words.now) read) }
 {

@@ -7,7 +7,10 @@ use std::alloc::Global;
 use zk_path::NoMemory;
 
 /// The other words of a command line with `--follow` before a `--`; `None` without it.
-pub fn follow_of<'a>(alloc: Global, words: &[&'a str]) -> Result<Option<Vec<&'a str>>, NoMemory>
+pub(crate) fn follow_of<'a>(
+    alloc: Global,
+    words: &[&'a str],
+) -> Result<Option<Vec<&'a str>>, NoMemory>
     ensures { IfOk result (λ found. option_map (λ others. map (λ word. word.now) others.items) found
         ≡ follow_of (map (λ word. word.now) words.now)) }
 {

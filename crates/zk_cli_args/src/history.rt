@@ -21,9 +21,9 @@ pub struct HistoryJob<'a> {
 }
 
 /// The history that words name.
-pub fn history_of<'a>(
+pub(crate) fn history_of<'a>(
     alloc: Global,
-    words: &'a [&'a str],
+    words: &[&'a str],
 ) -> Result<Option<HistoryJob<'a>>, NoMemory>
     ensures { IfOk result (λ read. option_map words_of_history read ≡ history_of (map (λ word. word.now) words.now)) }
 {

@@ -7,7 +7,7 @@ use zk_path::NoMemory;
 
 /// The value of an option, and the other words.
 #[derive(Debug, Drop)]
-pub struct OptionValue<'a> {
+pub(crate) struct OptionValue<'a> {
     pub value: &'a str,
     pub others: Vec<&'a str>,
 }
@@ -41,7 +41,10 @@ pub(crate) fn option_in<'a>(
 }
 
 /// The file of `--record`, and the other words.
-pub fn record_of<'a>(alloc: Global, words: &[&'a str]) -> Result<Option<OptionValue<'a>>, NoMemory>
+pub(crate) fn record_of<'a>(
+    alloc: Global,
+    words: &[&'a str],
+) -> Result<Option<OptionValue<'a>>, NoMemory>
     ensures { IfOk result (λ found. option_map shown found ≡ record_of (map (λ word. word.now) words.now)) }
 {
     option_in(alloc, "--record", "--record=", words)

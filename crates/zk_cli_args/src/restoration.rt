@@ -31,9 +31,9 @@ pub(crate) struct RestoreGiven<'a> {
 
 /// The nodes that words name.
 #[tactic(auto, using(crate::proofs::RestoreLaws::given_restore, crate::proofs::RestoreLaws::no_restore))]
-pub fn restore_of<'a>(
+pub(crate) fn restore_of<'a>(
     alloc: Global,
-    words: &'a [&'a str],
+    words: &[&'a str],
 ) -> Result<Option<RestoreJob<'a>>, NoMemory>
     ensures { IfOk result (λ read. ReadsRestore (map (λ word. word.now) words.now) read) }
 {

@@ -45,7 +45,7 @@ pub(crate) struct TopGiven<'a> {
 
 /// The paths or sessions that words ask for.
 #[tactic(auto, using(crate::proofs::TopLaws::given_top, crate::proofs::TopLaws::no_top))]
-pub fn top_of<'a>(alloc: Global, words: &'a [&'a str]) -> Result<Option<TopJob<'a>>, NoMemory>
+pub(crate) fn top_of<'a>(alloc: Global, words: &[&'a str]) -> Result<Option<TopJob<'a>>, NoMemory>
     ensures { IfOk result (λ read. ReadsTop (map (λ word. word.now) words.now) read) }
 {
     match top_words(alloc, words)? {

@@ -16,7 +16,10 @@ pub struct VerifyJob<'a> {
 }
 
 /// The verification that words name.
-pub fn verify_of<'a>(alloc: Global, words: &'a [&'a str]) -> Result<Option<VerifyJob<'a>>, NoMemory>
+pub(crate) fn verify_of<'a>(
+    alloc: Global,
+    words: &[&'a str],
+) -> Result<Option<VerifyJob<'a>>, NoMemory>
     ensures { IfOk result (λ read. option_map words_of_verify read ≡ verify_of (map (λ word. word.now) words.now)) }
 {
     let [_, name, rest @ ..] = words else {

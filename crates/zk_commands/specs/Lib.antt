@@ -22,3 +22,4 @@ pub mod Acting
 pub mod Later
 pub mod Outcomes
 pub mod Starts
+pub mod Questions

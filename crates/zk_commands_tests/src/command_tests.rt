@@ -1,7 +1,9 @@
 //! Command lines that no golden test can run: those with servers, and one with another name of the
 //! program.
 use std::alloc::Global;
-use zk_cli_args::{Command, ErrorKind, Order, read_command_line, refusal_of_bytes};
+use zk_cli_args::{
+    Command, CommandLine, ErrorKind, Form, Order, read_command_line, refusal_of_bytes,
+};
 
 /// A command line, with single spaces between words: its port, its number of servers and its number
 /// of connections.
@@ -31,7 +33,7 @@ fn names(alloc: Global, row: &Row) -> bool {
         return false;
     };
     let read = read_command_line(alloc, words.as_slice());
-    matches!(&read, Ok(Command::Serve(it))
+    matches!(&read, Ok(CommandLine { command: Command::Serve(it), .. })
         if (it.port, it.servers, it.connections) == (port, servers, connections))
 }
 
@@ -40,9 +42,46 @@ fn names(alloc: Global, row: &Row) -> bool {
 fn others_are_read(alloc: Global) -> bool {
     let read = read_command_line(alloc, &["other", "show", "@", "last", "--"]);
     let told = refusal_of_bytes(alloc);
-    matches!(&read, Ok(Command::Act(job)) if job.order == Order::Show { upto: None }
+    matches!(&read, Ok(CommandLine { command: Command::Act(job), .. }) if job.order == Order::Show { upto: None }
         && job.input == "@" && job.script.is_none() && job.output == "@")
         && matches!(&told, Ok(told) if told.is_fault() && told.kind == ErrorKind::InvalidValue)
+}
+
+/// A command line, the form of its command, and whether this follows logs; `None` for an error.
+type Formed = (&'static str, Option<(Form, bool)>);
+
+static FORMS: [Formed; 10] = [
+    ("zk list d", Some((Form::Lines, false))),
+    ("zk list d --json", Some((Form::Json, false))),
+    ("zk list --time iso d", Some((Form::Times, false))),
+    ("zk list d --follow --json", Some((Form::Json, true))),
+    ("zk history d /a --json", Some((Form::Json, false))),
+    // a directory of this name
+    ("zk list d --logs --json", Some((Form::Lines, false))),
+    // forms that the command does not have
+    ("zk files d --json", None),
+    ("zk top d --by path --time iso", None),
+    ("zk show d last --follow", None),
+    ("zk list d --json --time iso", None),
+];
+
+/// Whether the command line of a test case asks for this form.
+fn is_formed(alloc: Global, row: &Formed) -> bool {
+    let (text, wanted) = *row;
+    let Ok(words) = text.split(' ').collect::<Vec<_>>(alloc) else {
+        return false;
+    };
+    match read_command_line(alloc, words.as_slice()) {
+        Ok(line) => wanted == Some((line.form, line.follows)),
+        Err(_) => wanted.is_none(),
+    }
+}
+
+#[test]
+fn command_lines_ask_for_forms(rt: HostRuntime) {
+    for row in &FORMS {
+        assert!(rt; is_formed(rt.alloc(), row), "{}", row.0);
+    }
 }
 
 #[test]

@@ -4,7 +4,7 @@ use Rattle.std.proofs.Math.Seq.{drop-append_seam, take-suc}
 use Rattle.std.proofs.lemmas.List.{take_all}
 use Rattle.std.specs.Borrow.{Bor}
 use Rattle.std.specs.Fmt.{signed_decimal}
-use Rattle.zk_listings.specs.declared.form.Form.{Form}
+use Rattle.zk_cli_args.specs.declared.form.Form.{Form}
 use Rattle.zk_format.specs.Listings.{line_of, op_text}
 use Rattle.zk_json.specs.Times.{AppendsTime, IsTimeText}
 use Rattle.zk_txn.specs.declared.txn.Txn.{Txn}

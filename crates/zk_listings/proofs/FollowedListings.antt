@@ -7,7 +7,7 @@ use Rattle.zk_listings.proofs.Following.{entries_joined, last_joined, lines_join
 use Rattle.zk_listings.specs.Tails.{AreEntries, Feeds, last_of, position_of, shown_of}
 use Rattle.zk_listings.specs.declared.tail.Fed.{Fed}
 use Rattle.zk_listings.specs.declared.tail.LogTail.{LogTail}
-use Rattle.zk_listings.specs.declared.form.Form.{Form}
+use Rattle.zk_cli_args.specs.declared.form.Form.{Form}
 use Rattle.zk_newer_records.specs.declared.newer_record.NewerRecord.{NewerRecord}
 use Rattle.zk_txn.specs.declared.txn.Txn.{Txn}
 use Rattle.zk_listings.specs.Lines.{AreTxnLines}

@@ -1,4 +1,3 @@
-pub mod FormLaws
 pub mod Finished
 pub mod Following
 pub mod Sights

@@ -1,7 +1,7 @@
 -- The lines of all records, and of all transactions of a log.
 use Rattle.std.proofs.Common.{◌≡◌, ◌++◌, ◌∷◌, ℕ, ℤ, zero, suc, List, [], Option, None, Result, Ok, Err, refl, sym, ap, ◌∙◌, subst, append_assoc, append-nil}
 use Rattle.std.specs.String.{string_bytes}
-use Rattle.zk_listings.specs.declared.form.Form.{Form}
+use Rattle.zk_cli_args.specs.declared.form.Form.{Form}
 use Rattle.zk_json_commands.specs.Logs.{OutputsSuch}
 use Rattle.zk_log_commands.specs.Telling.{Outputs}
 use Rattle.zk_newer_records.specs.declared.newer_record.NewerRecord.{NewerRecord}

@@ -2,7 +2,7 @@
 use Rattle.std.specs.Prelude.{◌≡◌, ℤ, ℕ, pos, List, [], ◌∷◌, ◌++◌, ⊤}
 use Rattle.zk_listings.specs.Followings.{Follows, Place, Step, first_place}
 use Rattle.zk_listings.specs.Tails.{AreEntries, last_of, position_of, shown_of}
-use Rattle.zk_listings.specs.declared.form.Form.{Form}
+use Rattle.zk_cli_args.specs.declared.form.Form.{Form}
 use Rattle.zk_newer_records.specs.declared.newer_record.NewerRecord.{NewerRecord}
 use Rattle.zk_listings.specs.Lines.{AreTxnLines}
 

@@ -1,6 +1,6 @@
 -- What a follower of a log has printed while the log grew.
 use Rattle.std.specs.Prelude.{◌≡◌, ◌≤◌, ℕ, ℤ, pos, List, [], ◌∷◌, ◌++◌, length, take, drop}
-use Rattle.zk_listings.specs.declared.form.Form.{Form}
+use Rattle.zk_cli_args.specs.declared.form.Form.{Form}
 use Rattle.zk_newer_records.specs.declared.newer_record.NewerRecord.{NewerRecord}
 use Rattle.zk_listings.specs.Lines.{AreTxnLines}
 use Rattle.zk_listings.specs.Tails.{AreEntries, Feeds, last_of, shown_of}

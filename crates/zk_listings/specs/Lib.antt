@@ -1,5 +1,4 @@
 -- What the contracts of this crate cite.
-pub mod Forms
 pub mod Lines
 pub mod Tails
 pub mod Growths

@@ -1,8 +1,8 @@
 -- The line of a transaction in each form of a listing.
 use Rattle.std.specs.Prelude.{◌≡◌, ◌≢◌, ℕ, ℤ, List, [], ◌∷◌, ◌++◌, Option, Some, None}
 use Rattle.std.specs.Fmt.{signed_decimal}
-use Rattle.zk_listings.specs.declared.form.Form.{Form}
-use Rattle.zk_listings.specs.declared.form.Form.TheVariants as forms
+use Rattle.zk_cli_args.specs.declared.form.Form.{Form}
+use Rattle.zk_cli_args.specs.declared.form.Form.TheVariants as forms
 use Rattle.zk_format.specs.Listings.{line_of, op_text}
 use Rattle.zk_format.specs.Spelling.{id_digits}
 use Rattle.zk_json.specs.Records.{IsRecordLine}

@@ -4,7 +4,7 @@ use Rattle.std.specs.Global.{Global}
 use Rattle.std.specs.String.{string_bytes}
 use Rattle.zk_directory_state.specs.Records.{AreRecordsIn, HaveNoRecords}
 use Rattle.zk_directory_files.specs.declared.fault.HistoryFault.{HistoryFault}
-use Rattle.zk_listings.specs.declared.form.Form.{Form}
+use Rattle.zk_cli_args.specs.declared.form.Form.{Form}
 use Rattle.zk_json_commands.specs.Lines.{OutputsLines}
 use Rattle.zk_json_commands.specs.Logs.{TellsLoaded}
 use Rattle.zk_log.specs.declared.source.Source.{Source}

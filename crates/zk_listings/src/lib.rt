@@ -1,6 +1,5 @@
 //! `zk list` of a data directory or of a log, in each form of a line: that of a listing, the same
-//! with the time of a clock in UTC, or a JSON object. The words `--json` and `--time iso` of a
-//! command line say which.
+//! with the time of a clock in UTC, or a JSON object.
 //!
 //! Also `zk list --follow` of a data directory, over any logs and any writers. A log is read while
 //! a server writes it: the entries that stand whole in it so far.
@@ -9,7 +8,6 @@
 mod directory;
 mod fault;
 mod follower;
-mod form;
 mod formed_lines;
 mod lines;
 mod listing_laws;
@@ -24,7 +22,6 @@ mod timed;
 pub use directory::list_directory;
 pub use fault::FollowFault;
 pub use follower::Follower;
-pub use form::{AskedForm, Form, form_of};
 pub use formed_lines::{push_txn_line, push_txn_lines};
 pub use listing_laws::writes_listings;
 pub use log::list_log;
@@ -33,3 +30,4 @@ pub use polling::follow;
 pub use sight::{is_written, is_written_after, window_of};
 pub use tail::{Fed, LogTail, Stop};
 pub use tail_laws::prints_what_was_read;
+pub use zk_cli_args::Form;

@@ -2,8 +2,8 @@
 use Rattle.std.proofs.Common.{◌≡◌, ℕ, List, ◌++◌, take, drop, map, Option, Some, sym, ap, ◌∙◌}
 use Rattle.std.proofs.lemmas.List.{drop-map, map-append, take-map}
 use Rattle.std.specs.Borrow.{Bor}
-use Rattle.zk_listings.specs.Forms.{Found, asked_at, form_at, found_after}
-use Rattle.zk_listings.specs.declared.form.Form.{Form}
+use Rattle.zk_cli_args.specs.Forms.{Found, asked_at, form_at, found_after}
+use Rattle.zk_cli_args.specs.declared.form.Form.{Form}
 
 abbrev pub texts : List (Bor (List ℕ)) → List (List ℕ)
 texts words = map (λ (word : Bor (List ℕ)). word.now) words

@@ -1,8 +1,8 @@
 use Rattle.std.proofs.Common.{◌≡◌, ◌++◌, ◌-◌, Some, take, drop, length, option_map, rules, sym, ap, ◌∙◌, arith}
 use Rattle.std.proofs.lemmas.List.{length-drop, take_all}
-use Rattle.zk_listings.specs.Forms.{asked_at, form_at, shown_found}
-use Rattle.zk_listings.proofs.FormLaws.{found, texts}
-use Rattle.zk_listings.proofs.form.form_of.Goals as goal
+use Rattle.zk_cli_args.specs.Forms.{asked_at, form_at, shown_found}
+use Rattle.zk_cli_args.proofs.FormLaws.{found, texts}
+use Rattle.zk_cli_args.proofs.form.form_of.Goals as goal
 
 pub returns-in_ok-extend_from_slice-in-Some : goal.returns-in_ok-extend_from_slice-in-Some
 returns-in_ok-extend_from_slice-in-Some c =

@@ -1,7 +1,7 @@
 //! The form in which a command writes what it reads.
 ghost use Rattle.std.specs.Prelude.{◌≡◌, ◌≤◌, ◌++◌, IfOk, length, map, option_map};
 ghost use Rattle.std.specs.List.{position_or_len};
-ghost use Rattle.zk_listings.specs.Forms.{asked_at, form_of, is_mark, shown_form, shown_found, times_by};
+ghost use Rattle.zk_cli_args.specs.Forms.{asked_at, form_of, is_mark, shown_form, shown_found, times_by};
 
 use std::alloc::Global;
 use zk_path::NoMemory;
@@ -19,14 +19,14 @@ pub enum Form {
 
 /// The form that words ask for, and the other words.
 #[derive(Debug, Drop)]
-pub struct AskedForm<'a> {
+pub(crate) struct AskedForm<'a> {
     pub form: Form,
     pub others: Vec<&'a str>,
 }
 
 /// The form that the words of a command line ask for. The first of `--json`, `--time` and `--`
 /// decides; a `--time` without `iso` stays among the other words.
-pub fn form_of<'a>(alloc: Global, words: &[&'a str]) -> Result<AskedForm<'a>, NoMemory>
+pub(crate) fn form_of<'a>(alloc: Global, words: &[&'a str]) -> Result<AskedForm<'a>, NoMemory>
     ensures { IfOk result (λ asked. shown_form asked ≡ form_of (map (λ word. word.now) words.now)) }
 {
     let mark = mark_in(words);

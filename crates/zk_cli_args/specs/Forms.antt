@@ -3,9 +3,9 @@ use Rattle.std.specs.Prelude.{ℕ, Bool, ◌||◌, List, [], ◌∷◌, ◌++◌
 use Rattle.std.specs.Borrow.{Bor}
 use Rattle.std.specs.List.{position_or_len}
 use Rattle.std.specs.Str.{bytes_eq}
-use Rattle.zk_listings.specs.declared.form.AskedForm.{AskedForm}
-use Rattle.zk_listings.specs.declared.form.Form.{Form}
-use Rattle.zk_listings.specs.declared.form.Form.TheVariants as forms
+use Rattle.zk_cli_args.specs.declared.form.AskedForm.{AskedForm}
+use Rattle.zk_cli_args.specs.declared.form.Form.{Form}
+use Rattle.zk_cli_args.specs.declared.form.Form.TheVariants as forms
 
 -- a form, and words
 abbrev pub Found : Type 0
