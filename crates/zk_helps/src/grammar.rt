@@ -1,8 +1,7 @@
 //! The command line as `clap` reads it.
 
-use crate::helps::{
-    ASKING, EXPLAIN, FAULTS, FlagHelp, OptionHelp, OrderHelp, READING, RUNNING, ValueHelp,
-};
+use crate::helps::{ASKING, EXPLAIN, FlagHelp, OptionHelp, OrderHelp, READING, RUNNING, ValueHelp};
+use crate::notes::FAULTS;
 use clap::{Arg, ArgAction, Command};
 use std::alloc::{AllocError, Global};
 

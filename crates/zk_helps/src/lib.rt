@@ -8,6 +8,7 @@ mod explaining;
 mod explanations;
 mod grammar;
 mod helps;
+mod notes;
 mod usage;
 
 pub use clap::error::ErrorKind;
