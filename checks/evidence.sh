@@ -88,6 +88,44 @@ says "1 zk: D8" show "$work/blank" last
 mv "$work/blank/log.300000001" "$work/blank/log.100000001"
 says "0 zk: ends 0000000000000000" show "$work/blank" last
 
+# ---- a range that the logs do not hold
+
+# listed WORDS..: the commands that fold the logs, in each form
+first=000000010000022d
+begun=2026-11-27T14:55:44.913
+range="zk: range $first $last ${begun}Z $clock"
+for words in "list" "list --json" "list --time iso" "history / -r" "history --json /shop" "top --by path" "top --json --by session"; do
+    read -r command rest <<<"$words"
+    # shellcheck disable=SC2086
+    {
+        says "0 $range" "$command" "$real" $rest
+        says "0 $range" "$command" "$work/snapshots" $rest --logs "$work/logs"
+        says "1 zk: D8" "$command" "$work/snapshots" $rest
+        says "0 " "$command" "$work/first" $rest
+    }
+done
+for words in "--from $first" "--from $begun" "--from $first --to $last" "--from $begun --to $at" "--from $last" "--from $at"; do
+    # shellcheck disable=SC2086
+    says "0 " top "$real" --by path $words
+done
+for words in "--to $last" "--from 000000010000022c" "--from 2026-11-27T14:55:44.912" "--from $first --to 0000000200000140" "--from $first --to 2027-01-01T00:00" "--to $first"; do
+    # shellcheck disable=SC2086
+    says "0 $range" top "$real" --by session $words
+done
+for words in "--from 0000000200000140" "--from 2026-11-27T14:58:02.695" "--from 2027-01-01T00:00 --to 2027-01-02T00:00" "--json --from 0000000300000000"; do
+    # shellcheck disable=SC2086
+    says "1 zk: D7 $last $clock" top "$real" --by path $words
+done
+for words in "--to 000000010000022c" "--to 2026-11-27T14:55:44.912" "--json --from 2020-01-01T00:00 --to 2020-01-02T00:00"; do
+    # shellcheck disable=SC2086
+    says "1 zk: D2 $first" top "$real" --by path $words
+done
+# before the first transaction of all there was none
+says "0 " top "$work/first" --by path --to 2020-01-01T00:00
+[ ! -s "$work/out" ]
+says "0 " list "$work/blank"
+[ ! -s "$work/out" ]
+
 # ---- the end of an epoch
 
 # the logs and snapshots after 20000035f are missing, and no record has a digest: a server restores a tree from the others without a
