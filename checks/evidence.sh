@@ -1,13 +1,13 @@
 #!/usr/bin/env bash
 # No answer of `zk` about a data directory goes beyond what its files prove. Over the files of real servers (examples/directories), as
 # they are, and as autopurge, a crash, a compression or a lost disk leaves them: the lines for a question after the last transaction,
-# for a history without its beginning, and for the end of an epoch that nothing proves.
+# for a history without its beginning and for the end of an epoch that nothing proves, and the trees that a real server restores.
 . checks/lib.sh
 real=$PWD/examples/directories/follower
 last=000000020000013f
 at=2026-11-27T14:58:02.694
 clock=${at}Z
-for name in epochs; do
+for name in epochs upper; do
     mkdir "$work/$name"
     tar -C "$work/$name" -xJf "examples/directories/$name.tar.xz"
 done
@@ -88,6 +88,44 @@ says "1 zk: D8" show "$work/blank" last
 mv "$work/blank/log.300000001" "$work/blank/log.100000001"
 says "0 zk: ends 0000000000000000" show "$work/blank" last
 
+# ---- a range that the logs do not hold
+
+# listed WORDS..: the commands that fold the logs, in each form
+first=000000010000022d
+begun=2026-11-27T14:55:44.913
+range="zk: range $first $last ${begun}Z $clock"
+for words in "list" "list --json" "list --time iso" "history / -r" "history --json /shop" "top --by path" "top --json --by session"; do
+    read -r command rest <<<"$words"
+    # shellcheck disable=SC2086
+    {
+        says "0 $range" "$command" "$real" $rest
+        says "0 $range" "$command" "$work/snapshots" $rest --logs "$work/logs"
+        says "1 zk: D8" "$command" "$work/snapshots" $rest
+        says "0 " "$command" "$work/first" $rest
+    }
+done
+for words in "--from $first" "--from $begun" "--from $first --to $last" "--from $begun --to $at" "--from $last" "--from $at"; do
+    # shellcheck disable=SC2086
+    says "0 " top "$real" --by path $words
+done
+for words in "--to $last" "--from 000000010000022c" "--from 2026-11-27T14:55:44.912" "--from $first --to 0000000200000140" "--from $first --to 2027-01-01T00:00" "--to $first"; do
+    # shellcheck disable=SC2086
+    says "0 $range" top "$real" --by session $words
+done
+for words in "--from 0000000200000140" "--from 2026-11-27T14:58:02.695" "--from 2027-01-01T00:00 --to 2027-01-02T00:00" "--json --from 0000000300000000"; do
+    # shellcheck disable=SC2086
+    says "1 zk: D7 $last $clock" top "$real" --by path $words
+done
+for words in "--to 000000010000022c" "--to 2026-11-27T14:55:44.912" "--json --from 2020-01-01T00:00 --to 2020-01-02T00:00"; do
+    # shellcheck disable=SC2086
+    says "1 zk: D2 $first" top "$real" --by path $words
+done
+# before the first transaction of all there was none
+says "0 " top "$work/first" --by path --to 2020-01-01T00:00
+[ ! -s "$work/out" ]
+says "0 " list "$work/blank"
+[ ! -s "$work/out" ]
+
 # ---- the end of an epoch
 
 # the logs and snapshots after 20000035f are missing, and no record has a digest: a server restores a tree from the others without a
@@ -97,4 +135,62 @@ says "0 zk: unproved 000000020000035f 0000000300000001" show "$work/epochs" last
 first="zk: unproved 0000000100000bde 0000000200000001"
 says "0 $first"$'\n'"zk: unproved 000000020000035f 0000000300000001" show "$work/epochs" 0000000200000400
 says "0 $first" show "$work/epochs" 000000020000035f
+# `diff` and `restore`, and `--json`, write the notices on each state that they use, once where both states have the same
+for form in "" --json; do
+    says "0 zk: unproved 000000020000035f 0000000300000001" show $form "$work/epochs" last
+    says "0 $first" diff $form "$work/epochs" 0000000200000340 000000020000035f
+    says "0 $first"$'\n'"zk: unproved 000000020000035f 0000000300000001" diff $form "$work/epochs" 0000000200000340 last
+    says "0 zk: ends 00000002000000d6" show $form "$work/snapshots" last
+    says "0 zk: ends 00000002000000d6" diff $form "$work/snapshots" 00000002000000d6 last
+done
+says "0 zk: unproved 000000020000035f 0000000300000001" restore "$work/epochs" / --at last
+says "0 zk: ends 00000002000000d6" restore "$work/snapshots" / --at last
+
+# a record whose digest is not that of its tree: its last eight bytes are the digest
+wrong=$(copied wrong)
+python3 - "$wrong/log.2000000d8" <<'END'
+import struct, sys, zlib
+log = bytearray(open(sys.argv[1], "rb").read())
+size = struct.unpack_from(">I", log, 24)[0]
+log[28 + size - 1] ^= 1
+struct.pack_into(">Q", log, 16, zlib.adler32(log[28 : 28 + size]))
+open(sys.argv[1], "wb").write(log)
+END
+for form in "" --json; do
+    says "0 zk: otherDigest 1 00000002000000d8" show $form "$wrong" last
+    says "0 zk: otherDigest 1 00000002000000d8" diff $form "$wrong" 00000002000000d7 last
+done
+says "0 zk: otherDigest 1 00000002000000d8" restore "$wrong" /app --at last
+
+# ---- names that a server reads
+
+# `log.2000000D8`, in upper case: the server restored this tree
+says "0 " show "$work/upper" last
+[ "$(head -n 1 "$work/out")" = "zxid $last" ]
+grep '^"' "$work/out" | grep -v '^"/zookeeper' | cmp - <(grep '^"' "$work/upper/real.txt" | grep -v '^"/zookeeper')
+# leading zeros, more after a second dot, and a plus sign; of snapshots too
+says "0 " show "$real" last
+cp "$work/out" "$work/restored"
+for name in log.02000000d8 log.2000000d8.bak log.+2000000D8 snapshot.2000000D6 snapshot.02000000d6.old; do
+    other=$(copied "$name")
+    case $name in
+        log*) mv "$other/log.2000000d8" "$other/$name" ;;
+        *) mv "$other/snapshot.2000000d6" "$other/$name" ;;
+    esac
+    says "0 " show "$other" last
+    cmp "$work/out" "$work/restored"
+    says "0 " files "$other"
+    cmp "$work/out" examples/directories/follower.files
+done
+# names that a server leaves out
+mkdir "$work/none"
+touch "$work/none"/{log.,log.xyz,log.-1,log..d8,log_d8,snapshot,snapshot.0x1}
+says "1 zk: D1" files "$work/none"
+# a compressed log, which a server rejects too, and a compressed snapshot
+compressed=$(copied compressed)
+gzip -n "$compressed/log.2000000d8"
+says "1 zk: G1 log.2000000d8" show "$compressed" last
+gzip -n "$compressed/snapshot.2000000d6"
+says "0 " files "$compressed"
+grep -q '^snapshot.2000000d6 S6$' "$work/out"
 echo "evidence: as real servers, or with a word"

@@ -3,8 +3,10 @@
 use std::alloc::{AllocError, Global};
 use std::io::{Read, Seek, SeekFrom};
 use std::{fs, io};
-use zk_directory::FileName;
-use zk_directory_files::{Folder, FolderFault, HistoryFault, push_log_name};
+use zk_directory::{FileName, read_file_name};
+use zk_directory_files::{
+    Folder, FolderFault, HistoryFault, name_among, push_log_name, push_snapshot_name, server_files,
+};
 use zk_directory_state::logs_in;
 use zk_listings::GrowingLogs;
 
@@ -29,16 +31,9 @@ impl<'a> DiskFolder<'a> {
         let path = String::from_str(alloc, path)?;
         Ok(DiskFolder { rt, path })
     }
-}
 
-impl Folder for DiskFolder<'_> {
-    ghost use Rattle.std.specs.Prelude.{None};
-
-    ghost names_in = { λ _. None };
-
-    ghost bytes_in = { λ _ _. None };
-
-    fn names(&self, alloc: Global) -> Result<Vec<String>, FolderFault> {
+    /// The names of all files, in order.
+    fn file_names(&self, alloc: Global) -> Result<Vec<String>, FolderFault> {
         let entries = match fs::read_dir(self.rt, self.path.as_str()) {
             Ok(entries) => entries,
             Err(error) => return Err(fault_of(&error)),
@@ -52,13 +47,58 @@ impl Folder for DiskFolder<'_> {
                 Err(error) => return Err(fault_of(&error)),
             }
         }
+        names.sort_unstable();
+        Ok(names)
+    }
+
+    /// The path of the file of this name, or of the one that a server reads as it.
+    fn path_of(&self, alloc: Global, name: &str) -> Result<String, FolderFault> {
+        let path = self.path_in(alloc, name)?;
+        if fs::metadata(self.rt, path.as_str()).is_ok() {
+            return Ok(path);
+        }
+        let Some(file) = read_file_name(name) else {
+            return Ok(path);
+        };
+        let names = self.file_names(alloc)?;
+        match name_among(file, names.as_slice()) {
+            Some(held) => self.path_in(alloc, held.as_str()),
+            None => Ok(path),
+        }
+    }
+
+    /// The path of a file of this name.
+    fn path_in(&self, alloc: Global, name: &str) -> Result<String, FolderFault> {
+        match join(alloc, self.path.as_str(), name) {
+            Ok(path) => Ok(path),
+            Err(_) => Err(FolderFault::NoMemory),
+        }
+    }
+}
+
+impl Folder for DiskFolder<'_> {
+    ghost use Rattle.std.specs.Prelude.{None};
+
+    ghost names_in = { λ _. None };
+
+    ghost bytes_in = { λ _ _. None };
+
+    /// The snapshots and logs that a server reads, each by the name that a server writes: `log.d8` for
+    /// `log.0D8` and `log.d8.bak`.
+    fn names(&self, alloc: Global) -> Result<Vec<String>, FolderFault> {
+        let held = self.file_names(alloc)?;
+        let Ok(files) = server_files(alloc, held.as_slice()) else {
+            return Err(FolderFault::NoMemory);
+        };
+        let mut names = Vec::new(alloc);
+        for file in &files {
+            push_written_name(&mut names, *file)?;
+        }
         Ok(names)
     }
 
     fn read(&self, alloc: Global, name: &str) -> Result<Vec<u8>, FolderFault> {
-        let Ok(path) = join(alloc, self.path.as_str(), name) else {
-            return Err(FolderFault::NoMemory);
-        };
+        let path = self.path_of(alloc, name)?;
         match fs::read(self.rt, path.as_str()) {
             Ok(bytes) => Ok(bytes),
             Err(error) => Err(fault_of(&error)),
@@ -80,7 +120,11 @@ impl GrowingLogs for DiskFolder<'_> {
     ) -> Result<Vec<u8>, HistoryFault> {
         let mut name = String::new(alloc);
         push_log_name(&mut name, zxid)?;
-        let path = join(alloc, self.path.as_str(), name.as_str())?;
+        let path = match self.path_of(alloc, name.as_str()) {
+            Ok(path) => path,
+            Err(FolderFault::Read) => return Err(HistoryFault::Read),
+            Err(FolderFault::NoMemory) => return Err(HistoryFault::NoMemory),
+        };
         match read_part(self.rt, path.as_str(), at, count) {
             Ok(bytes) => Ok(bytes),
             Err(error) if error.kind() == io::ErrorKind::OutOfMemory => {
@@ -129,6 +173,19 @@ fn push_name(names: &mut Vec<String>, name: &str) -> Result<(), FolderFault> {
         Ok(()) => Ok(()),
         Err(_) => Err(FolderFault::NoMemory),
     }
+}
+
+/// Appends the name that a server writes for a file.
+fn push_written_name(names: &mut Vec<String>, file: FileName) -> Result<(), FolderFault> {
+    let mut name = String::new(*names.allocator());
+    let pushed = match file {
+        FileName::Snapshot { zxid } => push_snapshot_name(&mut name, zxid),
+        FileName::Log { zxid } => push_log_name(&mut name, zxid),
+    };
+    if pushed.is_err() || names.push(name).is_err() {
+        return Err(FolderFault::NoMemory);
+    }
+    Ok(())
 }
 
 fn fault_of(error: &io::Error) -> FolderFault {

@@ -12,7 +12,7 @@ use Rattle.zk_directory.specs.declared.chain.ChainFault.TheVariants as chains
 use Rattle.zk_directory.specs.declared.chain.Turn.{Turn}
 use Rattle.zk_directory.specs.declared.chain.Turn.TheVariants.{Take, Skip, Stop}
 use Rattle.zk_directory_state.specs.Attempts.{history_fault}
-use Rattle.zk_directory_state.specs.Listings.{start_listing}
+use Rattle.zk_directory_state.specs.Records.{first_reading}
 use Rattle.zk_directory_state.specs.Logs.{AreGiven, bytes_of}
 use Rattle.zk_directory_files.specs.declared.fault.HistoryFault.{HistoryFault}
 use Rattle.zk_directory_files.specs.declared.fault.HistoryFault.TheVariants as history_faults
@@ -257,7 +257,7 @@ log_fails start chain new txns now now' logs i fault lt so_far log = failed_at s
 
 -- ---- the transactions after a zxid
 
-chain_is : (chain : Chain) (zxid : Option ℤ) → chain.base ≡ zxid → chain.upto ≡ None → chain.position ≡ zxid → chain.taken.items ≡ [] → reading_at chain [] ≡ start_listing zxid
+chain_is : (chain : Chain) (zxid : Option ℤ) → chain.base ≡ zxid → chain.upto ≡ None → chain.position ≡ zxid → chain.taken.items ≡ [] → reading_at chain [] ≡ first_reading zxid
 chain_is chain zxid base upto position taken =
     ap (λ b. let r : Reading = record { history = record { base = b; upto = chain.upto; position = chain.position; taken = map told chain.taken.items }; records = []; window = None; is_over = false } in r) base
     ∙ ap (λ u. let r : Reading = record { history = record { base = zxid; upto = u; position = chain.position; taken = map told chain.taken.items }; records = []; window = None; is_over = false } in r) upto
@@ -278,7 +278,7 @@ found_later logs zxid chain txns kept base upto position taken all is = record {
   later = is ∙ ap (filter (is_later zxid)) all.2.2;
 }
 
-broken_later : (logs : List (Bor (List ℕ))) (logged : List ℤ) (zxid : Option ℤ) (chain : Chain) (failed : DirectoryFault) → reading_at chain [] ≡ start_listing zxid
+broken_later : (logs : List (Bor (List ℕ))) (logged : List ℤ) (zxid : Option ℤ) (chain : Chain) (failed : DirectoryFault) → reading_at chain [] ≡ first_reading zxid
     → (all : (files : List LogFile) × AreLogFiles (take (failed.log + 1) logs) files × (read_files (Ok (reading_at chain [])) files ≡ Err failed.fault)) → BreaksLater logs logged zxid (history_fault failed (pos 0) logged)
 broken_later logs logged zxid chain failed start all = record {
   failed = failed;
@@ -293,7 +293,7 @@ broken_by : (logs : List (Bor (List ℕ))) (logged : List ℤ) (zxid : Option �
 broken_by logs logged zxid history_faults.NoMemory b = tt
 broken_by logs logged zxid fault b = b
 
-fails_by : (logs : List (Bor (List ℕ))) (logged : List ℤ) (zxid : Option ℤ) (chain : Chain) (log : ℕ) (fault : RestoreFault) → reading_at chain [] ≡ start_listing zxid → FailsBy logs chain log fault
+fails_by : (logs : List (Bor (List ℕ))) (logged : List ℤ) (zxid : Option ℤ) (chain : Chain) (log : ℕ) (fault : RestoreFault) → reading_at chain [] ≡ first_reading zxid → FailsBy logs chain log fault
     → (let failed : DirectoryFault = record { log = log; fault = fault } in FindsLater logs logged zxid (Err (history_fault failed (pos 0) logged)))
 fails_by logs logged zxid chain log faults.NoMemory start f = tt
 fails_by logs logged zxid chain log fault start f =

@@ -5,7 +5,7 @@ use Rattle.std.specs.Global.{Global}
 use Rattle.zk_directory.specs.Chains.{history_of}
 use Rattle.zk_directory.specs.declared.chain.Chain.{Chain}
 use Rattle.zk_directory_state.specs.Attempts.{history_fault}
-use Rattle.zk_directory_state.specs.Listings.{start_listing}
+use Rattle.zk_directory_state.specs.Records.{first_reading}
 use Rattle.zk_directory_state.specs.Logs.{AreGiven, IsUnread, bytes_of, logs_from}
 use Rattle.zk_directory_files.specs.declared.fault.HistoryFault.{HistoryFault}
 use Rattle.zk_directory_files.specs.declared.fault.HistoryFault.TheVariants as faults
@@ -31,7 +31,7 @@ pub record AreLater (logs : List (Bor (List ℕ))) (zxid : Option ℤ) (txns : L
   pub files : List LogFile
   pub of_logs : AreLogFiles logs files
   pub reading : Reading
-  pub of_files : read_files (Ok (start_listing zxid)) files ≡ Ok reading
+  pub of_files : read_files (Ok (first_reading zxid)) files ≡ Ok reading
   pub later : txns ≡ filter (is_later zxid) (map txn_of reading.records)
 
 -- the logs were read up to the fault
@@ -39,7 +39,7 @@ pub record BreaksLater (logs : List (Bor (List ℕ))) (logged : List ℤ) (zxid 
   pub failed : DirectoryFault
   pub files : List LogFile
   pub of_logs : AreLogFiles (take (failed.log + 1) logs) files
-  pub of_files : read_files (Ok (start_listing zxid)) files ≡ Err failed.fault
+  pub of_files : read_files (Ok (first_reading zxid)) files ≡ Err failed.fault
   pub is : fault ≡ history_fault failed (pos 0) logged
 
 abbrev pub FindsLater : List (Bor (List ℕ)) → List ℤ → Option ℤ → Result (Vec Txn Global) HistoryFault → Type 0

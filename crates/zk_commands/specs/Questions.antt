@@ -16,14 +16,14 @@ use Rattle.zk_commands.specs.Starts.{Directory}
 use Rattle.zk_commands.specs.declared.question.Question.{Question}
 use Rattle.zk_commands.specs.declared.question.Question.TheVariants as questions
 use Rattle.zk_directory_files.specs.Outcomes.{TellsFiles}
-use Rattle.zk_directory_state.specs.Outcomes.{TellsListed, TellsShown}
+use Rattle.zk_directory_state.specs.Outcomes.{TellsShown}
 use Rattle.zk_directory_state.specs.declared.upto.Upto.{Upto}
 use Rattle.zk_directory_state.specs.declared.upto.Upto.TheVariants as uptos
 use Rattle.zk_incidents.specs.HistoryReports as histories
 use Rattle.zk_incidents.specs.TopReports as tops
-use Rattle.zk_incidents.specs.declared.range.Bound.{Bound}
-use Rattle.zk_incidents.specs.declared.range.Bound.TheVariants as bounds
-use Rattle.zk_incidents.specs.declared.range.Range.{Range}
+use Rattle.zk_directory_state.specs.declared.range.Bound.{Bound}
+use Rattle.zk_directory_state.specs.declared.range.Bound.TheVariants as bounds
+use Rattle.zk_directory_state.specs.declared.range.Range.{Range}
 use Rattle.zk_incidents.specs.declared.top_fold.Key.{Key}
 use Rattle.zk_incidents.specs.declared.top_fold.Key.TheVariants as keys
 use Rattle.zk_json_commands.specs.Differences as json_differences
@@ -63,7 +63,6 @@ range_of job = record { from = bound_of job.from; to = bound_of job.to }
 
 abbrev pub Looks : {O E : Type 0} → (O → Option (List ℕ)) → (E → Option (List ℕ)) → FolderOrder → Form → Directory → Sink O → Sink O → Sink E → Sink E → Result ℕ NoMemory → Type 0
 Looks written told orders.Files form d output output' faults faults' result = TellsFiles written told d.snapshots d.snapshot_bytes d.logs d.log_bytes output output' faults faults' result
-Looks written told orders.List forms.Lines d output output' faults faults' result = TellsListed written told d.snapshots d.logs d.log_bytes output output' faults faults' result
 Looks written told orders.List form d output output' faults faults' result = TellsLines written told form d.snapshots d.logs d.log_bytes output output' faults faults' result
 Looks written told (orders.Show until) forms.Json d output output' faults faults' result = TellsState written told d.snapshots d.snapshot_bytes d.logs d.log_bytes (upto_of until) output output' faults faults' result
 Looks written told (orders.Show until) form d output output' faults faults' result = TellsShown written told d.snapshots d.snapshot_bytes d.logs d.log_bytes (upto_of until) output output' faults faults' result

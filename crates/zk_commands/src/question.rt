@@ -8,8 +8,8 @@ use std::alloc::Global;
 use std::io::Write;
 use zk_cli_args::{By, DiffJob, FolderOrder, Form, HistoryJob, RestoreJob, TopJob, Until};
 use zk_directory_files::{Folder, files};
-use zk_directory_state::{Upto, list, show};
-use zk_incidents::{Bound, Key, Range, history, top};
+use zk_directory_state::{Bound, Range, Upto, show};
+use zk_incidents::{Key, history, top};
 use zk_json_commands::{diff_json, history_json, show_json, top_json, verify_json};
 use zk_listings::list_directory;
 use zk_log::Sink;
@@ -78,11 +78,7 @@ fn look<S: Folder, L: Folder, O: Write, E: Write>(
 {
     match order {
         FolderOrder::Files => files(alloc, snapshots, logs, output, faults),
-        FolderOrder::List => match form {
-            Form::Lines => list(alloc, snapshots, logs, output, faults),
-            Form::Json => list_directory(alloc, Form::Json, snapshots, logs, output, faults),
-            Form::Times => list_directory(alloc, Form::Times, snapshots, logs, output, faults),
-        },
+        FolderOrder::List => list_directory(alloc, form, snapshots, logs, output, faults),
         FolderOrder::Show { until } => match form {
             Form::Json => show_json(alloc, snapshots, logs, upto_of(until), output, faults),
             Form::Lines | Form::Times => {

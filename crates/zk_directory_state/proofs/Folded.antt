@@ -1,10 +1,10 @@
 -- The records of logs, folded one log after another.
-use Rattle.std.proofs.Common.{◌≡◌, ◌≢◌, ℕ, ℤ, pos, ◌+◌, ◌<◌, ◌≤◌, Bool, true, false, cond, List, [], ◌∷◌, ◌++◌, length, map, drop, take, get_or, inl, inr, Option, Some, None, Result, Ok, Err, Vec, Global, refl, sym, ap, ◌∙◌, subst, append_assoc, append-nil}
-use Rattle.std.proofs.lemmas.List.{drop_more, map-append, take_all}
+use Rattle.std.proofs.Common.{◌≡◌, ℕ, ℤ, pos, ◌+◌, ◌<◌, ◌≤◌, Bool, true, false, cond, List, [], ◌∷◌, ◌++◌, length, map, drop, take, get_or, inl, inr, Option, Some, None, Result, Ok, Err, Vec, Global, refl, sym, ap, ◌∙◌, subst, append-nil}
+use Rattle.std.proofs.lemmas.List.{take_all}
 use Rattle.std.specs.Borrow.{Bor}
 use Rattle.zk_replay.proofs.Turning.{next_is, at_end}
 use Rattle.zk_directory.specs.Chains.{History, above_of, after_turn, begins, history_of, is_before, is_repeated, once, stands, told, turn_of}
-use Rattle.zk_directory.specs.Continuing.{continues, counter_of}
+use Rattle.zk_directory.specs.Continuing.{continues}
 use Rattle.zk_directory.specs.declared.chain.Chain.{Chain}
 use Rattle.zk_directory.specs.declared.chain.ChainFault.{ChainFault}
 use Rattle.zk_directory.specs.declared.chain.ChainFault.TheVariants as chains
@@ -14,15 +14,14 @@ use Rattle.zk_directory.specs.declared.chain.Turn.TheVariants.{Take, Skip, Stop}
 use Rattle.zk_directory_state.specs.Attempts.{fault_by, history_fault, log_at}
 use Rattle.zk_directory_state.specs.Histories.{AreIn}
 use Rattle.zk_directory_files.specs.Names.{log_zxid, snapshot_zxid}
-use Rattle.zk_directory_state.specs.Listings.{IsBroken, IsFirst, listing_reading, start_listing}
+use Rattle.zk_directory_state.specs.Evidence.{IsStart}
+use Rattle.zk_directory_state.specs.declared.evidence.Start.{Start}
 use Rattle.zk_directory_state.specs.Logs.{AreGiven, bytes_of}
 use Rattle.zk_directory_files.specs.declared.fault.HistoryFault.{HistoryFault}
 use Rattle.zk_directory_files.specs.declared.fault.HistoryFault.TheVariants as history_faults
-use Rattle.zk_log.specs.declared.loaded.Ending.{Ending}
 use Rattle.zk_directory.specs.LogFiles.{IsLogFile}
 use Rattle.zk_directory.specs.declared.file.FileEntry.{FileEntry}
 use Rattle.zk_directory.specs.declared.file.LogFile.{LogFile}
-use Rattle.zk_directory.specs.declared.file.LogFileFault.{LogFileFault}
 use Rattle.zk_newer_records.specs.declared.newer_record.NewerRecord.{NewerRecord}
 use Rattle.zk_directory_state.proofs.Files.{all_behind, entries_behind, file_behind, files_on, no_bytes, no_files, taken_more, then_files}
 use Rattle.zk_directory_state.proofs.Joined.{breaks_at, broken, none_left, read_step, skips_one, takes_one}
@@ -33,7 +32,7 @@ use Rattle.zk_directory_state.specs.declared.restore_fault.RestoreFault.{Restore
 use Rattle.zk_directory_state.specs.declared.restore_fault.RestoreFault.TheVariants as faults
 use Rattle.zk_record_folds.proofs.Followed.{more_follow, one_follows}
 use Rattle.zk_record_folds.specs.Folds.{AllFollow}
-use Rattle.zk_directory_state.specs.Records.{AreEntriesIn, BreakIn, FailsBy, FindsEntries, FoldsDirectory, FoldsEntries, FoldsFile, FoldsListed, FoldsLog, FoldsLogs, HaveNoRecords}
+use Rattle.zk_directory_state.specs.Records.{AreEntriesIn, AreLogsIn, BreakIn, FailsBy, FindsEntries, FoldsEntries, FoldsFile, FoldsListed, FoldsLog, FoldsLogs, HaveNoRecords, IsBroken, chain_reading, first_reading, start_zxid}
 
 -- ---- reading does not stop at the end of the logs
 
@@ -82,14 +81,14 @@ upto_stays old new entry (Err fault) t none = ap (λ (h : History). h.upto) t.1 
 pub taken_folded : {S : Type 0} (follows : S → NewerRecord → S → Type 0) (old new : Chain) (entry : FileEntry) (fold fold' : S) → TakesEntry (history_of old) entry (Ok Take) (history_of new) → follows fold entry.newer fold' → FoldsEntries follows (entry ∷ []) old fold new fold' (Ok tt)
 taken_folded follows old new entry fold fold' t line = (
   entry.newer ∷ [],
-  takes_one (history_of old) (history_of new) [] None entry [] t.0 refl t.1 ∙ none_left (Ok (listing_reading new (entry.newer ∷ []))),
+  takes_one (history_of old) (history_of new) [] None entry [] t.0 refl t.1 ∙ none_left (Ok (chain_reading new (entry.newer ∷ []))),
   one_follows follows fold fold' entry.newer line,
 )
 
 pub skipped_folded : {S : Type 0} (follows : S → NewerRecord → S → Type 0) (old new : Chain) (entry : FileEntry) (fold : S) → TakesEntry (history_of old) entry (Ok Skip) (history_of new) → FoldsEntries follows (entry ∷ []) old fold new fold (Ok tt)
 skipped_folded follows old new entry fold t = (
   [],
-  skips_one (history_of old) (history_of new) [] None entry [] t.0 t.1 ∙ none_left (Ok (listing_reading new [])),
+  skips_one (history_of old) (history_of new) [] None entry [] t.0 t.1 ∙ none_left (Ok (chain_reading new [])),
   refl,
 )
 
@@ -113,7 +112,7 @@ rejected_folded follows old new entry fold fold' faults.NoMemory history t = tt
 pub record AreFoldedTo {S : Type 0} (follows : S → NewerRecord → S → Type 0) (start : Chain) (fold : S) (entries : List FileEntry) (i : ℕ) (chain : Chain) (now : S) : Type 0 where
   pub upto : chain.upto ≡ None
   pub records : List NewerRecord
-  pub read : read_entries (Ok (listing_reading start [])) entries ≡ read_entries (Ok (listing_reading chain records)) (drop i entries)
+  pub read : read_entries (Ok (chain_reading start [])) entries ≡ read_entries (Ok (chain_reading chain records)) (drop i entries)
   pub all : AllFollow follows fold records now
 
 pub none_folded : {S : Type 0} (follows : S → NewerRecord → S → Type 0) (start : Chain) (fold : S) (entries : List FileEntry) → start.upto ≡ None → AreFoldedTo follows start fold entries 0 start fold
@@ -123,18 +122,18 @@ first_then : (read : Result Reading RestoreFault) (entry : FileEntry) (entries :
 first_then read entry entries = read_step read entry entries ∙ ap (λ r. read_entries r entries) (sym (read_step read entry [] ∙ none_left _))
 
 -- one entry more, after records
-after_records : (chain : Chain) (records : List NewerRecord) (entry : FileEntry) (x : Result Reading RestoreFault) → read_entries (Ok (listing_reading chain [])) (entry ∷ []) ≡ x → read_entries (Ok (listing_reading chain records)) (entry ∷ []) ≡ all_behind records x
+after_records : (chain : Chain) (records : List NewerRecord) (entry : FileEntry) (x : Result Reading RestoreFault) → read_entries (Ok (chain_reading chain [])) (entry ∷ []) ≡ x → read_entries (Ok (chain_reading chain records)) (entry ∷ []) ≡ all_behind records x
 after_records chain records entry x e =
-    ap (λ l. read_entries (Ok (listing_reading chain l)) (entry ∷ [])) (sym (append-nil records))
-    ∙ entries_behind records (Ok (listing_reading chain [])) (entry ∷ [])
+    ap (λ l. read_entries (Ok (chain_reading chain l)) (entry ∷ [])) (sym (append-nil records))
+    ∙ entries_behind records (Ok (chain_reading chain [])) (entry ∷ [])
     ∙ ap (all_behind records) e
 
 at_entry : {S : Type 0} (follows : S → NewerRecord → S → Type 0) (start : Chain) (fold : S) (entries : List FileEntry) (i : ℕ) (chain : Chain) (now : S) (entry : FileEntry) (x : Result Reading RestoreFault) → i < length entries → entry ≡ get_or entries i entry → (so_far : AreFoldedTo follows start fold entries i chain now)
-    → read_entries (Ok (listing_reading chain [])) (entry ∷ []) ≡ x → read_entries (Ok (listing_reading start [])) entries ≡ read_entries (all_behind so_far.records x) (drop (i + 1) entries)
+    → read_entries (Ok (chain_reading chain [])) (entry ∷ []) ≡ x → read_entries (Ok (chain_reading start [])) entries ≡ read_entries (all_behind so_far.records x) (drop (i + 1) entries)
 at_entry follows start fold entries i chain now entry x lt is so_far one =
     so_far.read
-    ∙ ap (read_entries (Ok (listing_reading chain so_far.records))) (next_is entries i entry lt is)
-    ∙ first_then (Ok (listing_reading chain so_far.records)) entry (drop (i + 1) entries)
+    ∙ ap (read_entries (Ok (chain_reading chain so_far.records))) (next_is entries i entry lt is)
+    ∙ first_then (Ok (chain_reading chain so_far.records)) entry (drop (i + 1) entries)
     ∙ ap (λ r. read_entries r (drop (i + 1) entries)) (after_records chain so_far.records entry x one)
 
 pub next_folded : {S : Type 0} (follows : S → NewerRecord → S → Type 0) (start : Chain) (fold : S) (entries : List FileEntry) (i : ℕ) (old new : Chain) (now now' : S) (entry : FileEntry) → i < length entries → entry ≡ get_or entries i entry → AreFoldedTo follows start fold entries i old now → new.upto ≡ None
@@ -142,19 +141,19 @@ pub next_folded : {S : Type 0} (follows : S → NewerRecord → S → Type 0) (s
 next_folded follows start fold entries i old new now now' entry lt is so_far none one = record {
   upto = none;
   records = so_far.records ++ one.0;
-  read = at_entry follows start fold entries i old now entry (Ok (listing_reading new one.0)) lt is so_far one.1;
+  read = at_entry follows start fold entries i old now entry (Ok (chain_reading new one.0)) lt is so_far one.1;
   all = more_follow follows fold now now' so_far.records one.0 so_far.all one.2;
 }
 
 pub all_folded : {S : Type 0} (follows : S → NewerRecord → S → Type 0) (start : Chain) (fold : S) (entries : List FileEntry) (i : ℕ) (chain : Chain) (now : S) → length entries ≤ i → AreFoldedTo follows start fold entries i chain now → FoldsEntries follows entries start fold chain now (Ok tt)
 all_folded follows start fold entries i chain now le so_far = (
   so_far.records,
-  so_far.read ∙ ap (read_entries (Ok (listing_reading chain so_far.records))) (at_end entries i le) ∙ none_left (Ok (listing_reading chain so_far.records)),
+  so_far.read ∙ ap (read_entries (Ok (chain_reading chain so_far.records))) (at_end entries i le) ∙ none_left (Ok (chain_reading chain so_far.records)),
   so_far.all,
 )
 
 broken_at : {S : Type 0} (follows : S → NewerRecord → S → Type 0) (start : Chain) (fold : S) (entries : List FileEntry) (i : ℕ) (chain : Chain) (now : S) (entry : FileEntry) (fault : RestoreFault) → i < length entries → entry ≡ get_or entries i entry → AreFoldedTo follows start fold entries i chain now
-    → read_entries (Ok (listing_reading chain [])) (entry ∷ []) ≡ Err fault → read_entries (Ok (listing_reading start [])) entries ≡ Err fault
+    → read_entries (Ok (chain_reading chain [])) (entry ∷ []) ≡ Err fault → read_entries (Ok (chain_reading start [])) entries ≡ Err fault
 broken_at follows start fold entries i chain now entry fault lt is so_far one = at_entry follows start fold entries i chain now entry (Err fault) lt is so_far one ∙ broken fault (drop (i + 1) entries)
 
 pub breaks_folding : {S : Type 0} (follows : S → NewerRecord → S → Type 0) (start : Chain) (fold : S) (entries : List FileEntry) (i : ℕ) (chain new : Chain) (now now' : S) (entry : FileEntry) (fault : RestoreFault) → i < length entries → entry ≡ get_or entries i entry → AreFoldedTo follows start fold entries i chain now
@@ -167,15 +166,15 @@ breaks_folding follows start fold entries i chain new now now' entry fault lt is
 pub file_folded : {S : Type 0} (follows : S → NewerRecord → S → Type 0) (old new : Chain) (fold fold' : S) (file : LogFile) → FoldsEntries follows file.entries.items old fold new fold' (Ok tt) → end_of (is_wanted (history_of new)) file.outcome ≡ Ok tt → FoldsFile follows file old fold new fold' (Ok tt)
 file_folded follows old new fold fold' file one end = (
   one.0,
-  ap (read_end file) one.1 ∙ ap (ended_by (listing_reading new one.0)) end,
+  ap (read_end file) one.1 ∙ ap (ended_by (chain_reading new one.0)) end,
   one.2,
 )
 
 -- the end of a file has no other fault than the file's
-end_broken : {S : Type 0} (follows : S → NewerRecord → S → Type 0) (old new : Chain) (fold fold' : S) (file : LogFile) (fault : RestoreFault) → FoldsEntries follows file.entries.items old fold new fold' (Ok tt) → end_of (is_wanted (history_of new)) file.outcome ≡ Err fault → read_file (listing_reading old []) file ≡ Err fault
-end_broken follows old new fold fold' file fault one end = ap (read_end file) one.1 ∙ ap (ended_by (listing_reading new one.0)) end
+end_broken : {S : Type 0} (follows : S → NewerRecord → S → Type 0) (old new : Chain) (fold fold' : S) (file : LogFile) (fault : RestoreFault) → FoldsEntries follows file.entries.items old fold new fold' (Ok tt) → end_of (is_wanted (history_of new)) file.outcome ≡ Err fault → read_file (chain_reading old []) file ≡ Err fault
+end_broken follows old new fold fold' file fault one end = ap (read_end file) one.1 ∙ ap (ended_by (chain_reading new one.0)) end
 
-as_file : {S : Type 0} (follows : S → NewerRecord → S → Type 0) (old new : Chain) (fold fold' : S) (file : LogFile) (fault : RestoreFault) → read_file (listing_reading old []) file ≡ Err fault → FoldsFile follows file old fold new fold' (Err fault)
+as_file : {S : Type 0} (follows : S → NewerRecord → S → Type 0) (old new : Chain) (fold fold' : S) (file : LogFile) (fault : RestoreFault) → read_file (chain_reading old []) file ≡ Err fault → FoldsFile follows file old fold new fold' (Err fault)
 as_file follows old new fold fold' file faults.NoMemory e = tt
 as_file follows old new fold fold' file fault e = e
 
@@ -200,22 +199,22 @@ pub record AreFolded {S : Type 0} (follows : S → NewerRecord → S → Type 0)
   pub files : List LogFile
   pub of_logs : AreLogFiles (take i logs) files
   pub records : List NewerRecord
-  pub read : read_files (Ok (listing_reading start [])) files ≡ Ok (listing_reading chain records)
+  pub read : read_files (Ok (chain_reading start [])) files ≡ Ok (chain_reading chain records)
   pub all : AllFollow follows fold records now
 
 pub no_log : {S : Type 0} (follows : S → NewerRecord → S → Type 0) (start : Chain) (fold : S) (logs : List (Bor (List ℕ))) → start.upto ≡ None → AreFolded follows start fold logs 0 start fold
-no_log follows start fold logs none = record { upto = none; files = []; of_logs = tt; records = []; read = no_files (Ok (listing_reading start [])); all = refl }
+no_log follows start fold logs none = record { upto = none; files = []; of_logs = tt; records = []; read = no_files (Ok (chain_reading start [])); all = refl }
 
 -- one file more, after records
-file_after : (start chain : Chain) (files : List LogFile) (records : List NewerRecord) (file : LogFile) (x : Result Reading RestoreFault) → read_files (Ok (listing_reading start [])) files ≡ Ok (listing_reading chain records) → read_file (listing_reading chain []) file ≡ x
-    → read_files (Ok (listing_reading start [])) (files ++ file ∷ []) ≡ all_behind records x
+file_after : (start chain : Chain) (files : List LogFile) (records : List NewerRecord) (file : LogFile) (x : Result Reading RestoreFault) → read_files (Ok (chain_reading start [])) files ≡ Ok (chain_reading chain records) → read_file (chain_reading chain []) file ≡ x
+    → read_files (Ok (chain_reading start [])) (files ++ file ∷ []) ≡ all_behind records x
 file_after start chain files records file x so_far one =
-    then_files (Ok (listing_reading start [])) files (file ∷ [])
+    then_files (Ok (chain_reading start [])) files (file ∷ [])
     ∙ ap (λ r. read_files r (file ∷ [])) so_far
-    ∙ files_on (Ok (listing_reading chain records)) file []
-    ∙ no_files (read_file (listing_reading chain records) file)
-    ∙ ap (λ l. read_file (listing_reading chain l) file) (sym (append-nil records))
-    ∙ file_behind records (listing_reading chain []) file
+    ∙ files_on (Ok (chain_reading chain records)) file []
+    ∙ no_files (read_file (chain_reading chain records) file)
+    ∙ ap (λ l. read_file (chain_reading chain l) file) (sym (append-nil records))
+    ∙ file_behind records (chain_reading chain []) file
     ∙ ap (all_behind records) one
 
 pub next_log : {S : Type 0} (follows : S → NewerRecord → S → Type 0) (start : Chain) (fold : S) (logs : List (Bor (List ℕ))) (i : ℕ) (old new : Chain) (now now' : S) → i < length logs → AreFolded follows start fold logs i old now → new.upto ≡ None → FoldsLog follows (get_or logs i no_bytes).now old now new now' (Ok tt) → AreFolded follows start fold logs (i + 1) new now'
@@ -224,15 +223,15 @@ next_log follows start fold logs i old new now now' lt so_far none log = record 
   files = so_far.files ++ log.0 ∷ [];
   of_logs = taken_more logs i so_far.files log.0 lt so_far.of_logs log.1;
   records = so_far.records ++ log.2.0;
-  read = file_after start old so_far.files so_far.records log.0 (Ok (listing_reading new log.2.0)) so_far.read log.2.1;
+  read = file_after start old so_far.files so_far.records log.0 (Ok (chain_reading new log.2.0)) so_far.read log.2.1;
   all = more_follow follows fold now now' so_far.records log.2.0 so_far.all log.2.2;
 }
 
 pub all_logs : {S : Type 0} (follows : S → NewerRecord → S → Type 0) (start : Chain) (fold : S) (logs : List (Bor (List ℕ))) (i : ℕ) (chain : Chain) (now : S) → length logs ≤ i → AreFolded follows start fold logs i chain now → FoldsLogs follows logs start fold chain now (Ok tt)
 all_logs follows start fold logs i chain now le so_far = (so_far.files, subst (λ l. AreLogFiles l so_far.files) (take_all i logs le) so_far.of_logs, (so_far.records, so_far.read, so_far.all))
 
-failed_at : {S : Type 0} (follows : S → NewerRecord → S → Type 0) (start chain : Chain) (fold now : S) (logs : List (Bor (List ℕ))) (i : ℕ) (fault : RestoreFault) (file : LogFile) → i < length logs → AreFolded follows start fold logs i chain now → IsLogFile (get_or logs i no_bytes).now file → read_file (listing_reading chain []) file ≡ Err fault
-    → (files : List LogFile) × AreLogFiles (take (i + 1) logs) files × (read_files (Ok (listing_reading start [])) files ≡ Err fault)
+failed_at : {S : Type 0} (follows : S → NewerRecord → S → Type 0) (start chain : Chain) (fold now : S) (logs : List (Bor (List ℕ))) (i : ℕ) (fault : RestoreFault) (file : LogFile) → i < length logs → AreFolded follows start fold logs i chain now → IsLogFile (get_or logs i no_bytes).now file → read_file (chain_reading chain []) file ≡ Err fault
+    → (files : List LogFile) × AreLogFiles (take (i + 1) logs) files × (read_files (Ok (chain_reading start [])) files ≡ Err fault)
 failed_at follows start chain fold now logs i fault file lt so_far is e = (
   so_far.files ++ file ∷ [],
   taken_more logs i so_far.files file lt so_far.of_logs is,
@@ -245,48 +244,53 @@ log_fails follows start chain new fold now now' logs i fault lt so_far log = fai
 
 -- ---- the whole directory
 
-chain_is : (chain : Chain) (first : Option ℤ) → chain.base ≡ first → chain.upto ≡ None → chain.position ≡ first → chain.taken.items ≡ [] → listing_reading chain [] ≡ start_listing first
+chain_is : (chain : Chain) (first : Option ℤ) → chain.base ≡ first → chain.upto ≡ None → chain.position ≡ first → chain.taken.items ≡ [] → chain_reading chain [] ≡ first_reading first
 chain_is chain first base upto position taken =
     ap (λ b. let r : Reading = record { history = record { base = b; upto = chain.upto; position = chain.position; taken = map told chain.taken.items }; records = []; window = None; is_over = false } in r) base
     ∙ ap (λ u. let r : Reading = record { history = record { base = first; upto = u; position = chain.position; taken = map told chain.taken.items }; records = []; window = None; is_over = false } in r) upto
     ∙ ap (λ p. let r : Reading = record { history = record { base = first; upto = None; position = p; taken = map told chain.taken.items }; records = []; window = None; is_over = false } in r) position
     ∙ ap (λ l. let r : Reading = record { history = record { base = first; upto = None; position = first; taken = map told l }; records = []; window = None; is_over = false } in r) taken
 
-pub whole_folded : {S : Type 0} (follows : S → NewerRecord → S → Type 0) (logs : List (Bor (List ℕ))) (logged : List ℤ) (first : Option ℤ) (chain chain' : Chain) (fold fold' : S) (done : Unit {0}) → IsFirst first logs → chain.base ≡ first → chain.upto ≡ None → chain.position ≡ first → chain.taken.items ≡ [] → FoldsLogs follows logs chain fold chain' fold' (Ok done) → FoldsListed follows logs logged fold fold' (Ok tt)
-whole_folded follows logs logged first chain chain' fold fold' done is_first base upto position taken all = record {
-  records = all.2.0;
-  joined = record {
-    first = first;
-    is_first = is_first;
+pub whole_folded : {S : Type 0} (follows : S → NewerRecord → S → Type 0) (logs : List (Bor (List ℕ))) (logged : List ℤ) (start : Option Start) (chain chain' : Chain) (fold fold' : S) (done : Unit {0}) → IsStart 0 logs start → chain.base ≡ start_zxid start → chain.upto ≡ None → chain.position ≡ start_zxid start → chain.taken.items ≡ []
+    → FoldsLogs follows logs chain fold chain' fold' (Ok done) → FoldsListed follows logs logged fold fold' (Ok start)
+whole_folded follows logs logged start chain chain' fold fold' done is_start base upto position taken all = (
+  all.2.0,
+  (
+    chain_reading chain' all.2.0,
+    record {
+      is_start = is_start;
+      files = all.0;
+      of_logs = all.1;
+      of_files = sym (ap (λ r. read_files (Ok r) all.0) (chain_is chain (start_zxid start) base upto position taken)) ∙ all.2.1;
+    },
+    refl,
+  ),
+  all.2.2,
+)
+
+pub whole_entries : {S : Type 0} (follows : S → NewerRecord → S → Type 0) (logs : List (Bor (List ℕ))) (logged : List ℤ) (start : Option Start) (chain chain' : Chain) (fold fold' : S) (done : Unit {0}) → IsStart 0 logs start → chain.base ≡ start_zxid start → chain.upto ≡ None → chain.position ≡ start_zxid start → chain.taken.items ≡ []
+    → FoldsLogs follows logs chain fold chain' fold' (Ok done) → FindsEntries logs logged (Ok chain'.taken)
+whole_entries follows logs logged start chain chain' fold fold' done is_start base upto position taken all = (
+  start,
+  chain_reading chain' all.2.0,
+  record {
+    is_start = is_start;
     files = all.0;
     of_logs = all.1;
-    reading = listing_reading chain' all.2.0;
-    of_files = sym (ap (λ r. read_files (Ok r) all.0) (chain_is chain first base upto position taken)) ∙ all.2.1;
-    are = refl;
-  };
-  folded = all.2.2;
-}
+    of_files = sym (ap (λ r. read_files (Ok r) all.0) (chain_is chain (start_zxid start) base upto position taken)) ∙ all.2.1;
+  },
+  refl,
+)
 
-pub whole_entries : {S : Type 0} (follows : S → NewerRecord → S → Type 0) (logs : List (Bor (List ℕ))) (logged : List ℤ) (first : Option ℤ) (chain chain' : Chain) (fold fold' : S) (done : Unit {0}) → IsFirst first logs → chain.base ≡ first → chain.upto ≡ None → chain.position ≡ first → chain.taken.items ≡ [] → FoldsLogs follows logs chain fold chain' fold' (Ok done) → FindsEntries logs logged (Ok chain'.taken)
-whole_entries follows logs logged first chain chain' fold fold' done is_first base upto position taken all = record {
-  first = first;
-  is_first = is_first;
-  files = all.0;
-  of_logs = all.1;
-  reading = listing_reading chain' all.2.0;
-  of_files = sym (ap (λ r. read_files (Ok r) all.0) (chain_is chain first base upto position taken)) ∙ all.2.1;
-  are = refl;
-}
-
-broken_folded : (logs : List (Bor (List ℕ))) (logged : List ℤ) (first : Option ℤ) (chain : Chain) (failed : DirectoryFault) → IsFirst first logs → listing_reading chain [] ≡ start_listing first
-    → (all : (files : List LogFile) × AreLogFiles (take (failed.log + 1) logs) files × (read_files (Ok (listing_reading chain [])) files ≡ Err failed.fault)) → IsBroken logs logged (history_fault failed (pos 0) logged)
-broken_folded logs logged first chain failed is_first start all = record {
-  first = first;
-  is_first = is_first;
+broken_folded : (logs : List (Bor (List ℕ))) (logged : List ℤ) (start : Option Start) (chain : Chain) (failed : DirectoryFault) → IsStart 0 logs start → chain_reading chain [] ≡ first_reading (start_zxid start)
+    → (all : (files : List LogFile) × AreLogFiles (take (failed.log + 1) logs) files × (read_files (Ok (chain_reading chain [])) files ≡ Err failed.fault)) → IsBroken logs logged (history_fault failed (pos 0) logged)
+broken_folded logs logged start chain failed is_start same all = record {
+  start = start;
+  is_start = is_start;
   failed = failed;
   files = all.0;
   of_logs = all.1;
-  of_files = sym (ap (λ r. read_files (Ok r) all.0) start) ∙ all.2;
+  of_files = sym (ap (λ r. read_files (Ok r) all.0) same) ∙ all.2;
   is = refl;
 }
 
@@ -295,39 +299,39 @@ broken_by : {S : Type 0} (follows : S → NewerRecord → S → Type 0) (logs : 
 broken_by follows logs logged fold fold' history_faults.NoMemory b = tt
 broken_by follows logs logged fold fold' fault b = b
 
-fails_by : {S : Type 0} (follows : S → NewerRecord → S → Type 0) (logs : List (Bor (List ℕ))) (logged : List ℤ) (first : Option ℤ) (chain : Chain) (fold fold' : S) (log : ℕ) (fault : RestoreFault) → IsFirst first logs → listing_reading chain [] ≡ start_listing first → FailsBy logs chain log fault
+fails_by : {S : Type 0} (follows : S → NewerRecord → S → Type 0) (logs : List (Bor (List ℕ))) (logged : List ℤ) (start : Option Start) (chain : Chain) (fold fold' : S) (log : ℕ) (fault : RestoreFault) → IsStart 0 logs start → chain_reading chain [] ≡ first_reading (start_zxid start) → FailsBy logs chain log fault
     → (let failed : DirectoryFault = record { log = log; fault = fault } in FoldsListed follows logs logged fold fold' (Err (history_fault failed (pos 0) logged)))
-fails_by follows logs logged first chain fold fold' log faults.NoMemory is_first start f = tt
-fails_by follows logs logged first chain fold fold' log fault is_first start f =
+fails_by follows logs logged start chain fold fold' log faults.NoMemory is_start same f = tt
+fails_by follows logs logged start chain fold fold' log fault is_start same f =
     let failed : DirectoryFault = record { log = log; fault = fault } in
-    broken_by follows logs logged fold fold' (history_fault failed (pos 0) logged) (broken_folded logs logged first chain failed is_first start f)
+    broken_by follows logs logged fold fold' (history_fault failed (pos 0) logged) (broken_folded logs logged start chain failed is_start same f)
 
-pub folding_fails : {S : Type 0} (follows : S → NewerRecord → S → Type 0) (logs : List (Bor (List ℕ))) (logged : List ℤ) (first : Option ℤ) (chain chain' : Chain) (fold fold' : S) (failed : DirectoryFault) → IsFirst first logs → chain.base ≡ first → chain.upto ≡ None → chain.position ≡ first → chain.taken.items ≡ [] → FoldsLogs follows logs chain fold chain' fold' (Err failed)
+pub folding_fails : {S : Type 0} (follows : S → NewerRecord → S → Type 0) (logs : List (Bor (List ℕ))) (logged : List ℤ) (start : Option Start) (chain chain' : Chain) (fold fold' : S) (failed : DirectoryFault) → IsStart 0 logs start → chain.base ≡ start_zxid start → chain.upto ≡ None → chain.position ≡ start_zxid start → chain.taken.items ≡ [] → FoldsLogs follows logs chain fold chain' fold' (Err failed)
     → FoldsListed follows logs logged fold fold' (Err (history_fault failed (pos 0) logged))
-folding_fails follows logs logged first chain chain' fold fold' failed is_first base upto position taken f =
-    fails_by follows logs logged first chain fold fold' failed.log failed.fault is_first (chain_is chain first base upto position taken) f
+folding_fails follows logs logged start chain chain' fold fold' failed is_start base upto position taken f =
+    fails_by follows logs logged start chain fold fold' failed.log failed.fault is_start (chain_is chain (start_zxid start) base upto position taken) f
 
 -- as the contract of entries says it
 no_entries_by : (logs : List (Bor (List ℕ))) (logged : List ℤ) (fault : HistoryFault) → IsBroken logs logged fault → FindsEntries logs logged (Err fault)
 no_entries_by logs logged history_faults.NoMemory b = tt
 no_entries_by logs logged fault b = b
 
-no_entries_for : (logs : List (Bor (List ℕ))) (logged : List ℤ) (first : Option ℤ) (chain : Chain) (log : ℕ) (fault : RestoreFault) → IsFirst first logs → listing_reading chain [] ≡ start_listing first → FailsBy logs chain log fault
+no_entries_for : (logs : List (Bor (List ℕ))) (logged : List ℤ) (start : Option Start) (chain : Chain) (log : ℕ) (fault : RestoreFault) → IsStart 0 logs start → chain_reading chain [] ≡ first_reading (start_zxid start) → FailsBy logs chain log fault
     → (let failed : DirectoryFault = record { log = log; fault = fault } in FindsEntries logs logged (Err (history_fault failed (pos 0) logged)))
-no_entries_for logs logged first chain log faults.NoMemory is_first start f = tt
-no_entries_for logs logged first chain log fault is_first start f =
+no_entries_for logs logged start chain log faults.NoMemory is_start same f = tt
+no_entries_for logs logged start chain log fault is_start same f =
     let failed : DirectoryFault = record { log = log; fault = fault } in
-    no_entries_by logs logged (history_fault failed (pos 0) logged) (broken_folded logs logged first chain failed is_first start f)
+    no_entries_by logs logged (history_fault failed (pos 0) logged) (broken_folded logs logged start chain failed is_start same f)
 
-pub entries_fail : {S : Type 0} (follows : S → NewerRecord → S → Type 0) (logs : List (Bor (List ℕ))) (logged : List ℤ) (first : Option ℤ) (chain chain' : Chain) (fold fold' : S) (failed : DirectoryFault) → IsFirst first logs → chain.base ≡ first → chain.upto ≡ None → chain.position ≡ first → chain.taken.items ≡ [] → FoldsLogs follows logs chain fold chain' fold' (Err failed)
+pub entries_fail : {S : Type 0} (follows : S → NewerRecord → S → Type 0) (logs : List (Bor (List ℕ))) (logged : List ℤ) (start : Option Start) (chain chain' : Chain) (fold fold' : S) (failed : DirectoryFault) → IsStart 0 logs start → chain.base ≡ start_zxid start → chain.upto ≡ None → chain.position ≡ start_zxid start → chain.taken.items ≡ [] → FoldsLogs follows logs chain fold chain' fold' (Err failed)
     → FindsEntries logs logged (Err (history_fault failed (pos 0) logged))
-entries_fail follows logs logged first chain chain' fold fold' failed is_first base upto position taken f =
-    no_entries_for logs logged first chain failed.log failed.fault is_first (chain_is chain first base upto position taken) f
+entries_fail follows logs logged start chain chain' fold fold' failed is_start base upto position taken f =
+    no_entries_for logs logged start chain failed.log failed.fault is_start (chain_is chain (start_zxid start) base upto position taken) f
 
 -- ---- the files of a directory
 
 -- no fault of an entry is that of an empty folder
-no_empty : (logged : List ℤ) (log : ℤ) (fault : RestoreFault) → history_faults.Empty ≡ fault_by (pos 0) log fault → ⊥
+pub no_empty : (logged : List ℤ) (log : ℤ) (fault : RestoreFault) → history_faults.Empty ≡ fault_by (pos 0) log fault → ⊥
 no_empty logged log (faults.Purged first) e = cc
 no_empty logged log (faults.Gap from to) e = cc
 no_empty logged log (faults.Differs at) e = cc
@@ -338,29 +342,23 @@ no_empty logged log faults.Tree e = cc
 no_empty logged log faults.Access e = cc
 no_empty logged log faults.NoMemory e = cc
 
-breaks_in : (snapshots names : Option (List (List ℕ))) (log_bytes : List ℕ → Option (List ℕ)) (held logged : List ℤ) (given : List (Bor (List ℕ))) (loaded : List (List ℕ)) (fault : HistoryFault) → AreIn snapshot_zxid snapshots held → AreIn log_zxid names logged → 0 < length held + length logged → AreGiven log_bytes logged loaded → map bytes_of given ≡ loaded → IsBroken given logged fault → BreakIn snapshots names log_bytes fault
-breaks_in snapshots names log_bytes held logged given loaded fault are_snapshots are_logs some are_given same broken =
-    record { held = held; logged = logged; are_snapshots = are_snapshots; are_logs = are_logs; some = some; given = given; are_given = subst (AreGiven log_bytes logged) (sym same) are_given; broken = broken }
+pub given_in : (snapshots names : Option (List (List ℕ))) (log_bytes : List ℕ → Option (List ℕ)) (held logged : List ℤ) (given : List (Bor (List ℕ))) (loaded : List (List ℕ)) → AreIn snapshot_zxid snapshots held → AreIn log_zxid names logged → 0 < length held + length logged → AreGiven log_bytes logged loaded → map bytes_of given ≡ loaded → AreLogsIn snapshots names log_bytes held logged given
+given_in snapshots names log_bytes held logged given loaded are_snapshots are_logs some are_given same = record { are_snapshots = are_snapshots; are_logs = are_logs; some = some; are_given = subst (AreGiven log_bytes logged) (sym same) are_given }
+
+breaks_in : (snapshots names : Option (List (List ℕ))) (log_bytes : List ℕ → Option (List ℕ)) (held logged : List ℤ) (given : List (Bor (List ℕ))) (fault : HistoryFault) → AreLogsIn snapshots names log_bytes held logged given → IsBroken given logged fault → BreakIn snapshots names log_bytes fault
+breaks_in snapshots names log_bytes held logged given fault are_logs broken = record { held = held; logged = logged; given = given; are_logs = are_logs; broken = broken }
 
 broken_in : (snapshots names : Option (List (List ℕ))) (log_bytes : List ℕ → Option (List ℕ)) (given : List (Bor (List ℕ))) (logged : List ℤ) (fault : HistoryFault) → IsBroken given logged fault → BreakIn snapshots names log_bytes fault → HaveNoRecords snapshots names log_bytes fault
 broken_in snapshots names log_bytes given logged history_faults.Empty b h = absurd (no_empty logged (log_at logged b.failed.log) b.failed.fault b.is)
 broken_in snapshots names log_bytes given logged fault b h = inr h
 
-pub directory_folded : {S : Type 0} (follows : S → NewerRecord → S → Type 0) (snapshots names : Option (List (List ℕ))) (log_bytes : List ℕ → Option (List ℕ)) (held logged : List ℤ) (given : List (Bor (List ℕ))) (loaded : List (List ℕ)) (fold fold' : S) (result : Result (Unit {0}) HistoryFault) → AreIn snapshot_zxid snapshots held → AreIn log_zxid names logged → 0 < length held + length logged → AreGiven log_bytes logged loaded → map bytes_of given ≡ loaded
-    → FoldsListed follows given logged fold fold' result → FoldsDirectory follows snapshots names log_bytes fold fold' result
-directory_folded follows snapshots names log_bytes held logged given loaded fold fold' (Ok done) are_snapshots are_logs some are_given same f =
-    (f.records, record { held = held; logged = logged; are_snapshots = are_snapshots; are_logs = are_logs; some = some; given = given; are_given = subst (AreGiven log_bytes logged) (sym same) are_given; joined = f.joined }, f.folded)
-directory_folded follows snapshots names log_bytes held logged given loaded fold fold' (Err history_faults.NoMemory) are_snapshots are_logs some are_given same f = inl tt
-directory_folded follows snapshots names log_bytes held logged given loaded fold fold' (Err fault) are_snapshots are_logs some are_given same f =
-    broken_in snapshots names log_bytes given logged fault f (breaks_in snapshots names log_bytes held logged given loaded fault are_snapshots are_logs some are_given same f)
-
 pub entries_in : (snapshots names : Option (List (List ℕ))) (log_bytes : List ℕ → Option (List ℕ)) (held logged : List ℤ) (given : List (Bor (List ℕ))) (loaded : List (List ℕ)) (entries : Vec LogEntry Global) → AreIn snapshot_zxid snapshots held → AreIn log_zxid names logged → 0 < length held + length logged → AreGiven log_bytes logged loaded → map bytes_of given ≡ loaded
     → FindsEntries given logged (Ok entries) → AreEntriesIn snapshots names log_bytes (map told entries.items)
 entries_in snapshots names log_bytes held logged given loaded entries are_snapshots are_logs some are_given same f =
-    record { held = held; logged = logged; are_snapshots = are_snapshots; are_logs = are_logs; some = some; given = given; are_given = subst (AreGiven log_bytes logged) (sym same) are_given; joined = f }
+    record { held = held; logged = logged; given = given; are_logs = given_in snapshots names log_bytes held logged given loaded are_snapshots are_logs some are_given same; joined = f }
 
 pub no_entries_in : (snapshots names : Option (List (List ℕ))) (log_bytes : List ℕ → Option (List ℕ)) (held logged : List ℤ) (given : List (Bor (List ℕ))) (loaded : List (List ℕ)) (fault : HistoryFault) → AreIn snapshot_zxid snapshots held → AreIn log_zxid names logged → 0 < length held + length logged → AreGiven log_bytes logged loaded → map bytes_of given ≡ loaded
     → FindsEntries given logged (Err fault) → HaveNoRecords snapshots names log_bytes fault
 no_entries_in snapshots names log_bytes held logged given loaded history_faults.NoMemory are_snapshots are_logs some are_given same f = inl tt
 no_entries_in snapshots names log_bytes held logged given loaded fault are_snapshots are_logs some are_given same f =
-    broken_in snapshots names log_bytes given logged fault f (breaks_in snapshots names log_bytes held logged given loaded fault are_snapshots are_logs some are_given same f)
+    broken_in snapshots names log_bytes given logged fault f (breaks_in snapshots names log_bytes held logged given fault (given_in snapshots names log_bytes held logged given loaded are_snapshots are_logs some are_given same) f)

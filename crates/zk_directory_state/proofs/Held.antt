@@ -1,5 +1,5 @@
 -- A directory that has files is never rejected as empty.
-use Rattle.std.proofs.Common.{◌≡◌, ◌⊎◌, inl, inr, Bool, Bor, cond, true, false, ℕ, zero, suc, ℤ, pos, ◌+◌, ◌<◌, ◌==◌, arith, List, [], ◌∷◌, length, slice_get, Option, Some, None, Result, Ok, Err, refl, sym, ap, ◌∙◌, subst}
+use Rattle.std.proofs.Common.{◌≡◌, ◌⊎◌, inl, inr, Bool, Bor, cond, true, false, ℕ, zero, suc, ℤ, pos, ◌+◌, ◌<◌, ◌==◌, arith, List, [], ◌∷◌, length, slice_get, Option, Some, None, Result, Ok, Err, refl, sym, ap, subst}
 use Rattle.std.proofs.lemmas.Bool.Decides.{nat_tests}
 use Rattle.zk_replay.specs.declared.exact.Exact.{Exact}
 use Rattle.zk_directory_state.specs.Attempts.{TriesBytes, TriesGiven, attempt_by, attempt_of, fault_by, history_fault, log_at, passed_by, passed_fault}

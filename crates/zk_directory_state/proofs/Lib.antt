@@ -6,7 +6,7 @@ pub mod Searching
 pub mod Wholes
 pub mod Chosen
 pub mod Held
-pub mod Listed
 pub mod Folded
 pub mod Starting
+pub mod Spanning
 pub mod Noticing

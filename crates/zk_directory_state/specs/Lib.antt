@@ -9,7 +9,8 @@ pub mod States
 pub mod Windows
 pub mod Attempts
 pub mod Histories
-pub mod Listings
+pub mod Ranges
+pub mod Spans
 pub mod Logs
 pub mod Notices
 pub mod Outcomes

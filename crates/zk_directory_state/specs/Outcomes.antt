@@ -1,16 +1,12 @@
 -- What the commands write for a data directory.
-use Rattle.std.specs.Prelude.{ℕ, List, Option, Result, Ok, Err, String}
-use Rattle.std.specs.Global.{Global}
-use Rattle.std.specs.String.{string_bytes}
+use Rattle.std.specs.Prelude.{ℕ, List, Option, Result, Ok, Err}
 use Rattle.zk_directory_state.specs.Histories.{Holds}
-use Rattle.zk_directory_state.specs.Listings.{Lists}
 use Rattle.zk_directory_state.specs.Notices.{OutputsWith, notices_of}
 use Rattle.zk_directory_state.specs.Reports.{report_of}
 use Rattle.zk_directory_state.specs.declared.history.Shown.{Shown}
 use Rattle.zk_directory_state.specs.declared.upto.Upto.{Upto}
 use Rattle.zk_directory_files.specs.Outcomes.{Rejects}
 use Rattle.zk_directory_files.specs.declared.fault.HistoryFault.{HistoryFault}
-use Rattle.zk_log_commands.specs.Telling.{Outputs}
 use Rattle.zk_path.specs.declared.memory.NoMemory.{NoMemory}
 use Rattle.zk_records.specs.declared.sink.Sink.{Sink}
 
@@ -23,13 +19,3 @@ pub record TellsShown {O E : Type 0} (written : O → Option (List ℕ)) (told :
   pub answer : Result Shown HistoryFault
   pub holds : Holds snapshots snapshot_bytes logs log_bytes upto answer
   pub outputs : OutputsShown written told upto answer output output' faults faults' result
-
-abbrev pub OutputsListed : {O E : Type 0} → (O → Option (List ℕ)) → (E → Option (List ℕ)) → Result (String Global) HistoryFault → Sink O → Sink O → Sink E → Sink E → Result ℕ NoMemory → Type 0
-OutputsListed written told (Ok text) output output' faults faults' result = Outputs written told (string_bytes text) output output' faults faults' result
-OutputsListed written told (Err fault) output output' faults faults' result = Rejects written told fault output output' faults faults' result
-
--- the logs of a directory are listed
-pub record TellsListed {O E : Type 0} (written : O → Option (List ℕ)) (told : E → Option (List ℕ)) (snapshots logs : Option (List (List ℕ))) (log_bytes : List ℕ → Option (List ℕ)) (output output' : Sink O) (faults faults' : Sink E) (result : Result ℕ NoMemory) : Type 0 where
-  pub answer : Result (String Global) HistoryFault
-  pub lists : Lists snapshots logs log_bytes answer
-  pub outputs : OutputsListed written told answer output output' faults faults' result

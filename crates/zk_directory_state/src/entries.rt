@@ -2,8 +2,9 @@
 ghost use Rattle.std.specs.Prelude.{◌≡◌};
 ghost use Rattle.zk_directory_state.specs.Records.{FindsEntries};
 
-use crate::records::fold_logs;
-use crate::{first_zxid, history_fault};
+use crate::evidence::start_of;
+use crate::history_fault;
+use crate::records::{fold_logs, start_zxid};
 use std::alloc::Global;
 use zk_directory::{Chain, LogEntry};
 use zk_directory_files::HistoryFault;
@@ -36,8 +37,8 @@ pub fn entries_of<'a>(
 ) -> Result<Vec<LogEntry<'a>>, HistoryFault>
     ensures { FindsEntries logs.now logged.now result }
 {
-    let first = first_zxid(alloc, logs)?;
-    let mut chain = Chain::new(alloc, first, None);
+    let start = start_of(alloc, logs)?;
+    let mut chain = Chain::new(alloc, start_zxid(start), None);
     let mut nothing = Nothing {};
     match fold_logs(alloc, &mut nothing, &mut chain, logs) {
         Ok(()) => Ok(chain.taken),

@@ -133,7 +133,7 @@ fn purged_fault(early: Option<Early>, first: i64) -> HistoryFault
 }
 
 /// The fault of logs without an entry.
-fn blank_fault(held: &[i64], logged: &[i64]) -> Option<HistoryFault>
+pub(crate) fn blank_fault(held: &[i64], logged: &[i64]) -> Option<HistoryFault>
     ensures { result ≡ blank_fault held.now logged.now }
 {
     if held.is_empty() && !is_new(logged) {

@@ -1,9 +1,9 @@
 //! The records of logs, folded in order.
 ghost use Rattle.std.specs.Prelude.{◌≡◌, ◌∷◌, [], None, IfOk};
-ghost use Rattle.zk_directory_state.specs.Listings.{IsFirst};
-ghost use Rattle.zk_directory_state.specs.Records.{FoldsEntries, FoldsFile, FoldsListed, FoldsLog, FoldsLogs};
+ghost use Rattle.zk_directory_state.specs.Records.{FoldsEntries, FoldsFile, FoldsListed, FoldsLog, FoldsLogs, start_zxid};
 
-use crate::{DirectoryFault, RestoreFault, check_end, first_zxid, history_fault, take_entry};
+use crate::evidence::{Start, start_of};
+use crate::{DirectoryFault, RestoreFault, check_end, history_fault, take_entry};
 use std::alloc::Global;
 use zk_directory::{Chain, FileEntry, LogFile, Turn, read_log_file};
 use zk_directory_files::HistoryFault;
@@ -97,20 +97,27 @@ pub(crate) fn fold_logs<'a, F: RecordFold>(
     Ok(())
 }
 
-/// Folds the records of these logs, which have these zxids in their names.
+/// The zxid of the first entry.
+pub(crate) fn start_zxid(start: Option<Start>) -> Option<i64>
+    ensures { result ≡ start_zxid start }
+{
+    Some(start?.zxid)
+}
+
+/// Folds the records of these logs, which have these zxids in their names. Returns their first entry.
 #[tactic(auto, using(crate::proofs::Folded::whole_folded, crate::proofs::Folded::folding_fails))]
 pub(crate) fn fold_listed<F: RecordFold>(
     alloc: Global,
     logged: &[i64],
     logs: &[&[u8]],
     fold: &mut F,
-) -> Result<(), HistoryFault>
+) -> Result<Option<Start>, HistoryFault>
     ensures { FoldsListed F.follows logs.now logged.now fold.old fold.new result }
 {
-    let first = first_zxid(alloc, logs)?;
-    let mut chain = Chain::new(alloc, first, None);
+    let start = start_of(alloc, logs)?;
+    let mut chain = Chain::new(alloc, start_zxid(start), None);
     match fold_logs(alloc, fold, &mut chain, logs) {
-        Ok(()) => Ok(()),
+        Ok(()) => Ok(start),
         Err(failed) => Err(history_fault(failed, 0, logged)),
     }
 }

@@ -68,7 +68,7 @@ const OF_LOGS: [Explanation; 13] = [
     },
 ];
 
-const OF_DIRECTORIES: [Explanation; 19] = [
+const OF_DIRECTORIES: [Explanation; 20] = [
     Explanation {
         code: "D1",
         words: "The directory has no snapshot.* and no log.*: name the one above version-2, and that of the logs with `--logs`.",
@@ -100,6 +100,10 @@ const OF_DIRECTORIES: [Explanation; 19] = [
     Explanation {
         code: "D8",
         words: "No log has a transaction: name the directory of the logs with `--logs`.",
+    },
+    Explanation {
+        code: "range",
+        words: "The logs hold only the transactions from the first of these to the second, with their times, of what was asked for: ask a server that has earlier or later ones.",
     },
     Explanation {
         code: "ends",

@@ -30,7 +30,9 @@ Of a directory these have the file's NAME before AT, and there are more:
   S1 NAME to S8 NAME
               this snapshot is unusable, and no log has a record
 and `read` and `write` if a file or directory cannot be opened or written, and `memory`.
-With status 0, on what a tree rests beyond the files:
+With status 0, of what the logs hold, and on what a tree rests beyond the files:
+  range FIRST LAST TIME TIME
+              a listing is of the transactions from FIRST to LAST; others were before
   ends ZXID   no log has a transaction after this snapshot's
   unproved LAST NEXT
               nothing shows that LAST is the last transaction of its epoch
@@ -102,7 +104,9 @@ an object of JSON.
 The end of a session deletes the nodes that its record lists, as those of 3.6 and later do, or else the
 ephemeral nodes that the session created in these logs.
 
-Errors, on standard error after `zk: `, are those of `zk list` of a directory."#;
+Errors, on standard error after `zk: `, are those of `zk list` of a directory. With status 0:
+  range FIRST LAST TIME TIME
+              the lines are of the transactions from FIRST to LAST; others were before"#;
 
 /// The line of `zk compare`, and its errors.
 pub(crate) const COMPARE_NOTES: &str =
@@ -124,7 +128,9 @@ pub(crate) const TOP_NOTES: &str =
 node, alone or as a part of a multi. Nodes that end with a session are no writes. With --json a line is
 an object of JSON.
 
-Errors, on standard error after `zk: `, are those of `zk list` of a directory."#;
+Errors, on standard error after `zk: `, are those of `zk list` of a directory. With status 0:
+  range FIRST LAST TIME TIME
+              the lines count the transactions from FIRST to LAST; the range asked for goes beyond"#;
 
 /// The lines of `zk files`, and its errors.
 pub(crate) const FILES_NOTES: &str = r#"A line has the file's name, and then:

@@ -8,7 +8,7 @@ use Rattle.zk_incidents.specs.Histories.{Follows, IsHistoryFrom}
 use Rattle.zk_incidents.specs.Owners.{Owned}
 use Rattle.zk_incidents.specs.Tops.{Counts, all_keys, keys_in, rows_text, top_text}
 use Rattle.zk_incidents.specs.declared.history_fold.History.{History}
-use Rattle.zk_incidents.specs.declared.range.Range.{Range}
+use Rattle.zk_directory_state.specs.declared.range.Range.{Range}
 use Rattle.zk_incidents.specs.declared.scope.Scope.{Scope}
 use Rattle.zk_incidents.specs.declared.top_fold.Key.{Key}
 use Rattle.zk_incidents.specs.declared.top_fold.Top.{Top}

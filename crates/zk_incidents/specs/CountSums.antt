@@ -4,7 +4,7 @@ use Rattle.std.specs.List.{sum}
 use Rattle.std.specs.Map.{values_of}
 use Rattle.zk_incidents.specs.Counts.{counted_all}
 use Rattle.zk_incidents.specs.Tops.{all_keys}
-use Rattle.zk_incidents.specs.declared.range.Range.{Range}
+use Rattle.zk_directory_state.specs.declared.range.Range.{Range}
 use Rattle.zk_incidents.specs.declared.top_fold.Key.{Key}
 use Rattle.zk_newer_records.specs.declared.newer_record.NewerRecord.{NewerRecord}
 

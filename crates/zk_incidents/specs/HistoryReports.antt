@@ -1,33 +1,29 @@
 -- What `zk history` writes.
 use Rattle.std.specs.Prelude.{ℕ, Bool, List, Option, Result, Ok, Err}
 use Rattle.std.specs.String.{string_bytes}
-use Rattle.zk_directory_state.specs.Records.{AreRecordsIn, HaveNoRecords}
-use Rattle.zk_directory_files.specs.Outcomes.{Rejects}
+use Rattle.zk_directory_state.specs.Notices.{OutputsNoticed}
+use Rattle.zk_directory_state.specs.Ranges.{unbounded}
+use Rattle.zk_directory_state.specs.Records.{Answers, HaveNoAnswer}
+use Rattle.zk_directory_state.specs.declared.notices.Noticed.{Noticed}
 use Rattle.zk_directory_files.specs.declared.fault.HistoryFault.{HistoryFault}
 use Rattle.zk_incidents.specs.FirstOwners.{AreFirstOwners}
 use Rattle.zk_incidents.specs.Histories.{IsHistoryFrom}
 use Rattle.zk_incidents.specs.Owners.{Owned}
-use Rattle.zk_incidents.specs.declared.history_fold.History.{History}
-use Rattle.zk_log_commands.specs.Telling.{Outputs}
 use Rattle.zk_newer_records.specs.declared.newer_record.NewerRecord.{NewerRecord}
 use Rattle.zk_path.specs.declared.memory.NoMemory.{NoMemory}
 use Rattle.zk_records.specs.declared.sink.Sink.{Sink}
 
--- the lines of the directory's records, after the owners in its first snapshot
-abbrev pub IsHistoryIn : List ℕ → Bool → Option (List (List ℕ)) → (List ℕ → Option (List ℕ)) → Option (List (List ℕ)) → (List ℕ → Option (List ℕ)) → List ℕ → Type 0
-IsHistoryIn root below snapshots snapshot_bytes logs log_bytes text =
-    (records : List NewerRecord) × AreRecordsIn snapshots logs log_bytes records × ((owned : Owned) × AreFirstOwners snapshots snapshot_bytes owned × IsHistoryFrom root below owned records text)
+-- the lines of the directory's records, after the owners in its first snapshot, and the notice
+abbrev pub IsHistoryIn : List ℕ → Bool → Option (List (List ℕ)) → (List ℕ → Option (List ℕ)) → Option (List (List ℕ)) → (List ℕ → Option (List ℕ)) → List ℕ → List ℕ → Type 0
+IsHistoryIn root below snapshots snapshot_bytes logs log_bytes text notice =
+    (records : List NewerRecord) × Answers unbounded snapshots logs log_bytes records notice × ((owned : Owned) × AreFirstOwners snapshots snapshot_bytes owned × IsHistoryFrom root below owned records text)
 
-abbrev pub FindsHistory : List ℕ → Bool → Option (List (List ℕ)) → (List ℕ → Option (List ℕ)) → Option (List (List ℕ)) → (List ℕ → Option (List ℕ)) → Result History HistoryFault → Type 0
-FindsHistory root below snapshots snapshot_bytes logs log_bytes (Ok history) = IsHistoryIn root below snapshots snapshot_bytes logs log_bytes (string_bytes history.text)
-FindsHistory root below snapshots snapshot_bytes logs log_bytes (Err fault) = HaveNoRecords snapshots logs log_bytes fault
-
-abbrev pub OutputsHistory : {O E : Type 0} → (O → Option (List ℕ)) → (E → Option (List ℕ)) → Result History HistoryFault → Sink O → Sink O → Sink E → Sink E → Result ℕ NoMemory → Type 0
-OutputsHistory written told (Ok history) output output' faults faults' result = Outputs written told (string_bytes history.text) output output' faults faults' result
-OutputsHistory written told (Err fault) output output' faults faults' result = Rejects written told fault output output' faults faults' result
+abbrev pub FindsHistory : List ℕ → Bool → Option (List (List ℕ)) → (List ℕ → Option (List ℕ)) → Option (List (List ℕ)) → (List ℕ → Option (List ℕ)) → Result Noticed HistoryFault → Type 0
+FindsHistory root below snapshots snapshot_bytes logs log_bytes (Ok noticed) = IsHistoryIn root below snapshots snapshot_bytes logs log_bytes (string_bytes noticed.text) (string_bytes noticed.notices)
+FindsHistory root below snapshots snapshot_bytes logs log_bytes (Err fault) = HaveNoAnswer unbounded snapshots logs log_bytes fault
 
 -- the history of a node is written, or why there is none
 pub record TellsHistory {O E : Type 0} (written : O → Option (List ℕ)) (told : E → Option (List ℕ)) (root : List ℕ) (below : Bool) (snapshots : Option (List (List ℕ))) (snapshot_bytes : List ℕ → Option (List ℕ)) (logs : Option (List (List ℕ))) (log_bytes : List ℕ → Option (List ℕ)) (output output' : Sink O) (faults faults' : Sink E) (result : Result ℕ NoMemory) : Type 0 where
-  pub answer : Result History HistoryFault
+  pub answer : Result Noticed HistoryFault
   pub finds : FindsHistory root below snapshots snapshot_bytes logs log_bytes answer
-  pub outputs : OutputsHistory written told answer output output' faults faults' result
+  pub outputs : OutputsNoticed written told answer output output' faults faults' result

@@ -4,9 +4,9 @@ use Rattle.std.specs.Fmt.{decimal}
 use Rattle.std.specs.List.{flat_map}
 use Rattle.zk_format.specs.Spelling.{id_digits, quoted}
 use Rattle.zk_incidents.specs.Counts.{Counted, counted_all, ranked_all, rows_of}
-use Rattle.zk_incidents.specs.Ranges.{is_in}
+use Rattle.zk_directory_state.specs.Ranges.{is_in}
 use Rattle.zk_incidents.specs.Writes.{written}
-use Rattle.zk_incidents.specs.declared.range.Range.{Range}
+use Rattle.zk_directory_state.specs.declared.range.Range.{Range}
 use Rattle.zk_incidents.specs.declared.top_fold.Key.{Key}
 use Rattle.zk_incidents.specs.declared.top_fold.Key.TheVariants as keys
 use Rattle.zk_incidents.specs.declared.top_fold.Top.{Top}

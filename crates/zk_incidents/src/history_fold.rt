@@ -19,7 +19,7 @@ pub struct History {
     scope: Scope,
     owners: Owners,
     /// A line for each transaction so far that created, changed or deleted one of the nodes.
-    text: String,
+    pub(crate) text: String,
 }
 
 impl History {
@@ -35,13 +35,6 @@ impl History {
             owners,
             text: String::new(alloc),
         }
-    }
-
-    /// The lines so far.
-    pub fn text(&self) -> &str
-        ensures { result.now ≡ string_bytes self.now.text }
-    {
-        self.text.as_str()
     }
 }
 

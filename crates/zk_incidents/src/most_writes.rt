@@ -3,11 +3,11 @@ ghost use Rattle.std.specs.Prelude.{◌≡◌, ◌-◌, ◌<◌, ◌^◌};
 ghost use Rattle.zk_incidents.specs.TopReports.{FindsTop, TellsTop};
 ghost use Rattle.zk_records.specs.Sinks.{write_failures_of};
 
-use crate::{Key, Range, Top};
+use crate::{Key, Top};
 use std::alloc::Global;
 use std::io::Write;
-use zk_directory_files::{Folder, HistoryFault, put_text, tell_fault};
-use zk_directory_state::fold_directory;
+use zk_directory_files::{Folder, HistoryFault};
+use zk_directory_state::{FoldedDirectory, Noticed, Range, fold_directory, put_noticed};
 use zk_log::Sink;
 use zk_path::NoMemory;
 
@@ -20,16 +20,21 @@ fn top_of<S: Folder, L: Folder>(
     range: Range,
     key: Key,
     number: Option<usize>,
-) -> Result<String, HistoryFault>
+) -> Result<Noticed, HistoryFault>
     ensures { FindsTop range key number (S.names_in snapshots.now) (L.names_in logs.now) (L.bytes_in logs.now) result }
 {
-    let mut top = Top::new(alloc, range, key);
-    fold_directory(alloc, snapshots, logs, &mut top)?;
-    Ok(top.text(number)?)
+    let top = Top::new(alloc, range, key);
+    let FoldedDirectory { fold, notice } = fold_directory(alloc, snapshots, logs, range, top)?;
+    let text = fold.text(number)?;
+    Ok(Noticed {
+        text,
+        notices: notice,
+    })
 }
 
 /// Writes how many writes of the second folder's logs each path or session has, the one with most
-/// first: at most `number` lines. Returns the exit status.
+/// first: at most `number` lines. If the logs hold only a part of the range, a notice on standard error
+/// states theirs. Returns the exit status.
 ///
 /// A write creates, changes or deletes a node, alone or as a part of a multi. The nodes that the end
 /// of a session deletes are no writes.
@@ -48,8 +53,6 @@ pub fn top<S: Folder, L: Folder, O: Write, E: Write>(
     ensures { TellsTop O.contents E.contents range key number (S.names_in snapshots.now) (L.names_in logs.now)
         (L.bytes_in logs.now) output.old output.new faults.old faults.new result }
 {
-    match top_of(alloc, snapshots, logs, range, key, number) {
-        Ok(text) => Ok(put_text(text.as_str(), output, faults)),
-        Err(fault) => tell_fault(alloc, &fault, faults),
-    }
+    let answer = top_of(alloc, snapshots, logs, range, key, number);
+    put_noticed(alloc, answer, output, faults)
 }

@@ -6,8 +6,8 @@ ghost use Rattle.zk_records.specs.Sinks.{write_failures_of};
 use crate::{History, Scope, first_owners};
 use std::alloc::Global;
 use std::io::Write;
-use zk_directory_files::{Folder, HistoryFault, put_text, tell_fault};
-use zk_directory_state::fold_directory;
+use zk_directory_files::{Folder, HistoryFault};
+use zk_directory_state::{FoldedDirectory, Noticed, Range, fold_directory, put_noticed};
 use zk_log::Sink;
 use zk_path::NoMemory;
 
@@ -19,18 +19,23 @@ fn history_of<S: Folder, L: Folder>(
     logs: &L,
     path: &str,
     below: bool,
-) -> Result<History, HistoryFault>
+) -> Result<Noticed, HistoryFault>
     ensures { FindsHistory path.now below (S.names_in snapshots.now) (S.bytes_in snapshots.now) (L.names_in logs.now) (L.bytes_in logs.now) result }
 {
     let scope = Scope::new(alloc, path, below)?;
     let owners = first_owners(alloc, snapshots)?;
-    let mut history = History::new(alloc, scope, owners);
-    fold_directory(alloc, snapshots, logs, &mut history)?;
-    Ok(history)
+    let history = History::new(alloc, scope, owners);
+    let FoldedDirectory { fold, notice } =
+        fold_directory(alloc, snapshots, logs, Range::unbounded(), history)?;
+    Ok(Noticed {
+        text: fold.text,
+        notices: notice,
+    })
 }
 
 /// Writes a line for each transaction of the second folder's logs that created, changed or deleted
-/// the node at a path, or, if `below`, a node below it. Returns the exit status.
+/// the node at a path, or, if `below`, a node below it. If others were before the logs' first one, a
+/// notice on standard error states the range of the logs. Returns the exit status.
 ///
 /// A session's end deletes the nodes that its record lists, as those of 3.6 and later do, or else
 /// the ephemeral nodes that the session created in these logs, or that it owns in the first
@@ -49,8 +54,6 @@ pub fn history<S: Folder, L: Folder, O: Write, E: Write>(
     ensures { TellsHistory O.contents E.contents path.now below (S.names_in snapshots.now)
         (S.bytes_in snapshots.now) (L.names_in logs.now) (L.bytes_in logs.now) output.old output.new faults.old faults.new result }
 {
-    match history_of(alloc, snapshots, logs, path, below) {
-        Ok(history) => Ok(put_text(history.text(), output, faults)),
-        Err(fault) => tell_fault(alloc, &fault, faults),
-    }
+    let answer = history_of(alloc, snapshots, logs, path, below);
+    put_noticed(alloc, answer, output, faults)
 }

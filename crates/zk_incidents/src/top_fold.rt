@@ -7,10 +7,10 @@ ghost use Rattle.zk_incidents.specs.Tops.{Counts as Follows, first_rows, key_tex
 ghost use Rattle.zk_format.specs.Spelling.{id_digits};
 
 use crate::counts::Counts;
-use crate::range::Range;
 use crate::ranks::Ranks;
 use crate::writes::written;
 use std::alloc::Global;
+use zk_directory_state::Range;
 use zk_format::{push_id, push_quoted};
 use zk_newer_records::NewerRecord;
 use zk_path::NoMemory;

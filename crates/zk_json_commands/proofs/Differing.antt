@@ -6,12 +6,13 @@ use Rattle.std.specs.FinMap.{get}
 use Rattle.std.specs.Global.{Global}
 use Rattle.std.specs.List.{filter}
 use Rattle.std.specs.String.{string_bytes}
-use Rattle.zk_tree_changes.specs.DifferenceReports.{FindsCompared}
+use Rattle.zk_tree_changes.specs.DifferenceReports.{AreCompared, FindsCompared}
 use Rattle.zk_tree_changes.specs.declared.compared.Compared.{Compared}
 use Rattle.zk_tree_changes.proofs.Differing.{no_line}
 use Rattle.zk_tree_changes.proofs.DifferingPaths.{differ_are}
 use Rattle.zk_tree_changes.specs.Changes.{Track, stamp_at}
 use Rattle.zk_tree_changes.specs.Differences.{differ_at, differ_by, differ_within, differing, line_at}
+use Rattle.zk_directory_state.specs.declared.notices.Noticed.{Noticed}
 use Rattle.zk_directory_state.specs.declared.upto.Upto.{Upto}
 use Rattle.zk_incidents.specs.Within.{is_within}
 use Rattle.zk_json.specs.Changes.{AppendsChangeLine}
@@ -83,12 +84,12 @@ whole changes old new root path below start text is is_below none h =
     let lines = subst (λ (t : List ℕ). AreLines (IsDifferenceLine changes old new) (differing root below old new) t) (sym all) h.1 in
     subst (λ (b : Bool). AreLines (IsDifferenceLine changes old new) (differing path b old new) text) is_below (subst (λ (p : List ℕ). AreLines (IsDifferenceLine changes old new) (differing p below old new) text) is lines)
 
-pub found : (snapshots : Option (List (List ℕ))) (snapshot_bytes : List ℕ → Option (List ℕ)) (logs : Option (List (List ℕ))) (log_bytes : List ℕ → Option (List ℕ)) (from to : Upto) (path : List ℕ) (both : Compared) (text : String Global) → FindsCompared snapshots snapshot_bytes logs log_bytes from to (Ok both)
-    → AreLines (IsDifferenceLine both.changes both.old.state.nodes both.new.state.nodes) (differing path true both.old.state.nodes both.new.state.nodes) (string_bytes text) → FindsDifference snapshots snapshot_bytes logs log_bytes from to path (Ok text)
-found snapshots snapshot_bytes logs log_bytes from to path both text h are = record {
+pub found : (snapshots : Option (List (List ℕ))) (snapshot_bytes : List ℕ → Option (List ℕ)) (logs : Option (List (List ℕ))) (log_bytes : List ℕ → Option (List ℕ)) (from to : Upto) (path : List ℕ) (both : Compared) (noticed : Noticed) → FindsCompared snapshots snapshot_bytes logs log_bytes from to (Ok both)
+    → AreLines (IsDifferenceLine both.changes both.old.state.nodes both.new.state.nodes) (differing path true both.old.state.nodes both.new.state.nodes) (string_bytes noticed.text) → noticed.notices ≡ both.notices → FindsDifference snapshots snapshot_bytes logs log_bytes from to path (Ok noticed)
+found snapshots snapshot_bytes logs log_bytes from to path both noticed h are same = record {
   old = both.old.state;
   new = both.new.state;
   changes = both.changes;
-  compared = h.0;
+  compared = subst (λ (s : String Global). AreCompared snapshots snapshot_bytes logs log_bytes from to both.old.state both.new.state both.changes (string_bytes s)) (sym same) h.0;
   are = are;
 }

@@ -1,18 +1,19 @@
 -- What `zk diff --json` writes: an object for each node that differs.
-use Rattle.std.specs.Prelude.{ℕ, Bool, true, List, Option, Result, Ok, Err, String, option_map}
+use Rattle.std.specs.Prelude.{ℕ, Bool, true, List, Option, Result, Ok, Err, option_map}
 use Rattle.std.specs.FinMap.{get}
-use Rattle.std.specs.Global.{Global}
 use Rattle.std.specs.String.{string_bytes}
 use Rattle.zk_acl.specs.declared.stat.Stat.{Stat}
 use Rattle.zk_tree_changes.specs.DifferenceReports.{AreCompared, AreNotCompared}
 use Rattle.zk_tree_changes.specs.Changes.{Track, stamp_at}
 use Rattle.zk_tree_changes.specs.Differences.{differ_within, differing}
 use Rattle.zk_tree_changes.specs.declared.stamps.Stamp.{Stamp}
+use Rattle.zk_directory_state.specs.Notices.{OutputsNoticed}
+use Rattle.zk_directory_state.specs.declared.notices.Noticed.{Noticed}
 use Rattle.zk_directory_state.specs.declared.upto.Upto.{Upto}
 use Rattle.zk_directory_files.specs.declared.fault.HistoryFault.{HistoryFault}
 use Rattle.zk_json.specs.Changes.{IsChangeLine}
 use Rattle.zk_json.specs.declared.changes.LastChange.{LastChange}
-use Rattle.zk_json_commands.specs.Lines.{AppendsLines, AreLines, OutputsLines}
+use Rattle.zk_json_commands.specs.Lines.{AppendsLines, AreLines}
 use Rattle.zk_path.specs.declared.memory.NoMemory.{NoMemory}
 use Rattle.zk_records.specs.declared.sink.Sink.{Sink}
 use Rattle.zk_table.specs.States.{NodeMap, State, stat_of}
@@ -35,22 +36,22 @@ IsDifferenceLine changes old new path line = IsChangeLine path (option_map last_
 -- ---- the difference
 
 -- of two states of a directory, at a path and below
-pub record IsDifference (snapshots : Option (List (List ℕ))) (snapshot_bytes : List ℕ → Option (List ℕ)) (logs : Option (List (List ℕ))) (log_bytes : List ℕ → Option (List ℕ)) (from to : Upto) (path text : List ℕ) : Type 0 where
+pub record IsDifference (snapshots : Option (List (List ℕ))) (snapshot_bytes : List ℕ → Option (List ℕ)) (logs : Option (List (List ℕ))) (log_bytes : List ℕ → Option (List ℕ)) (from to : Upto) (path text notices : List ℕ) : Type 0 where
   pub old : State
   pub new : State
   pub changes : Track
-  pub compared : AreCompared snapshots snapshot_bytes logs log_bytes from to old new changes
+  pub compared : AreCompared snapshots snapshot_bytes logs log_bytes from to old new changes notices
   pub are : AreLines (IsDifferenceLine changes old.nodes new.nodes) (differing path true old.nodes new.nodes) text
 
-abbrev pub FindsDifference : Option (List (List ℕ)) → (List ℕ → Option (List ℕ)) → Option (List (List ℕ)) → (List ℕ → Option (List ℕ)) → Upto → Upto → List ℕ → Result (String Global) HistoryFault → Type 0
-FindsDifference snapshots snapshot_bytes logs log_bytes from to path (Ok text) = IsDifference snapshots snapshot_bytes logs log_bytes from to path (string_bytes text)
+abbrev pub FindsDifference : Option (List (List ℕ)) → (List ℕ → Option (List ℕ)) → Option (List (List ℕ)) → (List ℕ → Option (List ℕ)) → Upto → Upto → List ℕ → Result Noticed HistoryFault → Type 0
+FindsDifference snapshots snapshot_bytes logs log_bytes from to path (Ok noticed) = IsDifference snapshots snapshot_bytes logs log_bytes from to path (string_bytes noticed.text) (string_bytes noticed.notices)
 FindsDifference snapshots snapshot_bytes logs log_bytes from to path (Err fault) = AreNotCompared snapshots snapshot_bytes logs log_bytes from to fault
 
 -- what differs is written, or why there is no such state
 pub record TellsDifference {O E : Type 0} (written : O → Option (List ℕ)) (told : E → Option (List ℕ)) (snapshots : Option (List (List ℕ))) (snapshot_bytes : List ℕ → Option (List ℕ)) (logs : Option (List (List ℕ))) (log_bytes : List ℕ → Option (List ℕ)) (from to : Upto) (path : List ℕ) (output output' : Sink O) (faults faults' : Sink E) (result : Result ℕ NoMemory) : Type 0 where
-  pub answer : Result (String Global) HistoryFault
+  pub answer : Result Noticed HistoryFault
   pub finds : FindsDifference snapshots snapshot_bytes logs log_bytes from to path answer
-  pub outputs : OutputsLines written told answer output output' faults faults' result
+  pub outputs : OutputsNoticed written told answer output output' faults faults' result
 
 -- ---- calls within
 

@@ -1,8 +1,7 @@
 -- What `zk show --json` writes of a state: the lines of the report of `zk show`, in its order, each as
 -- an object.
-use Rattle.std.specs.Prelude.{◌≡◌, ℕ, ℤ, pos, negsuc, List, [], ◌∷◌, ◌++◌, Option, Some, None, Result, Ok, Err, String, codes, decimal, not}
+use Rattle.std.specs.Prelude.{◌≡◌, ℕ, ℤ, pos, negsuc, List, [], ◌∷◌, ◌++◌, Option, Some, None, Result, Ok, Err, codes, decimal, not}
 use Rattle.std.specs.FinMap.{entries}
-use Rattle.std.specs.Global.{Global}
 use Rattle.std.specs.String.{string_bytes}
 use Rattle.std.specs.Fmt.{signed_decimal}
 use Rattle.std.specs.Int.{w64, cast_signed}
@@ -12,12 +11,14 @@ use Rattle.zk_directory_files.specs.Names.{snapshot_name}
 use Rattle.zk_directory_files.specs.declared.fault.HistoryFault.{HistoryFault}
 use Rattle.zk_directory_files.specs.declared.fault.HistoryFault.TheVariants as faults
 use Rattle.zk_directory_state.specs.Histories.{Holds}
+use Rattle.zk_directory_state.specs.Notices.{OutputsNoticed, notices_of}
+use Rattle.zk_directory_state.specs.declared.notices.Noticed.{Noticed}
 use Rattle.zk_directory_state.specs.declared.upto.Upto.{Upto}
 use Rattle.zk_directory_state.specs.declared.history.Broken.{Broken}
 use Rattle.zk_directory_state.specs.declared.history.Origin.{Origin}
 use Rattle.zk_directory_state.specs.declared.history.Shown.{Shown}
 use Rattle.zk_json.specs.Json.{Fields, IsLineOf, id_of, object_of}
-use Rattle.zk_json_commands.specs.Lines.{AreLines, OutputsLines}
+use Rattle.zk_json_commands.specs.Lines.{AreLines}
 use Rattle.zk_json_commands.specs.Nodes.{AreNodeLines}
 use Rattle.zk_json_commands.specs.Verifications.{end_of, id_or_null, torn_of}
 use Rattle.zk_log.specs.declared.loaded.Ending.{Ending}
@@ -93,20 +94,23 @@ pub record AreStateLines (shown : Shown) (text : List ℕ) : Type 0 where
   pub is_ending : IsLineOf (object_of (ending_fields shown.restored.ending)) ending
   pub is : text ≡ tree ++ base ++ passed ++ digests ++ ending
 
--- of the state that a directory holds
-abbrev pub AreStateLinesIn : Option (List (List ℕ)) → (List ℕ → Option (List ℕ)) → Option (List (List ℕ)) → (List ℕ → Option (List ℕ)) → Upto → List ℕ → Type 0
-AreStateLinesIn snapshots snapshot_bytes logs log_bytes upto text = (shown : Shown) × Holds snapshots snapshot_bytes logs log_bytes upto (Ok shown) × AreStateLines shown text
+-- of the state that a directory holds, with the notices that `zk show` writes
+pub record IsNoticedState (snapshots : Option (List (List ℕ))) (snapshot_bytes : List ℕ → Option (List ℕ)) (logs : Option (List (List ℕ))) (log_bytes : List ℕ → Option (List ℕ)) (upto : Upto) (text notices : List ℕ) : Type 0 where
+  pub shown : Shown
+  pub holds : Holds snapshots snapshot_bytes logs log_bytes upto (Ok shown)
+  pub are : AreStateLines shown text
+  pub are_notices : notices ≡ notices_of upto shown.restored
 
-abbrev pub FindsState : Option (List (List ℕ)) → (List ℕ → Option (List ℕ)) → Option (List (List ℕ)) → (List ℕ → Option (List ℕ)) → Upto → Result (String Global) HistoryFault → Type 0
-FindsState snapshots snapshot_bytes logs log_bytes upto (Ok text) = AreStateLinesIn snapshots snapshot_bytes logs log_bytes upto (string_bytes text)
+abbrev pub FindsState : Option (List (List ℕ)) → (List ℕ → Option (List ℕ)) → Option (List (List ℕ)) → (List ℕ → Option (List ℕ)) → Upto → Result Noticed HistoryFault → Type 0
+FindsState snapshots snapshot_bytes logs log_bytes upto (Ok noticed) = IsNoticedState snapshots snapshot_bytes logs log_bytes upto (string_bytes noticed.text) (string_bytes noticed.notices)
 FindsState snapshots snapshot_bytes logs log_bytes upto (Err faults.NoMemory) = Unit {0}
 FindsState snapshots snapshot_bytes logs log_bytes upto (Err fault) = Holds snapshots snapshot_bytes logs log_bytes upto (Err fault)
 
--- the state that a directory holds is written, or why there is none
+-- the state that a directory holds is written, and its notices, or why there is none
 pub record TellsState {O E : Type 0} (written : O → Option (List ℕ)) (told : E → Option (List ℕ)) (snapshots : Option (List (List ℕ))) (snapshot_bytes : List ℕ → Option (List ℕ)) (logs : Option (List (List ℕ))) (log_bytes : List ℕ → Option (List ℕ)) (upto : Upto) (output output' : Sink O) (faults faults' : Sink E) (result : Result ℕ NoMemory) : Type 0 where
-  pub answer : Result (String Global) HistoryFault
+  pub answer : Result Noticed HistoryFault
   pub finds : FindsState snapshots snapshot_bytes logs log_bytes upto answer
-  pub outputs : OutputsLines written told answer output output' faults faults' result
+  pub outputs : OutputsNoticed written told answer output output' faults faults' result
 
 -- ---- calls within
 

@@ -6,9 +6,9 @@ ghost use Rattle.zk_records.specs.Sinks.{write_failures_of};
 use crate::row_lines::row_lines;
 use std::alloc::Global;
 use std::io::Write;
-use zk_directory_files::{Folder, HistoryFault, put_text, tell_fault};
-use zk_directory_state::fold_directory;
-use zk_incidents::{Key, Range, Top, first_rows};
+use zk_directory_files::{Folder, HistoryFault};
+use zk_directory_state::{FoldedDirectory, Noticed, Range, fold_directory, put_noticed};
+use zk_incidents::{Key, Top, first_rows};
 use zk_log::Sink;
 use zk_path::NoMemory;
 
@@ -20,19 +20,23 @@ fn lines_of<S: Folder, L: Folder>(
     range: Range,
     key: Key,
     number: Option<usize>,
-) -> Result<String, HistoryFault>
+) -> Result<Noticed, HistoryFault>
     ensures { FindsTop range key number (S.names_in snapshots.now) (L.names_in logs.now) (L.bytes_in logs.now) result }
 {
-    let mut top = Top::new(alloc, range, key);
-    fold_directory(alloc, snapshots, logs, &mut top)?;
-    let ranks = top.ranks()?;
+    let top = Top::new(alloc, range, key);
+    let FoldedDirectory { fold, notice } = fold_directory(alloc, snapshots, logs, range, top)?;
+    let ranks = fold.ranks()?;
     let rows = ranks.rows()?;
     let text = row_lines(alloc, key, first_rows(rows.as_slice(), number))?;
-    Ok(text)
+    Ok(Noticed {
+        text,
+        notices: notice,
+    })
 }
 
 /// Writes a JSON object for each path or session of the second folder's logs, with its number of
-/// writes, the one with most first: at most `number` lines. Returns the exit status.
+/// writes, the one with most first: at most `number` lines. If the logs hold only a part of the range,
+/// a notice on standard error states theirs. Returns the exit status.
 ///
 /// A write creates, changes or deletes a node, alone or as a part of a multi. The nodes that the end
 /// of a session deletes are no writes.
@@ -51,8 +55,6 @@ pub fn top_json<S: Folder, L: Folder, O: Write, E: Write>(
     ensures { TellsTop O.contents E.contents range key number (S.names_in snapshots.now) (L.names_in logs.now)
         (L.bytes_in logs.now) output.old output.new faults.old faults.new result }
 {
-    match lines_of(alloc, snapshots, logs, range, key, number) {
-        Ok(text) => Ok(put_text(text.as_str(), output, faults)),
-        Err(fault) => tell_fault(alloc, &fault, faults),
-    }
+    let answer = lines_of(alloc, snapshots, logs, range, key, number);
+    put_noticed(alloc, answer, output, faults)
 }

@@ -7,8 +7,8 @@ use crate::Form;
 use crate::lines::RecordLines;
 use std::alloc::Global;
 use std::io::Write;
-use zk_directory_files::{Folder, HistoryFault, put_text, tell_fault};
-use zk_directory_state::fold_directory;
+use zk_directory_files::{Folder, HistoryFault};
+use zk_directory_state::{FoldedDirectory, Noticed, Range, fold_directory, put_noticed};
 use zk_log::Sink;
 use zk_path::NoMemory;
 
@@ -19,16 +19,20 @@ fn lines_of<S: Folder, L: Folder>(
     form: Form,
     snapshots: &S,
     logs: &L,
-) -> Result<String, HistoryFault>
+) -> Result<Noticed, HistoryFault>
     ensures { FindsLines form (S.names_in snapshots.now) (L.names_in logs.now) (L.bytes_in logs.now) result }
 {
-    let mut lines = RecordLines::new(alloc, form);
-    fold_directory(alloc, snapshots, logs, &mut lines)?;
-    Ok(lines.text)
+    let lines = RecordLines::new(alloc, form);
+    let FoldedDirectory { fold, notice } =
+        fold_directory(alloc, snapshots, logs, Range::unbounded(), lines)?;
+    Ok(Noticed {
+        text: fold.text,
+        notices: notice,
+    })
 }
 
-/// Writes a line for each transaction of the second folder's logs, each once. Returns the exit
-/// status.
+/// Writes a line for each transaction of the second folder's logs, each once. If others were before
+/// the first one, a notice on standard error states the range of the logs. Returns the exit status.
 pub fn list_directory<S: Folder, L: Folder, O: Write, E: Write>(
     alloc: Global,
     form: Form,
@@ -42,8 +46,6 @@ pub fn list_directory<S: Folder, L: Folder, O: Write, E: Write>(
     ensures { TellsLines O.contents E.contents form (S.names_in snapshots.now) (L.names_in logs.now)
         (L.bytes_in logs.now) output.old output.new faults.old faults.new result }
 {
-    match lines_of(alloc, form, snapshots, logs) {
-        Ok(text) => Ok(put_text(text.as_str(), output, faults)),
-        Err(fault) => tell_fault(alloc, &fault, faults),
-    }
+    let answer = lines_of(alloc, form, snapshots, logs);
+    put_noticed(alloc, answer, output, faults)
 }

@@ -1,12 +1,13 @@
 //! Two states of a directory.
 ghost use Rattle.std.specs.Prelude.{◌≡◌, IfOk, false};
-ghost use Rattle.zk_tree_changes.specs.DifferenceReports.{FindsCompared, FindsMachine, track_between};
+ghost use Rattle.std.specs.String.{string_bytes};
+ghost use Rattle.zk_tree_changes.specs.DifferenceReports.{FindsCompared, FindsMoment, notices_of_both, track_between};
 
 use crate::LastChanges;
 use crate::logged::follow_logged;
 use std::alloc::Global;
 use zk_directory_files::{Folder, HistoryFault};
-use zk_directory_state::{Upto, shown_of};
+use zk_directory_state::{Upto, notices_text, shown_of};
 use zk_machine::Machine;
 use zk_path::NoMemory;
 use zk_tree::Tree;
@@ -18,20 +19,42 @@ pub struct Compared {
     pub new: Machine,
     /// The last transactions between them.
     pub changes: LastChanges,
+    /// The notices on both states.
+    pub notices: String,
+}
+
+/// The state of a directory up to a transaction, and the notices on it.
+#[derive(Drop)]
+struct Moment {
+    machine: Machine,
+    notices: String,
 }
 
 /// The state of a directory up to a transaction.
-#[tactic(auto, using(crate::proofs::FoundDifferences::machine_found, crate::proofs::FoundDifferences::no_machine))]
-fn machine_of<S: Folder, L: Folder>(
+#[tactic(auto, using(crate::proofs::FoundDifferences::moment_found, crate::proofs::FoundDifferences::no_moment))]
+fn moment_of<S: Folder, L: Folder>(
     alloc: Global,
     snapshots: &S,
     logs: &L,
     upto: Upto,
-) -> Result<Machine, HistoryFault>
-    ensures { FindsMachine (S.names_in snapshots.now) (S.bytes_in snapshots.now) (L.names_in logs.now) (L.bytes_in logs.now) upto result }
+) -> Result<Moment, HistoryFault>
+    ensures { FindsMoment (S.names_in snapshots.now) (S.bytes_in snapshots.now) (L.names_in logs.now) (L.bytes_in logs.now) upto result }
 {
     let shown = shown_of(alloc, snapshots, logs, upto)?;
-    Ok(shown.restored.table.machine()?)
+    let notices = notices_text(alloc, upto, &shown.restored)?;
+    let machine = shown.restored.table.machine()?;
+    Ok(Moment { machine, notices })
+}
+
+/// The notices on two states, once if they are the same.
+fn notices_of_both(old: String, new: String) -> Result<String, NoMemory>
+    ensures { IfOk result (λ notices. string_bytes notices ≡ notices_of_both (string_bytes old) (string_bytes new)) }
+{
+    let mut notices = old;
+    if notices.as_bytes() != new.as_bytes() {
+        notices.push_str(new.as_str())?;
+    }
+    Ok(notices)
 }
 
 /// No record yet, from the earlier of two states to the later.
@@ -75,9 +98,15 @@ pub fn compare<S: Folder, L: Folder>(
 ) -> Result<Compared, HistoryFault>
     ensures { FindsCompared (S.names_in snapshots.now) (S.bytes_in snapshots.now) (L.names_in logs.now) (L.bytes_in logs.now) from to result }
 {
-    let old = machine_of(alloc, snapshots, logs, from)?;
-    let new = machine_of(alloc, snapshots, logs, to)?;
-    let mut changes = changes_between(alloc, &old, &new)?;
+    let old = moment_of(alloc, snapshots, logs, from)?;
+    let new = moment_of(alloc, snapshots, logs, to)?;
+    let mut changes = changes_between(alloc, &old.machine, &new.machine)?;
     follow_logged(alloc, logs, &mut changes)?;
-    Ok(Compared { old, new, changes })
+    let notices = notices_of_both(old.notices, new.notices)?;
+    Ok(Compared {
+        old: old.machine,
+        new: new.machine,
+        changes,
+        notices,
+    })
 }

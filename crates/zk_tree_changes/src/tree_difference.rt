@@ -11,8 +11,8 @@ use crate::compared::{Compared, compare, tree_of};
 use crate::push_differences;
 use std::alloc::Global;
 use std::io::Write;
-use zk_directory_files::{Folder, HistoryFault, put_text, tell_fault};
-use zk_directory_state::Upto;
+use zk_directory_files::{Folder, HistoryFault};
+use zk_directory_state::{Noticed, Upto, put_noticed};
 use zk_incidents::Scope;
 use zk_log::Sink;
 use zk_path::NoMemory;
@@ -45,11 +45,13 @@ fn difference_of<S: Folder, L: Folder>(
     from: Upto,
     to: Upto,
     path: &str,
-) -> Result<String, HistoryFault>
+) -> Result<Noticed, HistoryFault>
     ensures { FindsDifference (S.names_in snapshots.now) (S.bytes_in snapshots.now) (L.names_in logs.now) (L.bytes_in logs.now) from to path.now result }
 {
     let compared = compare(alloc, snapshots, logs, from, to)?;
-    Ok(difference_text(alloc, path, &compared)?)
+    let text = difference_text(alloc, path, &compared)?;
+    let notices = compared.notices;
+    Ok(Noticed { text, notices })
 }
 
 /// Writes what differs between the trees that a data directory holds up to two transactions, at a
@@ -58,7 +60,7 @@ fn difference_of<S: Folder, L: Folder>(
 /// the exit status.
 ///
 /// The trees are those of `zk show`: that of the first folder's snapshots and the second folder's
-/// logs.
+/// logs, with the same notices.
 pub fn diff<S: Folder, L: Folder, O: Write, E: Write>(
     alloc: Global,
     snapshots: &S,
@@ -74,8 +76,6 @@ pub fn diff<S: Folder, L: Folder, O: Write, E: Write>(
     ensures { TellsDifference O.contents E.contents (S.names_in snapshots.now) (S.bytes_in snapshots.now) (L.names_in logs.now)
         (L.bytes_in logs.now) from to path.now output.old output.new faults.old faults.new result }
 {
-    match difference_of(alloc, snapshots, logs, from, to, path) {
-        Ok(text) => Ok(put_text(text.as_str(), output, faults)),
-        Err(fault) => tell_fault(alloc, &fault, faults),
-    }
+    let answer = difference_of(alloc, snapshots, logs, from, to, path);
+    put_noticed(alloc, answer, output, faults)
 }

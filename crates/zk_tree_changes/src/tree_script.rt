@@ -2,17 +2,25 @@
 ghost use Rattle.std.specs.Prelude.{◌≡◌, ◌-◌, ◌<◌, ◌^◌, IfOk};
 ghost use Rattle.std.specs.String.{string_bytes};
 ghost use Rattle.zk_records.specs.Sinks.{write_failures_of};
-ghost use Rattle.zk_tree_changes.specs.ScriptReports.{FindsScript, IsScriptIn, TellsMissing, TellsScript, missing_line};
+ghost use Rattle.zk_tree_changes.specs.ScriptReports.{FindsScript, IsScriptIn, OutputsFound, TellsMissing, TellsScript, missing_line};
 
 use crate::push_script;
 use std::alloc::Global;
 use std::io::Write;
-use zk_directory_files::{Folder, HistoryFault, put_text, tell_fault};
-use zk_directory_state::{Shown, Upto, shown_of};
+use zk_directory_files::{Folder, HistoryFault, tell_fault};
+use zk_directory_state::{Shown, Upto, notices_text, put_with_notices, shown_of};
 use zk_format::push_quoted;
 use zk_log::Sink;
 use zk_log_commands::tell;
 use zk_path::NoMemory;
+
+/// A script, and the notices on the state that it is of.
+#[derive(Drop)]
+struct Script {
+    /// `None` if the state has no such node.
+    text: Option<String>,
+    notices: String,
+}
 
 /// The script of the node at a path and those below it, as a state holds them; `None` if it has no
 /// such node.
@@ -28,7 +36,7 @@ fn script_text(alloc: Global, path: &str, shown: &Shown) -> Result<Option<String
 }
 
 /// The script of the node at a path and those below it, as a directory holds them up to a
-/// transaction; `None` if it holds no such node.
+/// transaction.
 #[tactic(auto, using(crate::proofs::FoundScripts::script_found, crate::proofs::FoundScripts::no_script))]
 fn script_of<S: Folder, L: Folder>(
     alloc: Global,
@@ -36,11 +44,13 @@ fn script_of<S: Folder, L: Folder>(
     logs: &L,
     upto: Upto,
     path: &str,
-) -> Result<Option<String>, HistoryFault>
+) -> Result<Script, HistoryFault>
     ensures { FindsScript (S.names_in snapshots.now) (S.bytes_in snapshots.now) (L.names_in logs.now) (L.bytes_in logs.now) upto path.now result }
 {
     let shown = shown_of(alloc, snapshots, logs, upto)?;
-    Ok(script_text(alloc, path, &shown)?)
+    let text = script_text(alloc, path, &shown)?;
+    let notices = notices_text(alloc, upto, &shown.restored)?;
+    Ok(Script { text, notices })
 }
 
 /// The line for a node that a state does not have.
@@ -64,11 +74,31 @@ fn tell_missing<E: Write>(alloc: Global, path: &str, faults: &mut Sink<E>) -> Re
     Ok(1)
 }
 
+/// Writes a script and its notices, or that there is no such node. Returns the exit status.
+fn put_script<O: Write, E: Write>(
+    alloc: Global,
+    path: &str,
+    script: Script,
+    output: &mut Sink<O>,
+    faults: &mut Sink<E>,
+) -> Result<u8, NoMemory>
+    requires output { write_failures_of output.old < 2 ^ 64 - 1 }
+    requires faults { write_failures_of faults.old < 2 ^ 64 - 1 }
+    ensures { OutputsFound O.contents E.contents path.now script.text (string_bytes script.notices) output.old output.new faults.old faults.new result }
+{
+    let notices = script.notices;
+    match script.text {
+        Some(text) => Ok(put_with_notices(text.as_str(), notices.as_str(), output, faults)),
+        None => tell_missing(alloc, path, faults),
+    }
+}
+
 /// Writes the script that restores the node at a path and those below it, as a data directory holds
 /// them up to a transaction: lines of `zkCli.sh`. A node that it does not hold is a fault. Returns
 /// the exit status.
 ///
 /// The tree is that of `zk show`: that of the first folder's snapshots and the second folder's logs.
+/// So are the notices.
 pub fn restore<S: Folder, L: Folder, O: Write, E: Write>(
     alloc: Global,
     snapshots: &S,
@@ -84,8 +114,7 @@ pub fn restore<S: Folder, L: Folder, O: Write, E: Write>(
         (L.bytes_in logs.now) upto path.now output.old output.new faults.old faults.new result }
 {
     match script_of(alloc, snapshots, logs, upto, path) {
-        Ok(Some(text)) => Ok(put_text(text.as_str(), output, faults)),
-        Ok(None) => tell_missing(alloc, path, faults),
+        Ok(script) => put_script(alloc, path, script, output, faults),
         Err(fault) => tell_fault(alloc, &fault, faults),
     }
 }

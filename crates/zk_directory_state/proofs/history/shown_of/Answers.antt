@@ -1,7 +1,6 @@
 use Rattle.std.proofs.Common.{◌≡◌, ◌+◌, ◌==◌, ◌∙◌, false, ℤ, List, length, Err, Ok, sym, ap, subst}
 use Rattle.std.proofs.lemmas.Result.{err_from_is_err_and}
 use Rattle.zk_directory_state.proofs.Held.{chosen_at, holds, upto_fails}
-use Rattle.zk_directory_state.specs.Evidence.{proved}
 use Rattle.zk_directory_state.specs.Histories.{FindsUpto, Holds, IsUpto, candidates}
 use Rattle.zk_directory_files.specs.declared.fault.HistoryFault.{HistoryFault}
 use Rattle.zk_directory_state.proofs.history.shown_of.Goals as goal

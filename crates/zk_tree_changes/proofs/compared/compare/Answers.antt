@@ -22,5 +22,5 @@ returns g c =
     let snapshot_bytes = g.S.Folder.bytes_in c.args.snapshots.now in
     let logs = g.L.Folder.names_in c.args.logs.now in
     let log_bytes = g.L.Folder.bytes_in c.args.logs.now in
-    compared snapshots snapshot_bytes logs log_bytes c.args.from c.args.to c.in_ok-old.old c.in_ok-new.new c.in_ok-changes.changes c.follow_logged.new.changes
-    c.in_ok-old.ensures c.in_ok-new.ensures c.in_ok-changes.ensures c.in_ok-follow_logged.ensures.followed
+    compared snapshots snapshot_bytes logs log_bytes c.args.from c.args.to c.in_ok-old.old c.in_ok-new.new c.in_ok-changes.changes c.follow_logged.new.changes c.in_ok-notices.notices
+    c.in_ok-old.ensures c.in_ok-new.ensures c.in_ok-changes.ensures c.in_ok-follow_logged.ensures.followed c.in_ok-notices.ensures

@@ -1,8 +1,8 @@
 -- The transactions between two zxids or times, both included.
-use Rattle.std.specs.Prelude.{ℤ, Bool, true, ◌&&◌, int_le, Option, Some, None}
-use Rattle.zk_incidents.specs.declared.range.Bound.{Bound}
-use Rattle.zk_incidents.specs.declared.range.Bound.TheVariants.{Zxid, Time}
-use Rattle.zk_incidents.specs.declared.range.Range.{Range}
+use Rattle.std.specs.Prelude.{Bool, true, ◌&&◌, int_le, Option, Some, None}
+use Rattle.zk_directory_state.specs.declared.range.Bound.{Bound}
+use Rattle.zk_directory_state.specs.declared.range.Bound.TheVariants.{Zxid, Time}
+use Rattle.zk_directory_state.specs.declared.range.Range.{Range}
 use Rattle.zk_txn.specs.declared.txn.Txn.{Txn}
 
 abbrev pub is_from : Option Bound → Txn → Bool
@@ -17,3 +17,7 @@ is_to (Some (Time time)) txn = int_le txn.time time
 
 abbrev pub is_in : Range → Txn → Bool
 is_in range txn = is_from range.from txn && is_to range.to txn
+
+-- all transactions
+abbrev pub unbounded : Range
+unbounded = record { from = None; to = None }

@@ -1,6 +1,6 @@
 //! A range of transactions.
 ghost use Rattle.std.specs.Prelude.{◌≡◌};
-ghost use Rattle.zk_incidents.specs.Ranges.{is_from, is_in, is_to};
+ghost use Rattle.zk_directory_state.specs.Ranges.{is_from, is_in, is_to, unbounded};
 
 use zk_txn::Txn;
 
@@ -20,6 +20,16 @@ pub struct Range {
 }
 
 impl Range {
+    /// All transactions.
+    pub fn unbounded() -> Range
+        ensures { result ≡ unbounded }
+    {
+        Range {
+            from: None,
+            to: None,
+        }
+    }
+
     /// Whether a transaction is in the range.
     pub fn contains(&self, txn: &Txn) -> bool
         ensures { result ≡ is_in self.now txn.now }
