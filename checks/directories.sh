@@ -195,11 +195,13 @@ fails "D4 log.2000000d9 16" list "$twice"
 
 # ---- the transactions
 
-# listed DIR WORD..: `zk list WORD..` prints the transactions of the logs in DIR as `mend` and `list` print those of each, each once
+# listed DIR WORD..: `zk list WORD..` prints the transactions of the logs in DIR as `mend` and `list` print those of each, each once, and
+# states their range, since others were before
+range="zk: range 000000010000022d 000000020000013f 2026-11-27T14:55:44.913Z 2026-11-27T14:58:02.694Z"
 listed() {
     local logs=$1 each
     shift
-    [ "$(ends "$zk" list "$@")" = "0 " ]
+    [ "$(ends "$zk" list "$@")" = "0 $range" ]
     for each in "$logs"/log.*; do
         "$zk" mend "$each" "$work/each.log" >"$work/none"
         "$zk" list "$work/each.log"

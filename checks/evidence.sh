@@ -90,7 +90,7 @@ says "0 zk: ends 0000000000000000" show "$work/blank" last
 
 # ---- a range that the logs do not hold
 
-# listed WORDS..: the commands that fold the logs, in each form
+# the commands that fold the logs, in each form
 first=000000010000022d
 begun=2026-11-27T14:55:44.913
 range="zk: range $first $last ${begun}Z $clock"

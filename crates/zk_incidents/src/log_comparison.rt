@@ -1,6 +1,6 @@
 //! `zk compare`.
-ghost use Rattle.std.specs.Prelude.{◌≡◌, ◌-◌, ◌<◌, ◌^◌, IfOk, IfErr};
-ghost use Rattle.zk_incidents.specs.ComparisonReports.{FindsComparison, FindsComparisonBy, FindsEntriesIn, IsLoaded, TellsComparison, is_difference};
+ghost use Rattle.std.specs.Prelude.{◌≡◌, ◌-◌, ◌<◌, ◌^◌, IfOk, IfErr, Ok};
+ghost use Rattle.zk_incidents.specs.ComparisonReports.{FindsComparison, FindsComparisonBy, FindsEntriesIn, IsLoaded, OutputsComparison, TellsComparison, is_difference};
 ghost use Rattle.zk_directory_state.specs.Records.{HaveNoRecords};
 ghost use Rattle.zk_records.specs.Sinks.{write_failures_of};
 
@@ -81,6 +81,21 @@ fn is_difference(comparison: Comparison) -> bool
     }
 }
 
+/// Writes the line of a comparison. Returns the exit status.
+fn put_comparison<O: Write, E: Write>(
+    alloc: Global,
+    comparison: Comparison,
+    output: &mut Sink<O>,
+    faults: &mut Sink<E>,
+) -> Result<u8, NoMemory>
+    requires output { write_failures_of output.old < 2 ^ 64 - 1 }
+    requires faults { write_failures_of faults.old < 2 ^ 64 - 1 }
+    ensures { OutputsComparison O.contents E.contents (Ok comparison) output.old output.new faults.old faults.new result }
+{
+    let text = comparison_text(alloc, comparison)?;
+    Ok(put_report(text.as_str(), is_difference(comparison), output, faults))
+}
+
 /// Writes up to which transaction the logs of two directories agree, and which of them is ahead; or
 /// where they differ first. Returns the exit status: 1 if they differ.
 pub fn compare<A: Folder, B: Folder, O: Write, E: Write>(
@@ -96,10 +111,7 @@ pub fn compare<A: Folder, B: Folder, O: Write, E: Write>(
         (B.bytes_in second.now) output.old output.new faults.old faults.new result }
 {
     match comparison_of(alloc, first, second) {
-        Ok(comparison) => {
-            let text = comparison_text(alloc, comparison)?;
-            Ok(put_report(text.as_str(), is_difference(comparison), output, faults))
-        }
+        Ok(comparison) => put_comparison(alloc, comparison, output, faults),
         Err(fault) => tell_fault(alloc, &fault, faults),
     }
 }

@@ -23,8 +23,13 @@ fn lines_of<S: Folder, L: Folder>(
     ensures { FindsLines form (S.names_in snapshots.now) (L.names_in logs.now) (L.bytes_in logs.now) result }
 {
     let lines = RecordLines::new(alloc, form);
-    let FoldedDirectory { fold, notice } =
-        fold_directory(alloc, snapshots, logs, Range::unbounded(), lines)?;
+    let FoldedDirectory { fold, notice } = fold_directory(
+        alloc,
+        snapshots,
+        logs,
+        Range::unbounded(),
+        lines,
+    )?;
     Ok(Noticed {
         text: fold.text,
         notices: notice,

@@ -1,4 +1,4 @@
-use Rattle.std.proofs.Common.{◌≡◌, List, map, ap, ◌∙◌}
+use Rattle.std.proofs.Common.{List, map, ap, ◌∙◌}
 use Rattle.zk_incidents.specs.Comparisons.{comparison_of}
 use Rattle.zk_directory.specs.Chains.{told}
 use Rattle.zk_directory.specs.declared.chain.LogEntry.{LogEntry}
