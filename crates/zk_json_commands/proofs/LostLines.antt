@@ -1,5 +1,5 @@
 -- The lines of transactions that are lost, and of a digest that is not that of its tree.
-use Rattle.std.proofs.Common.{◌≡◌, ℕ, ℤ, List, ◌∷◌, [], Option, Some, Result, Ok, Err, OnOk, refl, subst, codes}
+use Rattle.std.proofs.Common.{◌≡◌, ℕ, ℤ, List, ◌∷◌, [], Option, Result, Ok, Err, OnOk, refl, subst, codes}
 use Rattle.json.specs.Json.{Json, string}
 use Rattle.zk_json.specs.Json.{AppendsLineOf, id_of, object_of}
 use Rattle.zk_json.specs.Times.{IsTimeText}

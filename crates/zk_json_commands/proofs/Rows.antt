@@ -1,10 +1,9 @@
 -- The digits of a session, and the lines of rows.
-use Rattle.std.proofs.Common.{◌≡◌, ◌≤◌, ◌<◌, ◌+◌, ◌==◌, ℕ, suc, Bool, true, false, eqb, List, [], ◌∷◌, ◌++◌, length, map, take, get_or, Option, Some, None, refl, sym, ap, ◌∙◌, subst, append_assoc, append-nil, arith}
+use Rattle.std.proofs.Common.{◌≡◌, ◌≤◌, ◌<◌, ◌+◌, ◌==◌, ℕ, suc, Bool, true, false, List, [], ◌∷◌, ◌++◌, length, map, take, get_or, Some, None, refl, sym, ap, ◌∙◌, subst, append_assoc, append-nil, arith}
 use Rattle.std.proofs.Math.Seq.{take-suc}
 use Rattle.std.proofs.lemmas.List.{take_all}
 use Rattle.std.proofs.lemmas.Bool.{eqb-true}
 use Rattle.std.specs.Borrow.{Bor}
-use Rattle.zk_directory_state.specs.declared.range.Range.{Range}
 use Rattle.zk_incidents.specs.declared.top_fold.Key.{Key}
 use Rattle.zk_json_commands.specs.Lines.{AppendsLines, AreLines}
 use Rattle.zk_json_commands.specs.Tops.{AppendsRow, IsLine, after_zero, without_zeros}

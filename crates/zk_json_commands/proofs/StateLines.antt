@@ -6,7 +6,6 @@ use Rattle.std.specs.FinMap.{entries}
 use Rattle.std.specs.Fmt.{signed_decimal}
 use Rattle.json.specs.Json.{Json, string}
 use Rattle.zk_directory_state.specs.declared.history.Broken.{Broken}
-use Rattle.zk_directory_state.specs.declared.history.Origin.{Origin}
 use Rattle.zk_directory_state.specs.declared.history.Shown.{Shown}
 use Rattle.zk_json.specs.Json.{AppendsLineOf, IsLineOf, object_of}
 use Rattle.zk_json_commands.proofs.Written.{lines_more, nodes_told}
@@ -19,7 +18,6 @@ use Rattle.zk_log.specs.declared.loaded.Loaded.{Loaded}
 use Rattle.zk_log_commands.specs.Showing.{shown_of}
 use Rattle.zk_table.specs.Histories.{tree_of}
 use Rattle.zk_path.specs.declared.memory.NoMemory.{NoMemory}
-use Rattle.zk_replay.specs.declared.count.DigestCount.{DigestCount}
 use Rattle.zk_table.specs.States.{State}
 use Rattle.zk_tree.specs.Entries.{entries_of, lent}
 use Rattle.zk_tree.specs.declared.entry.Entry.{Entry}

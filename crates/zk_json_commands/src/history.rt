@@ -26,8 +26,13 @@ fn lines_of<S: Folder, L: Folder>(
     let scope = Scope::new(alloc, path, below)?;
     let owners = first_owners(alloc, snapshots)?;
     let lines = HistoryLines::new(alloc, scope, owners);
-    let FoldedDirectory { fold, notice } =
-        fold_directory(alloc, snapshots, logs, Range::unbounded(), lines)?;
+    let FoldedDirectory { fold, notice } = fold_directory(
+        alloc,
+        snapshots,
+        logs,
+        Range::unbounded(),
+        lines,
+    )?;
     Ok(Noticed {
         text: fold.text,
         notices: notice,

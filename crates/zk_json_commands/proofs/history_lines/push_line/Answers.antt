@@ -1,7 +1,7 @@
-use Rattle.std.proofs.Common.{◌≡◌, ◌==◌, true, false, length, refl, rules}
+use Rattle.std.proofs.Common.{◌≡◌, ◌==◌, false, length, rules}
 use Rattle.std.proofs.lemmas.Result.{on_ok_weaker}
 use Rattle.std.specs.String.{string_bytes}
-use Rattle.zk_json_commands.proofs.Finished.{no_line, one_line}
+use Rattle.zk_json_commands.proofs.Finished.{one_line}
 use Rattle.zk_json_commands.proofs.history_lines.push_line.Goals as goal
 
 pub returns : goal.returns
