@@ -5,7 +5,7 @@ pub mod Taking
 pub mod Hearing
 pub mod Acting
 pub mod Turning
-mod Settling
+pub mod Settling
 pub mod Schedules
 mod Linking
 mod LinkWriting

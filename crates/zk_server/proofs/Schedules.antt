@@ -1,4 +1,5 @@
--- What servers do is a schedule of `zk_server_laws`.
+-- What servers do is a schedule of `zk_server_laws`. What speaks of one server alone serves
+-- `zk_quorum_server` too.
 use Rattle.std.proofs.Common.{◌≡◌, ◌⊎◌, ◌≤◌, ◌==◌, ℕ, Bool, true, false, if◌then◌else◌, List, [], ◌∷◌, ◌++◌, length, drop, filter, Some, None, refl, sym, ap, ◌∙◌, subst, arith}
 use Rattle.std.proofs.lemmas.Bool.Decides.{nat_tests}
 use Rattle.zab_broadcast.specs.Rules.{restored}
@@ -26,35 +27,35 @@ use Rattle.zk_server_laws.specs.Schedules as laws
 use Rattle.zk_server_laws.specs.Turns.{Narrows, StartsOn, StopsWith, Turn, TurnsTo}
 
 module _ {S : Type 0} (clean : S → Type 0) (may_recover : S → Stable → Type 0) (boots : S → ℕ) (servers : ℕ) where
-  abbrev member : ℕ → Member
+  abbrev pub member : ℕ → Member
   member number = record { number = number; servers = servers }
 
   -- ---- a server, as the laws have it
 
   -- all that it has is stored, and it has tags left
-  abbrev Ready : ReplicaHost S → Type 0
+  abbrev pub Ready : ReplicaHost S → Type 0
   Ready host = IsStored may_recover host.host × (host.tags.used ≤ 4294967296)
 
-  abbrev Same : Site S → laws.Site Call S → Type 0
+  abbrev pub Same : Site S → laws.Site Call S → Type 0
   Same (sites.Runs host) (laws.Runs it boot used) = (it ≡ host.host) × ((boot ≡ host.tags.boot) × ((used ≡ host.tags.used) × Ready host))
   Same (sites.Stopped (Some storage)) (laws.Stopped last boot used turn kept) = kept ≡ storage
   Same site it = ⊥
 
-  record Sim (x : peers.Ensemble S) (y : laws.Ensemble Call S) : Type 0 where
-    me : (number : ℕ) → (x.peers number).me ≡ member number
-    site : (number : ℕ) → Same (x.peers number).site (y.site number)
-    flight : (line : ℕ) → x.flight line ≡ y.flight line
+  pub record Sim (x : peers.Ensemble S) (y : laws.Ensemble Call S) : Type 0 where
+    pub me : (number : ℕ) → (x.peers number).me ≡ member number
+    pub site : (number : ℕ) → Same (x.peers number).site (y.site number)
+    pub flight : (line : ℕ) → x.flight line ≡ y.flight line
 
-  abbrev is_law : laws.Event Call S → laws.Ensemble Call S → Type 0
+  abbrev pub is_law : laws.Event Call S → laws.Ensemble Call S → Type 0
   is_law event y = laws.MayHappen (profile_for servers) may_recover boots servers y event
 
-  abbrev next_law : laws.Ensemble Call S → laws.Event Call S → laws.Ensemble Call S
+  abbrev pub next_law : laws.Ensemble Call S → laws.Event Call S → laws.Ensemble Call S
   next_law y event = laws.after_event (profile_for servers) y event
 
-  record Follows (x : peers.Ensemble S) (y : laws.Ensemble Call S) (event : peers.Event S) : Type 0 where
-    law_event : laws.Event Call S
-    may : is_law law_event y
-    sim : Sim (peers.after_event x event) (next_law y law_event)
+  pub record Follows (x : peers.Ensemble S) (y : laws.Ensemble Call S) (event : peers.Event S) : Type 0 where
+    pub law_event : laws.Event Call S
+    pub may : is_law law_event y
+    pub sim : Sim (peers.after_event x event) (next_law y law_event)
 
   -- ---- one server changes
 
@@ -67,7 +68,7 @@ module _ {S : Type 0} (clean : S → Type 0) (may_recover : S → Stable → Typ
   if_me number other it old true is now was = (let same : number ≡ other = grind (arith, nat_tests) in now ∙ ap member same)
   if_me number other it old false is now was = was
 
-  changes : (x : peers.Ensemble S) (y : laws.Ensemble Call S) (number : ℕ) (it : PeerView S) (new : laws.Site Call S) (f g : ℕ → List (Message Call)) → Sim x y
+  pub changes : (x : peers.Ensemble S) (y : laws.Ensemble Call S) (number : ℕ) (it : PeerView S) (new : laws.Site Call S) (f g : ℕ → List (Message Call)) → Sim x y
       → it.me ≡ member number → Same it.site new → ((line : ℕ) → f line ≡ g line)
       → Sim (record { peers = peers.with_peer number it x.peers; flight = f }) (record { site = laws.with_site number new y.site; flight = g })
   changes x y number it new f g sim me now flight = record {
@@ -76,17 +77,17 @@ module _ {S : Type 0} (clean : S → Type 0) (may_recover : S → Stable → Typ
     flight = flight;
   }
 
-  brings : (x : peers.Ensemble S) (y : laws.Ensemble Call S) (arrivals : List Arrival) (line_to : ℕ → ℕ) (inputs : List (Input Call)) → Sim x y → peers.Brings clean may_recover boots servers x arrivals
+  pub brings : (x : peers.Ensemble S) (y : laws.Ensemble Call S) (arrivals : List Arrival) (line_to : ℕ → ℕ) (inputs : List (Input Call)) → Sim x y → peers.Brings clean may_recover boots servers x arrivals
       → laws.Brings (profile_for servers) may_recover boots servers y (turn_with arrivals line_to inputs)
   brings x y arrivals line_to inputs sim brought line = subst (λ (l : List (Message Call)). IsPrefix (brought_on arrivals line) l) (sim.flight line) (brought line)
 
-  arrives : (x : peers.Ensemble S) (y : laws.Ensemble Call S) (arrivals : List Arrival) (line_to : ℕ → ℕ) (inputs : List (Input Call)) → Sim x y → (line : ℕ)
+  pub arrives : (x : peers.Ensemble S) (y : laws.Ensemble Call S) (arrivals : List Arrival) (line_to : ℕ → ℕ) (inputs : List (Input Call)) → Sim x y → (line : ℕ)
       → peers.arrived arrivals x.flight line ≡ laws.arrived (turn_with arrivals line_to inputs) y.flight line
   arrives x y arrivals line_to inputs sim line = ap (λ (l : List (Message Call)). drop (length (brought_on arrivals line)) l) (sim.flight line)
 
   -- ---- a turn
 
-  abbrev TurnsAt : Member → ℕ → ℕ → ℕ → HostView Call S → Turn Call → List (Message Call) → HostView Call S → Type 0
+  abbrev pub TurnsAt : Member → ℕ → ℕ → ℕ → HostView Call S → Turn Call → List (Message Call) → HostView Call S → Type 0
   TurnsAt me boot used next_used old turn sent next = TurnsTo (profile_for me.servers) may_recover boots me.servers me.number boot used next_used old turn sent next
 
   turns_at : (me you : Member) (boot boot2 used used2 next_used : ℕ) (old old2 : HostView Call S) (turn : Turn Call) (sent : List (Message Call)) (next : HostView Call S)
@@ -97,7 +98,7 @@ module _ {S : Type 0} (clean : S → Type 0) (may_recover : S → Stable → Typ
       (subst (λ (n : ℕ). TurnsAt me boot n next_used old2 turn sent next) c
       (subst (λ (v : HostView Call S). TurnsAt me boot used next_used v turn sent next) d h)))
 
-  abbrev StopsAt : Member → ℕ → ℕ → ℕ → HostView Call S → Turn Call → S → Type 0
+  abbrev pub StopsAt : Member → ℕ → ℕ → ℕ → HostView Call S → Turn Call → S → Type 0
   StopsAt me boot used next_used old turn storage = StopsWith (profile_for me.servers) may_recover boots me.servers me.number boot used next_used old turn storage
 
   stops_at : (me you : Member) (boot boot2 used used2 next_used : ℕ) (old old2 : HostView Call S) (turn : Turn Call) (storage : S)
@@ -108,7 +109,7 @@ module _ {S : Type 0} (clean : S → Type 0) (may_recover : S → Stable → Typ
       (subst (λ (n : ℕ). StopsAt me boot n next_used old2 turn storage) c
       (subst (λ (v : HostView Call S). StopsAt me boot used next_used v turn storage) d h)))
 
-  started_ready : (number : ℕ) (storage : S) (stable : Stable) (host : ReplicaHost S) → StartsOn may_recover boots servers number storage stable host.tags.boot host.host → host.tags.used ≡ 0 → Ready host
+  pub started_ready : (number : ℕ) (storage : S) (stable : Stable) (host : ReplicaHost S) → StartsOn may_recover boots servers number storage stable host.tags.boot host.host → host.tags.used ≡ 0 → Ready host
   started_ready number storage stable host on unused = (
     λ found may. on.stored found may ∙ ap (λ (s : State). s.peer.stable) (sym on.state),
     (let e = unused in omega arith),
@@ -116,33 +117,33 @@ module _ {S : Type 0} (clean : S → Type 0) (may_recover : S → Stable → Typ
 
   -- ---- each call is an event
 
-  turned_site : (number : ℕ) (s : laws.Site Call S) (before : ReplicaHost S) (turn : Turn Call) (sent : List (Message Call)) (next_used : ℕ) (next : HostView Call S) → Same (sites.Runs before) s
+  pub turned_site : (number : ℕ) (s : laws.Site Call S) (before : ReplicaHost S) (turn : Turn Call) (sent : List (Message Call)) (next_used : ℕ) (next : HostView Call S) → Same (sites.Runs before) s
       → TurnsAt (member number) before.tags.boot before.tags.used next_used before.host turn sent next → laws.MayTurn (profile_for servers) may_recover boots servers s number turn next_used next
   turned_site number (laws.Runs it boot used) before turn sent next_used next same h =
       (let here = turns_at (member number) (member number) before.tags.boot boot before.tags.used used next_used before.host it turn sent next refl (sym same.1.0) (sym same.1.1.0) (sym same.0) h in
       subst (λ (l : List (Message Call)). TurnsAt (member number) boot used next_used it turn l next) here.sends here)
   turned_site number (laws.Stopped last boot used gone kept) before turn sent next_used next same h = absurd same
 
-  turned_sent : (s : laws.Site Call S) (before : ReplicaHost S) (turn : Turn Call) (sent : List (Message Call)) → Same (sites.Runs before) s
+  pub turned_sent : (s : laws.Site Call S) (before : ReplicaHost S) (turn : Turn Call) (sent : List (Message Call)) → Same (sites.Runs before) s
       → sent ≡ messages_in (profile_for servers).setting before.host.state turn.inputs → sent ≡ laws.sent_by (profile_for servers) turn s
   turned_sent (laws.Runs it boot used) before turn sent same is = is ∙ ap (λ (v : HostView Call S). messages_in (profile_for servers).setting v.state turn.inputs) (sym same.0)
   turned_sent (laws.Stopped last boot used gone kept) before turn sent same is = absurd same
 
-  turned_same : (s : laws.Site Call S) (before after : ReplicaHost S) → Same (sites.Runs before) s → after.tags.boot ≡ before.tags.boot → Ready after → Same (sites.Runs after) (laws.running_at after.tags.used after.host s)
+  pub turned_same : (s : laws.Site Call S) (before after : ReplicaHost S) → Same (sites.Runs before) s → after.tags.boot ≡ before.tags.boot → Ready after → Same (sites.Runs after) (laws.running_at after.tags.used after.host s)
   turned_same (laws.Runs it boot used) before after same boot_is ready = (refl, (same.1.0 ∙ sym boot_is, (refl, ready)))
   turned_same (laws.Stopped last boot used gone kept) before after same boot_is ready = absurd same
 
-  stopped_site : (number : ℕ) (s : laws.Site Call S) (before : ReplicaHost S) (turn : Turn Call) (next_used : ℕ) (storage : S) → Same (sites.Runs before) s
+  pub stopped_site : (number : ℕ) (s : laws.Site Call S) (before : ReplicaHost S) (turn : Turn Call) (next_used : ℕ) (storage : S) → Same (sites.Runs before) s
       → StopsAt (member number) before.tags.boot before.tags.used next_used before.host turn storage → laws.MayStop (profile_for servers) may_recover boots servers s number turn next_used storage
   stopped_site number (laws.Runs it boot used) before turn next_used storage same h =
       stops_at (member number) (member number) before.tags.boot boot before.tags.used used next_used before.host it turn storage refl (sym same.1.0) (sym same.1.1.0) (sym same.0) h
   stopped_site number (laws.Stopped last boot used gone kept) before turn next_used storage same h = absurd same
 
-  stopped_same : (s : laws.Site Call S) (before : ReplicaHost S) (turn : Turn Call) (storage : S) → Same (sites.Runs before) s → Same (sites.Stopped (Some storage)) (laws.stopped_at turn storage s)
+  pub stopped_same : (s : laws.Site Call S) (before : ReplicaHost S) (turn : Turn Call) (storage : S) → Same (sites.Runs before) s → Same (sites.Stopped (Some storage)) (laws.stopped_at turn storage s)
   stopped_same (laws.Runs it boot used) before turn storage same = refl
   stopped_same (laws.Stopped last boot used gone kept) before turn storage same = absurd same
 
-  at_me : (x : peers.Ensemble S) (y : laws.Ensemble Call S) (number : ℕ) (site : Site S) → Sim x y → (x.peers number).site ≡ site → Same site (y.site number)
+  pub at_me : (x : peers.Ensemble S) (y : laws.Ensemble Call S) (number : ℕ) (site : Site S) → Sim x y → (x.peers number).site ≡ site → Same site (y.site number)
   at_me x y number site sim is = subst (λ (it : Site S). Same it (y.site number)) is (sim.site number)
 
   turned : (x : peers.Ensemble S) (y : laws.Ensemble Call S) (number : ℕ) (arrivals : List Arrival) (line_to : ℕ → ℕ) (next : PeerView S) (messages : List (Message Call)) → Sim x y
@@ -187,10 +188,10 @@ module _ {S : Type 0} (clean : S → Type 0) (may_recover : S → Stable → Typ
       }
 
   -- a process that ends between two turns has taken no input
-  abbrev nothing : Turn Call
+  abbrev pub nothing : Turn Call
   nothing = laws.no_turn (profile_for servers) may_recover boots servers
 
-  ends_at : (number : ℕ) (before : ReplicaHost S) (storage : S) → Ready before → Narrows may_recover boots before.host.storage storage
+  pub ends_at : (number : ℕ) (before : ReplicaHost S) (storage : S) → Ready before → Narrows may_recover boots before.host.storage storage
       → StopsAt (member number) before.tags.boot before.tags.used before.tags.used before.host nothing storage
   ends_at number before storage ready narrows = record {
     acts = record { accepted = tt; heard = tt; asked = refl; rising = omega arith; within = ready.1 };
@@ -198,7 +199,7 @@ module _ {S : Type 0} (clean : S → Type 0) (may_recover : S → Stable → Typ
     starts = narrows.starts;
   }
 
-  ended_as : (x : peers.Ensemble S) (y : laws.Ensemble Call S) (number : ℕ) (storage : S) (site : Site S) (s : laws.Site Call S) → Sim x y → y.site number ≡ s → Same site s
+  pub ended_as : (x : peers.Ensemble S) (y : laws.Ensemble Call S) (number : ℕ) (storage : S) (site : Site S) (s : laws.Site Call S) → Sim x y → y.site number ≡ s → Same site s
       → is_server servers number ≡ true → peers.MayEnd clean may_recover boots servers site storage → Follows x y (Ended number storage)
   ended_as x y number storage (sites.Runs before) (laws.Runs it boot used) sim at same server narrows =
       (let may = stopped_site number (laws.Runs it boot used) before nothing before.tags.used storage same (ends_at number before storage same.1.1.1 narrows) in
@@ -218,7 +219,7 @@ module _ {S : Type 0} (clean : S → Type 0) (may_recover : S → Stable → Typ
   ended_as x y number storage (sites.Runs before) (laws.Stopped last boot used turn gone) sim at same server narrows = absurd same
   ended_as x y number storage (sites.Stopped (Some kept)) (laws.Runs it boot used) sim at same server narrows = absurd same
 
-  started_as : (x : peers.Ensemble S) (y : laws.Ensemble Call S) (number : ℕ) (next : PeerView S) (site : Site S) (s : laws.Site Call S) → Sim x y → y.site number ≡ s → Same site s
+  pub started_as : (x : peers.Ensemble S) (y : laws.Ensemble Call S) (number : ℕ) (next : PeerView S) (site : Site S) (s : laws.Site Call S) → Sim x y → y.site number ≡ s → Same site s
       → is_server servers number ≡ true → peers.MayStart clean may_recover boots servers (member number) site next → Follows x y (Started number next)
   started_as x y number next (sites.Stopped (Some storage)) (laws.Stopped last boot used turn gone) sim at same server start =
       (let on = start.starts.starts start.honest in
@@ -272,35 +273,35 @@ module _ {S : Type 0} (clean : S → Type 0) (may_recover : S → Stable → Typ
   rest_of_run x [] b may = may
   rest_of_run x (event ∷ a) b may = rest_of_run (peers.after_event x event) a b may.1
 
-  laws_both : (y : laws.Ensemble Call S) (a b : List (laws.Event Call S)) → laws.MayRun (profile_for servers) may_recover boots servers y a
+  pub laws_both : (y : laws.Ensemble Call S) (a b : List (laws.Event Call S)) → laws.MayRun (profile_for servers) may_recover boots servers y a
       → laws.MayRun (profile_for servers) may_recover boots servers (laws.after_events (profile_for servers) y a) b → laws.MayRun (profile_for servers) may_recover boots servers y (a ++ b)
   laws_both y [] b p q = q
   laws_both y (event ∷ a) b p q = (p.0, laws_both (next_law y event) a b p.1 q)
 
-  laws_after : (y : laws.Ensemble Call S) (a b : List (laws.Event Call S)) → laws.after_events (profile_for servers) y (a ++ b) ≡ laws.after_events (profile_for servers) (laws.after_events (profile_for servers) y a) b
+  pub laws_after : (y : laws.Ensemble Call S) (a b : List (laws.Event Call S)) → laws.after_events (profile_for servers) y (a ++ b) ≡ laws.after_events (profile_for servers) (laws.after_events (profile_for servers) y a) b
   laws_after y [] b = refl
   laws_after y (event ∷ a) b = laws_after (next_law y event) a b
 
   -- ---- the first start
 
-  abbrev new_site : (number : ℕ) (site : Site S) → peers.IsNewSite clean may_recover boots servers site → laws.Site Call S
+  abbrev pub new_site : (number : ℕ) (site : Site S) → peers.IsNewSite clean may_recover boots servers site → laws.Site Call S
   new_site number (sites.Stopped (Some storage)) new = laws.Stopped (restored servers number (laws.no_stable (profile_for servers) may_recover boots servers)) 0 0 nothing storage
   new_site number (sites.Stopped None) new = absurd new
   new_site number (sites.Runs host) new = absurd new
 
-  new_same : (number : ℕ) (site : Site S) (new : peers.IsNewSite clean may_recover boots servers site) → Same site (new_site number site new)
+  pub new_same : (number : ℕ) (site : Site S) (new : peers.IsNewSite clean may_recover boots servers site) → Same site (new_site number site new)
   new_same number (sites.Stopped (Some storage)) new = refl
   new_same number (sites.Stopped None) new = absurd new
   new_same number (sites.Runs host) new = absurd new
 
-  new_law : (number : ℕ) (site : Site S) (new : peers.IsNewSite clean may_recover boots servers site) → laws.IsNewSite (profile_for servers) may_recover boots servers number (new_site number site new)
+  pub new_law : (number : ℕ) (site : Site S) (new : peers.IsNewSite clean may_recover boots servers site) → laws.IsNewSite (profile_for servers) may_recover boots servers number (new_site number site new)
   new_law number (sites.Stopped (Some storage)) new = (refl, (refl, (refl, (refl, new))))
   new_law number (sites.Stopped None) new = absurd new
   new_law number (sites.Runs host) new = absurd new
 
   -- ---- agreement
 
-  sites_agree : (one other : Site S) (s t : laws.Site Call S) → Same one s → Same other t → laws.SitesAgree (profile_for servers) may_recover boots servers s t → peers.SitesAgree clean may_recover boots servers one other
+  pub sites_agree : (one other : Site S) (s t : laws.Site Call S) → Same one s → Same other t → laws.SitesAgree (profile_for servers) may_recover boots servers s t → peers.SitesAgree clean may_recover boots servers one other
   sites_agree (sites.Runs one) (sites.Runs other) (laws.Runs it boot used) (laws.Runs it2 boot2 used2) same same2 agree =
       subst (λ (v : HostView Call S). IsPrefix (delivered_in one.host.state) (delivered_in v.state) ⊎ IsPrefix (delivered_in v.state) (delivered_in one.host.state)) same2.0
       (subst (λ (v : HostView Call S). IsPrefix (delivered_in v.state) (delivered_in it2.state) ⊎ IsPrefix (delivered_in it2.state) (delivered_in v.state)) same.0 agree)

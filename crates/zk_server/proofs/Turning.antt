@@ -21,7 +21,7 @@ use Rattle.zk_server.specs.declared.election.Choice.{Choice}
 use Rattle.zk_server.specs.declared.election.Choice.TheVariants.{Wait, Lead, Follow}
 use Rattle.zk_server.specs.declared.member.Member.{Member}
 use Rattle.zk_server.specs.Deeds.{setting_for, Acknowledges, ActsBy, AllAmong, Deeds, Failure, FailsAt, FailsToAct, HearsAll, IsAmong}
-use Rattle.zk_server.specs.Elections.{ElectionView, after_arrival, after_arrivals, after_choice, choice_of}
+use Rattle.zk_server.specs.Elections.{ElectionView, after_arrival, after_arrivals, after_choice, choice_of, with_vote}
 use Rattle.zk_server.specs.Mail.{brought_by, brought_on, listed, mail_for, mail_in, mail_of}
 use Rattle.zk_server.specs.Sites.{IsReady}
 use Rattle.zk_server.specs.Turns.{voting, Decides, HasFailed, HasTurned}
@@ -198,12 +198,12 @@ module _ {S : Type 0} (may_recover : S → Stable → Type 0) (boots : S → ℕ
       let alone_not : (me.servers == 1) ≡ false = grind (arith, nat_tests) in
       subst (λ (l : List (Message Call)). FailsAt may_recover boots me l old new) (mail_if false arrivals alone_not) fails
 
-  pub decides : (election next : ElectionView) (old new : ReplicaHost S) (vote : Vote) (choice : Choice) → vote ≡ vote_of old.host.state → choice ≡ choice_of (record election { vote = vote })
-      → next ≡ after_choice choice (record election { vote = vote }) → ActsBy may_recover boots me choice old new → Decides may_recover boots me election old next new
+  pub decides : (election next : ElectionView) (old new : ReplicaHost S) (vote : Vote) (choice : Choice) → vote ≡ vote_of old.host.state → choice ≡ choice_of (with_vote vote election)
+      → next ≡ after_choice choice (with_vote vote election) → ActsBy may_recover boots me choice old new → Decides may_recover boots me election old next new
   decides election next old new vote choice own chosen position acts =
-      let same : record election { vote = vote } ≡ voting may_recover boots me election old = ap (λ (v : Vote). record election { vote = v }) own in
+      let same : with_vote vote election ≡ voting may_recover boots me election old = ap (λ (v : Vote). with_vote v election) own in
       record {
-        position = position ∙ ap (λ (c : Choice). after_choice c (record election { vote = vote })) chosen ∙ ap (λ (e : ElectionView). after_choice (choice_of e) e) same;
+        position = position ∙ ap (λ (c : Choice). after_choice c (with_vote vote election)) chosen ∙ ap (λ (e : ElectionView). after_choice (choice_of e) e) same;
         acts = subst (λ (c : Choice). ActsBy may_recover boots me c old new) (chosen ∙ ap choice_of same) acts;
       }
 

@@ -93,6 +93,17 @@ after_arrivals (arrival ∷ arrivals) it = after_arrivals arrivals (after_arriva
 
 -- ---- what it decides
 
+-- A server takes its vote while it looks for a leader, and keeps it while it leads or follows.
+-- FastLeaderElection, lookForLeader: updateProposal, setCurrentVote; QuorumPeer, getCurrentVote.
+abbrev pub vote_at : Position → Vote → Vote → Vote
+vote_at Looking kept vote = vote
+vote_at Chosen kept vote = vote
+vote_at Leads kept vote = kept
+vote_at (Follows leader) kept vote = kept
+
+abbrev pub with_vote : Vote → ElectionView → ElectionView
+with_vote vote it = record it { vote = vote_at it.position it.vote vote }
+
 -- a leader whose notice beats this one
 abbrev pub is_beaten_by : Notice → Notice → Bool
 is_beaten_by notice other = is_leaders other && beats other notice

@@ -12,7 +12,7 @@ use Rattle.zk_server.specs.declared.site.Site.{Site}
 use Rattle.zk_server.specs.declared.site.Site.TheVariants as sites
 use Rattle.zk_server.specs.declared.stopped.Stopped.{Stopped}
 use Rattle.zk_server.specs.Deeds.{profile_for, ActsBy, HearsAll}
-use Rattle.zk_server.specs.Elections.{ElectionView, after_arrivals, after_choice, choice_of}
+use Rattle.zk_server.specs.Elections.{ElectionView, after_arrivals, after_choice, choice_of, with_vote}
 use Rattle.zk_server.specs.Mail.{brought_on, mail_for}
 use Rattle.zk_server.specs.Sites.{IsReady}
 use Rattle.zk_server_laws.specs.Turns.{Turn, TurnsTo, StopsWith}
@@ -22,9 +22,9 @@ abbrev pub turn_with : List Arrival → (ℕ → ℕ) → List (Input Call) → 
 turn_with arrivals line_to inputs = record { brought = brought_on arrivals; line_to = line_to; inputs = inputs; requests = []; taken = [] }
 
 module _ {S : Type 0} (may_recover : S → Stable → Type 0) (boots : S → ℕ) (me : Member) where
-  -- the election of a server with its vote of now
+  -- the election of a server with its host's vote
   abbrev pub voting : ElectionView → ReplicaHost S → ElectionView
-  voting election host = record election { vote = vote_of host.host.state }
+  voting election host = with_vote (vote_of host.host.state) election
 
   -- the host leads or follows as its election decides
   pub record Decides (election : ElectionView) (old : ReplicaHost S) (next : ElectionView) (new : ReplicaHost S) : Type 0 where

@@ -33,7 +33,7 @@ pub struct Election {
     servers: usize,
     position: Position,
     round: u64,
-    /// The server's own vote.
+    /// The server's own vote: by which it leads or follows, or of now while it looks for a leader.
     vote: Vote,
     /// The last notice of each peer, over a link that has not ended since.
     heard: Vec<Notice>,
@@ -170,12 +170,12 @@ impl Election {
         self.has_quorum() && all_lose(&self.heard, &self.vote)
     }
 
-    /// What the server is to do, with its vote of now.
+    /// What the server is to do. `vote` is its vote of now.
     pub(crate) fn choose(&mut self, vote: Vote) -> Choice
-        ensures choice { result ≡ choice_of (record self.old { vote = vote }) }
-        ensures position { self.new ≡ after_choice result (record self.old { vote = vote }) }
+        ensures choice { result ≡ choice_of (with_vote vote self.old) }
+        ensures position { self.new ≡ after_choice result (with_vote vote self.old) }
     {
-        self.vote = vote;
+        self.set_vote(vote);
         let choice = self.choice();
         match choice {
             Choice::Wait => (),
@@ -184,6 +184,19 @@ impl Election {
         }
         choice
     }
+
+    /// A server that leads or follows keeps its vote: a notice with another one would be news to its
+    /// followers, and they would look for a leader again.
+    fn set_vote(&mut self, vote: Vote)
+        ensures { self.new ≡ with_vote vote self.old }
+    {
+        match self.position {
+            Position::Looking | Position::Chosen => self.vote = vote,
+            Position::Leads | Position::Follows(_) => (),
+        }
+    }
+
+    ghost use Rattle.zk_server.specs.Elections.{with_vote};
 
     fn begin_to_lead(&mut self)
         ensures { self.new ≡ after_choice choices.Lead self.old }

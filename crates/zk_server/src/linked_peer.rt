@@ -112,8 +112,8 @@ impl<S: Storage> LinkedPeer<S> {
         ensures site { self.new.peer.site ≡ sites.Stopped (storage_in self.old.peer.site) }
         ensures links { self.new.links.links.items ≡ none_of self.old.links.links.items }
     {
-        self.links.close_all();
         self.peer.stop();
+        self.links.close_all();
         Stopped::NoMemory
     }
 

@@ -39,7 +39,7 @@ impl<S: Storage> Site<S> {
     }
 
     /// Its host, or the store of a server that has stopped.
-    pub(crate) fn into_host(self) -> Result<ReplicaHost<S>, Option<S>>
+    pub fn into_host(self) -> Result<ReplicaHost<S>, Option<S>>
         ensures runs { IfOk result (λ host. self ≡ sites.Runs host) }
         ensures stopped { IfErr result (λ storage. self ≡ sites.Stopped storage) }
     {
