@@ -7,7 +7,7 @@ use std::sync::Wait;
 use std::time::Clock;
 use zk_cli_args::{CompareJob, Form};
 use zk_commands::Question;
-use zk_incidents::log_comparison::compare;
+use zk_comparison::{compare, compare_json};
 use zk_listings::follow;
 use zk_log::Sink;
 use zk_path::NoMemory;
@@ -49,11 +49,37 @@ pub(crate) fn follow_logs<R: Wait + Clock>(
     follow(waiting, rt.alloc(), form, &logs, &mut output, &mut faults)
 }
 
-/// Compares two directories. Returns the exit status.
-pub(crate) fn tell_comparison(rt: &HostRuntime, job: &CompareJob) -> Result<u8, NoMemory> {
+/// Compares two directories, whose logs may be in others. Returns the exit status.
+pub(crate) fn tell_comparison(
+    rt: &HostRuntime,
+    form: Form,
+    job: &CompareJob,
+) -> Result<u8, NoMemory> {
     let first = DiskFolder::at(rt, job.first)?;
+    let first_logs = DiskFolder::at(rt, job.first_logs.unwrap_or(job.first))?;
     let second = DiskFolder::at(rt, job.second)?;
+    let second_logs = DiskFolder::at(rt, job.second_logs.unwrap_or(job.second))?;
+    let alloc = rt.alloc();
     let mut output = Sink::new(io::writer(rt));
     let mut faults = faults(rt);
-    compare(rt.alloc(), &first, &second, &mut output, &mut faults)
+    match form {
+        Form::Json => compare_json(
+            alloc,
+            &first,
+            &first_logs,
+            &second,
+            &second_logs,
+            &mut output,
+            &mut faults,
+        ),
+        _ => compare(
+            alloc,
+            &first,
+            &first_logs,
+            &second,
+            &second_logs,
+            &mut output,
+            &mut faults,
+        ),
+    }
 }

@@ -78,7 +78,7 @@ fn run_command<
         Command::Debug(job) => debug_directory(rt, &job),
         Command::History(job) => ask(rt, form, &Question::History(job), job.folder, job.logs),
         Command::Top(job) => ask(rt, form, &Question::Top(job), job.folder, job.logs),
-        Command::Compare(job) => tell_comparison(rt, &job),
+        Command::Compare(job) => tell_comparison(rt, form, &job),
         Command::Verify(job) => ask(rt, form, &Question::Verify, job.folder, job.logs),
         Command::Diff(job) => ask(rt, form, &Question::Diff(job), job.folder, job.logs),
         Command::Restore(job) => ask(rt, form, &Question::Restore(job), job.folder, job.logs),

@@ -3,8 +3,7 @@ use Rattle.std.proofs.Common.{◌≡◌, Bool, true, false, ◌||◌, ℕ, List,
 use Rattle.std.proofs.lemmas.Slice.Eq.{bytes_eq-Decides}
 use Rattle.std.specs.Str.{bytes_eq}
 use Rattle.zk_cli_args.specs.Commands.{Names, NamesBy}
-use Rattle.zk_cli_args.specs.Comparing.{compare_by, compare_of}
-use Rattle.zk_cli_args.specs.Commands.{values_of}
+use Rattle.zk_cli_args.specs.Comparing.{CompareWords, compare_after, compare_of}
 use Rattle.zk_cli_args.specs.Differing.{DiffWords, diff_after, diff_words}
 use Rattle.zk_cli_args.specs.Folders.{NamesFolder, NamesFolderBy}
 use Rattle.zk_cli_args.specs.Incidents.{HistoryWords, TopWords, history_after, history_of, top_after, top_of}
@@ -35,10 +34,10 @@ top_name [] given e = absurd (cc e)
 top_name (program ∷ []) given e = absurd (cc e)
 top_name (program ∷ name ∷ words) given e = named name (codes "top") (top_after words) None (bytes_eq name (codes "top")) given refl refl e
 
-pub compare_name : (words : List (List ℕ)) (given : List ℕ × List ℕ) → compare_of words ≡ Some given → name_of words ≡ codes "compare"
+pub compare_name : (words : List (List ℕ)) (given : CompareWords) → compare_of words ≡ Some given → name_of words ≡ codes "compare"
 compare_name [] given e = absurd (cc e)
 compare_name (program ∷ []) given e = absurd (cc e)
-compare_name (program ∷ name ∷ words) given e = named name (codes "compare") (compare_by (values_of words)) None (bytes_eq name (codes "compare")) given refl refl e
+compare_name (program ∷ name ∷ words) given e = named name (codes "compare") (compare_after words) None (bytes_eq name (codes "compare")) given refl refl e
 
 pub verify_name : (words : List (List ℕ)) (given : VerifyWords) → verify_of words ≡ Some given → name_of words ≡ codes "verify"
 verify_name [] given e = absurd (cc e)

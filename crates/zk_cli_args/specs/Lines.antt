@@ -121,7 +121,9 @@ name_of (program ∷ []) = []
 name_of (program ∷ name ∷ words) = name
 
 abbrev pub has_json : List ℕ → Bool
-has_json name = ((((bytes_eq name (codes "show") || bytes_eq name (codes "list")) || bytes_eq name (codes "history")) || bytes_eq name (codes "top")) || bytes_eq name (codes "verify")) || bytes_eq name (codes "diff")
+has_json name =
+    (((((bytes_eq name (codes "show") || bytes_eq name (codes "list")) || bytes_eq name (codes "history")) || bytes_eq name (codes "top")) || bytes_eq name (codes "verify")) || bytes_eq name (codes "diff"))
+    || bytes_eq name (codes "compare")
 
 -- the forms of the command of a name
 abbrev pub has_form : List ℕ → Form → Bool

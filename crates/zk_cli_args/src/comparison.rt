@@ -1,8 +1,8 @@
 ghost use Rattle.std.specs.Prelude.{◌≡◌, Some, IfOk, map, option_map};
-ghost use Rattle.zk_cli_args.specs.Commands.{values_of};
-ghost use Rattle.zk_cli_args.specs.Comparing.{compare_by, compare_of, words_of_compare};
+ghost use Rattle.zk_cli_args.specs.Comparing.{compare_after, compare_by, compare_of, words_of_compare};
 
 use crate::command::values_of;
+use crate::parting::part_option;
 use std::alloc::Global;
 use zk_path::NoMemory;
 
@@ -11,8 +11,12 @@ use zk_path::NoMemory;
 pub struct CompareJob<'a> {
     /// A data directory, or its `version-2`.
     pub first: &'a str,
-    /// Another.
+    /// The directory of its logs, if it is another.
+    pub first_logs: Option<&'a str>,
+    /// Another data directory.
     pub second: &'a str,
+    /// The directory of its logs, if it is another.
+    pub second_logs: Option<&'a str>,
 }
 
 /// The comparison that words name.
@@ -33,20 +37,31 @@ pub(crate) fn compare_of<'a>(
 
 /// The comparison that the words after the command's name name.
 fn compare_after<'a>(alloc: Global, words: &[&'a str]) -> Result<Option<CompareJob<'a>>, NoMemory>
-    ensures { IfOk result (λ read. option_map words_of_compare read ≡ compare_by (values_of (map (λ word. word.now) words.now))) }
+    ensures { IfOk result (λ read. option_map words_of_compare read ≡ compare_after (map (λ word. word.now) words.now)) }
 {
-    let Some(values) = values_of(alloc, words)? else {
+    let logs = part_option(alloc, "--logs", "--logs=", words)?;
+    let others = part_option(alloc, "--logs2", "--logs2=", logs.others.as_slice())?;
+    let Some(values) = values_of(alloc, others.others.as_slice())? else {
         return Ok(None);
     };
-    Ok(compare_by(values.as_slice()))
+    Ok(compare_by(logs.value, others.value, values.as_slice()))
 }
 
-/// The comparison of these values.
-fn compare_by<'a>(values: &[&'a str]) -> Option<CompareJob<'a>>
-    ensures { option_map words_of_compare result ≡ compare_by (Some (map (λ value. value.now) values.now)) }
+/// The comparison with these options and these values.
+fn compare_by<'a>(
+    logs: Option<&'a str>,
+    others: Option<&'a str>,
+    values: &[&'a str],
+) -> Option<CompareJob<'a>>
+    ensures { option_map words_of_compare result ≡ compare_by (option_map (λ logs. logs.now) logs.entry) (option_map (λ logs. logs.now) others.entry) (Some (map (λ value. value.now) values.now)) }
 {
     let [first, second] = values else {
         return None;
     };
-    Some(CompareJob { first, second })
+    Some(CompareJob {
+        first,
+        first_logs: logs,
+        second,
+        second_logs: others,
+    })
 }

@@ -153,6 +153,7 @@ fn has_json(name: &str) -> bool
         || name == "top"
         || name == "verify"
         || name == "diff"
+        || name == "compare"
 }
 
 fn has_follow(name: &str, follows: bool) -> bool

@@ -68,7 +68,15 @@ const OF_LOGS: [Explanation; 13] = [
     },
 ];
 
-const OF_DIRECTORIES: [Explanation; 20] = [
+const OF_DIRECTORIES: [Explanation; 22] = [
+    Explanation {
+        code: "lost",
+        words: "This directory lost transactions between these two, which are not compared: a log is damaged, or a file is missing.",
+    },
+    Explanation {
+        code: "broken",
+        words: "A log of this directory is broken from here on: `zk verify` says what helps.",
+    },
     Explanation {
         code: "D1",
         words: "The directory has no snapshot.* and no log.*: name the one above version-2, and that of the logs with `--logs`.",

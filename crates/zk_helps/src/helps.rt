@@ -212,7 +212,7 @@ pub(crate) const RESTORE: OrderHelp = OrderHelp {
 const COMPARE: OrderHelp = OrderHelp {
     name: "compare",
     title: "zk compare",
-    about: "Prints up to which transaction the data directories of two servers agree",
+    about: "Prints what the logs of two servers have in common, and where they differ",
     notes: COMPARE_NOTES,
     values: &[
         DIR,
@@ -222,8 +222,19 @@ const COMPARE: OrderHelp = OrderHelp {
             required: true,
         },
     ],
-    flags: &[],
-    options: &[],
+    flags: &[JSON],
+    options: &[
+        OptionHelp {
+            name: "logs",
+            value: "LOGS",
+            help: "The directory of DIR's logs, if it is another: a data directory, or its version-2",
+        },
+        OptionHelp {
+            name: "logs2",
+            value: "LOGS2",
+            help: "The same of DIR2",
+        },
+    ],
 };
 
 const ASM: OrderHelp = OrderHelp {

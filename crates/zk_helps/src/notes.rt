@@ -108,19 +108,26 @@ Errors, on standard error after `zk: `, are those of `zk list` of a directory. W
   range FIRST LAST TIME TIME
               the lines are of the transactions from FIRST to LAST; others were before"#;
 
-/// The line of `zk compare`, and its errors.
+/// The lines of `zk compare`, and its errors.
 pub(crate) const COMPARE_NOTES: &str =
-    r#"The transactions are compared from the first zxid on that neither directory begins above. The line is
-one of these, and the status is 1 for the last:
-  agree to ZXID       up to this zxid all are the same; `; the second is N ahead` or `; the first is N
-                      ahead` follows if one of them has more
-  nothing in common   no transaction is in both
-  differ at ZXID ZXID the first transactions of the two that are not the same, byte for byte
+    r#"Transactions are compared by zxid, between the first zxid and the last one that both directories have. Two
+records of one transaction may have other digests, a failed multi may have kept its requests, and the end of
+a session may list its nodes: all else must be the same, byte for byte. The status is 1 if a transaction
+differs, or if both have none in common.
+  before first N FROM TO TIME TIME  DIR has N transactions more, and DIR2 begins after them; `second`: DIR2 has
+  same N FROM TO TIME TIME          both have these
+  lost N                            one has N transactions where the other lost some
+  differ ZXID A B                   A is what DIR has of this zxid, B what DIR2 has: the time, the operation,
+                                    the session and the path, or `- - - -`; of a thousand differences
+  differences N                     their number
+  after first N FROM TO TIME TIME   DIR has N transactions more, and DIR2 ends before them; `second`: DIR2 has
+If A and B are alike, contents differ: see `zk list` of both. With --json a line is an object of JSON.
 
-A failed multi may keep the bodies of its requests in the log of one server alone: then look at both
-with `zk list`.
+Lines on standard error say what the answer does not cover:
+  zk: lost first FROM NEXT TIME TIME  DIR lost transactions between these two; `second`: DIR2
+  zk: broken first G2 FILE AT         a log is broken from here on; also G1 to G6
 
-Errors, on standard error after `zk: `, are those of `zk list` of a directory."#;
+Errors, on standard error after `zk: `, are D1, D4 and D8 of a directory, and `read`."#;
 
 /// The lines of `zk top`, and its errors.
 pub(crate) const TOP_NOTES: &str =

@@ -86,7 +86,7 @@ fn explain_fault(alloc: Global) -> Result<Error, AllocError> {
 fn form_conflict(alloc: Global) -> Result<Error, AllocError> {
     command(alloc)?.error(
         ErrorKind::ArgumentConflict,
-        "--json is for show, list, history, top, verify and diff, --time iso for list without --json, and --follow for list of a directory; each is given once",
+        "--json is for show, list, history, top, verify, diff and compare, --time iso for list without --json, and --follow for list of a directory; each is given once",
     )
 }
 

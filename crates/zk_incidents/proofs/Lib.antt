@@ -5,5 +5,4 @@ pub mod Repeated
 pub mod Texts
 pub mod Listed
 pub mod Sums
-pub mod Compared
 pub mod Owning

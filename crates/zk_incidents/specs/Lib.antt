@@ -1,7 +1,5 @@
 -- What the contracts of this crate cite.
 -- The statements of the laws.
-pub mod Comparisons
-pub mod Lines
 pub mod Counts
 pub mod FirstOwners
 pub mod Histories
@@ -12,7 +10,5 @@ pub mod Within
 pub mod Writes
 pub mod CountSums
 pub mod Listings
-pub mod ComparisonReports
-pub mod Reporting
 pub mod HistoryReports
 pub mod TopReports

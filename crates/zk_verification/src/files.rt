@@ -54,8 +54,8 @@ fn load_log<F: Folder>(alloc: Global, folder: &F, zxid: i64) -> Result<LogBytes,
     }
 }
 
-/// The logs of these zxids.
-pub(crate) fn load_logs<F: Folder>(
+/// The logs of these zxids, each of which may be unreadable.
+pub fn load_logs<F: Folder>(
     alloc: Global,
     folder: &F,
     logged: &[i64],

@@ -306,8 +306,8 @@ fn facts_of(txn: &Txn) -> Result<Facts, NoMemory>
     })
 }
 
-/// The path that an operation names.
-fn path_of(op: &Op) -> Option<&Path>
+/// The path that an operation names; of a multi, that of the first part.
+pub fn path_of(op: &Op) -> Option<&Path>
     ensures { option_copied result ≡ path_of op.now }
 {
     match op {

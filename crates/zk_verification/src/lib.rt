@@ -17,10 +17,12 @@ mod verification;
 
 pub use breaks::Break;
 pub use checking::marks_of;
+pub use files::load_logs;
+pub use findings::path_of;
 pub use help::{KINDS, Kind, has_kind, help_line};
 pub use log_bytes::LogBytes;
 pub use mark::{Damage, Facts, Mark, Mismatch, Moment};
 pub use report::{count_wrong, report_text};
-pub use report_lines::stop_word;
+pub use report_lines::{push_range, stop_word, time_text};
 pub use survey::{Survey, survey_logs};
 pub use verification::verify;

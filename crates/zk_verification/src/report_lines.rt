@@ -14,8 +14,8 @@ use zk_json::push_time;
 use zk_log::Ending;
 use zk_path::{NoMemory, Path};
 
-/// The text of a time.
-fn time_text(alloc: Global, time: i64) -> Result<String, NoMemory>
+/// The text of a time, in milliseconds since 1970.
+pub fn time_text(alloc: Global, time: i64) -> Result<String, NoMemory>
     ensures { IfOk result (λ text. IsTimeText time (string_bytes text)) }
 {
     let mut text = String::new(alloc);
@@ -53,8 +53,9 @@ pub(crate) fn push_gap(
     push_range(text, before, after)
 }
 
-/// Appends the transactions before and after those that are lost, and ends the line.
-fn push_range(text: &mut String, before: Option<Moment>, after: &Moment) -> Result<(), NoMemory>
+/// Appends the transactions before and after those that are lost, with their times, and ends the
+/// line.
+pub fn push_range(text: &mut String, before: Option<Moment>, after: &Moment) -> Result<(), NoMemory>
     ensures { OnOk result (AppendsRange before after.now (string_bytes text.old) (string_bytes text.new)) }
 {
     let alloc = *text.allocator();

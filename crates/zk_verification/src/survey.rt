@@ -1,5 +1,5 @@
 //! The logs of a directory, each by itself, and where the history that they hold is broken.
-ghost use Rattle.std.specs.Prelude.{◌≡◌, ◌∷◌, IfOk, OnOk, true};
+ghost use Rattle.std.specs.Prelude.{◌≡◌, ◌∷◌, IfOk, OnOk, map, true};
 ghost use Rattle.std.specs.Option.{option_copied};
 ghost use Rattle.zk_directory.specs.Chains.{told};
 ghost use Rattle.zk_verification.specs.Surveys.{AreSurveyed, Surveys, break_by, damage_of, is_damaged, is_differing, is_marked, last_after, run_from, start_survey, survey_end, survey_entries, survey_entry, survey_file, survey_rest, survey_resumed, survey_run, survey_runs, surveyed_by, told_of, with_break, with_different, with_gap, with_mark, with_taken, with_wrong, zxid_of};
@@ -41,6 +41,13 @@ pub fn survey_logs(alloc: Global, logs: &[LogBytes]) -> Result<Survey<'_>, NoMem
 }
 
 impl<'a> Survey<'a> {
+    /// The entries of the logs, joined. One before which transactions are missing is there too.
+    pub fn entries(&self) -> &[LogEntry<'a>]
+        ensures { map told result.now ≡ (surveyed_by self.now).history.taken }
+    {
+        self.chain.taken.as_slice()
+    }
+
     /// No log yet.
     fn new(alloc: Global) -> Survey<'a>
         ensures { surveyed_by result ≡ start_survey }

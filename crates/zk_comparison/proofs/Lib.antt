@@ -1,0 +1,5 @@
+pub mod Meant
+pub mod Judged
+pub mod Listed
+pub mod Written
+pub mod Reported

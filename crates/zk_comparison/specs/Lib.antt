@@ -1,0 +1,10 @@
+-- What the contracts of this crate cite.
+pub mod Meanings
+pub mod Pairs
+pub mod Comparisons
+pub mod Findings
+pub mod Lines
+pub mod Objects
+pub mod Notices
+pub mod Reporting
+pub mod Reports
