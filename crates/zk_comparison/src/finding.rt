@@ -153,7 +153,6 @@ fn push_lost(findings: &mut Vec<Finding>, judged: &[Judgement<'_>]) -> Result<()
 }
 
 /// Appends the first differences, and the number of all.
-#[tactic(auto, using(crate::proofs::Listed::as_many, crate::proofs::Listed::first_ones))]
 fn push_all_differing(findings: &mut Vec<Finding>, judged: &[Judgement<'_>]) -> Result<(), NoMemory>
     ensures { OnOk result (findings.new.items ≡ findings.old.items
         ++ map differing_of (take 1000 (of_kind kinds.Differing (map shown judged.now)))
