@@ -4,7 +4,6 @@ pub mod Counts
 pub mod FirstOwners
 pub mod Histories
 pub mod Owners
-pub mod Ranges
 pub mod Tops
 pub mod Within
 pub mod Writes

@@ -25,8 +25,13 @@ fn history_of<S: Folder, L: Folder>(
     let scope = Scope::new(alloc, path, below)?;
     let owners = first_owners(alloc, snapshots)?;
     let history = History::new(alloc, scope, owners);
-    let FoldedDirectory { fold, notice } =
-        fold_directory(alloc, snapshots, logs, Range::unbounded(), history)?;
+    let FoldedDirectory { fold, notice } = fold_directory(
+        alloc,
+        snapshots,
+        logs,
+        Range::unbounded(),
+        history,
+    )?;
     Ok(Noticed {
         text: fold.text,
         notices: notice,
