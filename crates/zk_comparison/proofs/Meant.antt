@@ -1,5 +1,5 @@
 -- Records without their digests.
-use Rattle.std.proofs.Common.{◌≡◌, ◌≤◌, ◌+◌, ◌-◌, ℕ, ℤ, pos, List, ◌++◌, length, take, refl, sym, ap, ◌∙◌, append-nil, length-append, arith, Option, Some, None, Result, Ok, Err}
+use Rattle.std.proofs.Common.{◌≡◌, ◌≤◌, ◌+◌, ◌-◌, ℕ, ℤ, List, ◌++◌, length, take, refl, sym, ap, ◌∙◌, append-nil, length-append, arith, Option, Some, None, Ok, Err}
 use Rattle.std.proofs.Math.Seq.{take-append_seam}
 use Rattle.zk_comparison.specs.Meanings.{record_of, undigested}
 use Rattle.zk_newer_records.specs.NewerRecords.{IsNewer, digest_bytes, header_with, newer_record, written_body, written_kind}

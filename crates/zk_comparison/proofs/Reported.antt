@@ -1,5 +1,5 @@
 -- Two directories, compared.
-use Rattle.std.proofs.Common.{◌≡◌, ◌+◌, ℕ, ℤ, List, [], ◌++◌, length, Option, Some, Result, Ok, Err, inl, inr, refl, ap, ◌∙◌, arith}
+use Rattle.std.proofs.Common.{◌≡◌, ℕ, ℤ, List, [], ◌++◌, length, Some, Result, Ok, Err, inl, inr, refl, ap, ◌∙◌, arith}
 use Rattle.std.specs.String.{string_bytes}
 use Rattle.zk_comparison.specs.Notices.{AppendsNotices}
 use Rattle.zk_comparison.specs.Reports.{AreLogsOf, AreNoticesOf, Broken, Empty, FindsComparison, FindsLoaded, FindsSurvey, IsComparison, Keeps, Source, Unread, fault_of}

@@ -1,6 +1,6 @@
 -- What two directories have in common, and where they differ. Their transactions are compared from the
 -- first zxid on that neither begins above, to the last that neither ends below.
-use Rattle.std.specs.Prelude.{ℕ, ℤ, Bool, true, false, ◌&&◌, List, [], ◌∷◌, map, Option, Some, None, if◌then◌else◌, int_lt}
+use Rattle.std.specs.Prelude.{ℤ, Bool, true, false, ◌&&◌, List, [], ◌∷◌, map, Option, Some, None, if◌then◌else◌, int_lt}
 use Rattle.std.specs.List.{flat_map, list_any}
 use Rattle.zk_comparison.specs.Meanings.{is_same_record}
 use Rattle.zk_comparison.specs.Pairs.{Both, both_of, paired, zxid_of}

@@ -6,5 +6,4 @@ pub mod Findings
 pub mod Lines
 pub mod Objects
 pub mod Notices
-pub mod Reporting
 pub mod Reports

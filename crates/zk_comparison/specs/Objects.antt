@@ -5,7 +5,6 @@ use Rattle.std.specs.Global.{Global}
 use Rattle.std.specs.String.{string_bytes}
 use Rattle.json.specs.Json.{Json, null, number, string}
 use Rattle.zk_comparison.specs.Lines.{AreLines, directory_word}
-use Rattle.zk_comparison.specs.declared.finding.Directory.{Directory}
 use Rattle.zk_comparison.specs.declared.finding.Finding.{Finding}
 use Rattle.zk_comparison.specs.declared.finding.Finding.TheVariants as findings
 use Rattle.zk_comparison.specs.declared.finding.Occurrence.{Occurrence}

@@ -1,7 +1,7 @@
 use Rattle.std.proofs.Common.{OnOk, subst}
 use Rattle.std.specs.String.{string_bytes}
 use Rattle.json.specs.Json.{Json}
-use Rattle.zk_comparison.specs.Objects.{from_of, stretch_fields, to_of}
+use Rattle.zk_comparison.specs.Objects.{stretch_fields, to_of}
 use Rattle.zk_json.specs.Json.{AppendsLineOf, object_of}
 use Rattle.zk_json.specs.Objects.{value_of}
 use Rattle.zk_comparison.proofs.objects.push_row.Goals as goal
