@@ -1,4 +1,4 @@
-//! Tests of `zk_server`: elections of one server and of three. No code of its own.
+//! Tests of `zk_server`: elections of one server and of three, and links of bytes. No code of its own.
 //!
 //! Expected values come from ZooKeeper's leader election (`FastLeaderElection`).
 #![tactic(auto)]
@@ -6,4 +6,8 @@
 #[cfg(test)]
 mod election_tests;
 #[cfg(test)]
+mod link_tests;
+#[cfg(test)]
 mod trio;
+#[cfg(test)]
+mod wires;
