@@ -5,9 +5,10 @@ use crate::files::{
 use std::alloc::Global;
 use zk_directory_files::{Folder, FolderFault, HistoryFault};
 use zk_directory_state::{
-    DirectoryFault, RestoreFault, Upto, history_fault, list, logs_in, read_logs, show, shown_of,
+    DirectoryFault, RestoreFault, Upto, history_fault, logs_in, read_logs, show, shown_of,
     slices_of,
 };
+use zk_listings::{Form, list_directory};
 use zk_log::{DripOut, Ending, Sink};
 
 /// A folder in memory: the names and bytes of its files.
@@ -232,7 +233,14 @@ fn is_listed(
     let folder = MemoryFolder { files };
     let mut output = Sink::new(DripOut::new(alloc, 65_536, None));
     let mut faults = Sink::new(DripOut::new(alloc, 64, None));
-    let status = list(alloc, &folder, &folder, &mut output, &mut faults);
+    let status = list_directory(
+        alloc,
+        Form::Lines,
+        &folder,
+        &folder,
+        &mut output,
+        &mut faults,
+    );
     status == Ok(u8::from(!told.is_empty()))
         && is_between(output.into_inner().bytes(), begin, end)
         && faults.into_inner().bytes() == told.as_bytes()
