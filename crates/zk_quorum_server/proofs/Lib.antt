@@ -1,0 +1,7 @@
+-- Lemmas.
+mod Asked
+mod Results
+mod Schedules
+mod Serving
+mod Settling
+mod Turning
