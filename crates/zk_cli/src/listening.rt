@@ -1,7 +1,5 @@
 //! The command `serve`.
 
-ghost use Rattle.std.specs.Prelude.{◌≤◌};
-
 use crate::clock::SystemClock;
 use crate::faults::{faults, refuse};
 use std::net::{Ipv4Addr, Net, SocketAddr, TcpListener, TcpStream};
@@ -16,9 +14,11 @@ use zk_serve::serve;
 /// Listens on a port of 127.0.0.1, and serves the connections. Returns the exit status.
 pub(crate) fn listen<
     R: Threads + Wait + Net<Listener = TcpListener, Stream = TcpStream> + time::Clock + Sync,
->(threads: &R, rt: &HostRuntime, serving: Serving) -> Result<u8, NoMemory>
-    requires { (2 ≤ serving.servers) × (serving.servers ≤ 15) }
-{
+>(threads: &R, rt: &HostRuntime, serving: Serving) -> Result<u8, NoMemory> {
+    // A command line asks for no other number.
+    if serving.servers < 2 || serving.servers > 15 {
+        return Ok(refuse(rt, "servers"));
+    }
     let address = SocketAddr::from((Ipv4Addr::LOCALHOST, serving.port));
     let Ok(listener) = TcpListener::bind(threads, address) else {
         return Ok(refuse(rt, "listen"));
