@@ -41,3 +41,5 @@ mod newer_tests;
 mod replay_tests;
 #[cfg(test)]
 mod snapshot_tests;
+#[cfg(test)]
+mod writer_tests;

@@ -1,0 +1,5 @@
+pub mod Joined
+pub mod Handing
+pub mod Sums
+pub mod Parts
+pub mod Paths

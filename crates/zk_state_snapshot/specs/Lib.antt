@@ -1,0 +1,3 @@
+pub use Rattle.zk_path.specs.Paths
+pub mod Lists
+pub mod StateSnapshots
