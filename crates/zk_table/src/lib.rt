@@ -14,7 +14,3 @@ mod sessions;
 
 pub use multi::{answers_unapplied, first_refusal, hold_error};
 pub use plain::Plain;
-pub use zk_txn::{
-    Content, Names, Node, Op, PartResult, PartResults, ReadCall, ReadReply, Sub, Subs, Txn,
-    TxnResult, codes,
-};
