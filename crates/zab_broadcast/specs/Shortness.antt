@@ -4,7 +4,7 @@ use Rattle.std.proofs.Common.{lit≤}
 use Rattle.zab_epoch.specs.declared.history.Entry.{Entry}
 use Rattle.zab_epoch.specs.Shortness.{IsShort}
 use Rattle.zk_records.specs.Records.{record_of}
-use Rattle.zk_txn.specs.declared.txn.Op.TheVariants as ops
+use Rattle.zk_table.specs.declared.txn.Op.TheVariants as ops
 
 abbrev pub error_of : ℕ → ℤ → ℤ → ℤ → ℤ → ℤ → Entry
 error_of tag session cxid zxid time code = record {

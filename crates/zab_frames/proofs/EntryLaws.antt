@@ -22,7 +22,7 @@ use Rattle.zk_records.specs.Written.{framed, entry_of, HasEntry, Rises}
 use Rattle.zab_epoch.proofs.Histories.{short_of}
 use Rattle.zk_records.specs.Sizes.{size_of}
 use Rattle.zk_records.proofs.EntryLaws.{entry_is}
-use Rattle.zk_txn.specs.declared.txn.Txn.{Txn}
+use Rattle.zk_table.specs.declared.txn.Txn.{Txn}
 use Rattle.zab_epoch.specs.declared.history.Entry.{Entry}
 use Rattle.zab_epoch.specs.Entries.{tags_of, txns_of, zxid_of, last_zxid}
 use Rattle.zab_frames.specs.Messages.{word, long_word, counted_list, tagged_entry, history_of}

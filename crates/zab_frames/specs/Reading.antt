@@ -14,7 +14,7 @@ use Rattle.zk_requests.specs.declared.call.Part.{Part}
 use Rattle.zk_requests.specs.declared.call.Part.TheVariants as parts
 use Rattle.zk_requests.specs.declared.call.Request.{Request}
 use Rattle.zk_requests.specs.declared.call.Request.TheVariants as requests
-use Rattle.zk_txn.specs.declared.txn.Txn.{Txn}
+use Rattle.zk_table.specs.declared.txn.Txn.{Txn}
 use Rattle.zab_epoch.specs.declared.history.Entry.{Entry}
 use Rattle.zab_epoch.specs.declared.message.Body.{Body}
 use Rattle.zab_epoch.specs.declared.message.Body.TheVariants as bodies

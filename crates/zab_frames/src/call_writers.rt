@@ -11,7 +11,7 @@ use zk_acl::{Acls, Text};
 use zk_path::NoMemory;
 use zk_records::kinds;
 use zk_requests::{Call, Part, Parts, Request};
-use zk_txn::Content;
+use zk_table::Content;
 
 fn put_create(
     out: &mut Vec<u8>,

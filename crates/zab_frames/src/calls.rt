@@ -11,7 +11,7 @@ use zk_jute::JuteFault;
 use zk_jute::fields::{int, long};
 use zk_records::kinds;
 use zk_requests::{Call, Part, Parts, Request};
-use zk_txn::Content;
+use zk_table::Content;
 
 /// What creates a node, alone and in a multi.
 #[derive(Debug, Drop)]

@@ -14,7 +14,7 @@ use zab_epoch::{Entry, History};
 use zk_acl::Acls;
 use zk_jute::{JuteFault, read_txn_sharing};
 use zk_records::adler;
-use zk_txn::Txn;
+use zk_table::Txn;
 
 /// The most bytes of a record.
 const MOST_BYTES: u32 = 16_777_216;

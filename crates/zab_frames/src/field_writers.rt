@@ -9,7 +9,7 @@ ghost use Rattle.zab_frames.specs.Ranges.{IsWord, IsLongWord, IsCounted, IsText,
 use bytes::BufMut;
 use zk_acl::{Acl, Acls, Id, Ids, Text};
 use zk_path::NoMemory;
-use zk_txn::Content;
+use zk_table::Content;
 
 pub(crate) fn put_word(out: &mut Vec<u8>, number: u32) -> Result<(), NoMemory>
     ensures written { OnOk result (out.new.items ≡ out.old.items ++ word number) }

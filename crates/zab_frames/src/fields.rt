@@ -9,7 +9,7 @@ use std::alloc::Global;
 use zk_acl::{Acl, Acls, Id, Ids, Text};
 use zk_jute::JuteFault;
 use zk_jute::fields::{boolean, int};
-use zk_txn::Content;
+use zk_table::Content;
 
 /// Four bytes without a sign.
 pub(crate) fn word(input: &mut &[u8]) -> Result<u32, JuteFault>

@@ -22,7 +22,7 @@ use zab_epoch::{Body, Entry, History, Message};
 use zk_path::NoMemory;
 use zk_records::{adler, write_txn};
 use zk_requests::Call;
-use zk_txn::Txn;
+use zk_table::Txn;
 
 /// The byte at the end of an entry.
 const END: u8 = 0x42;

@@ -10,7 +10,7 @@ use zab_frames::{DecodeFault, Decoder, write_message};
 use zk_acl::{Acl, Acls, Id, Ids, Text};
 use zk_path::NoMemory;
 use zk_requests::{Call, Part, Parts, Request};
-use zk_txn::Content;
+use zk_table::Content;
 
 fn id(alloc: Global, scheme: &str, id: &str) -> Result<Id, NoMemory> {
     let scheme = Text::read(alloc, scheme)?;

@@ -6,7 +6,7 @@ ghost use Rattle.zk_connections.specs.Sessions.{has_id};
 use crate::result::Attachment;
 use zk_connections::{ClientSessions, PASSWORD_BYTES, is_password};
 use zk_path::NoMemory;
-use zk_txn::Content;
+use zk_table::Content;
 
 /// What decides whether a client may have a session: the ensemble's sessions, and the secret of
 /// their passwords.

@@ -11,10 +11,10 @@ use Rattle.zk_client_session.specs.declared.expected_reply.ReplyKind.{ReplyKind}
 use Rattle.zk_client_session.specs.declared.expected_reply.ReplyKind.TheVariants as kinds
 use Rattle.zk_client_session.specs.declared.reply.Reply.{Reply}
 use Rattle.zk_client_session.specs.declared.reply.Reply.TheVariants as answers
-use Rattle.zk_txn.specs.declared.read.ReadReply.{ReadReply}
-use Rattle.zk_txn.specs.declared.read.ReadReply.TheVariants as replies
-use Rattle.zk_txn.specs.declared.result.PartResult.{PartResult}
-use Rattle.zk_txn.specs.declared.result.TxnResult.{TxnResult}
+use Rattle.zk_table.specs.declared.read.ReadReply.{ReadReply}
+use Rattle.zk_table.specs.declared.read.ReadReply.TheVariants as replies
+use Rattle.zk_table.specs.declared.result.PartResult.{PartResult}
+use Rattle.zk_table.specs.declared.result.TxnResult.{TxnResult}
 
 replied_number : (xid zxid : ℤ) (body : Option ReplyBody) → (replied xid zxid body).xid ≡ xid
 replied_number xid zxid None = refl

@@ -8,12 +8,12 @@ use Rattle.zk_client_session.specs.declared.ask.WatcherType.TheVariants as types
 use Rattle.zk_client_session.specs.declared.connection_watches.ConnectionWatches.{ConnectionWatches}
 use Rattle.zk_machine.specs.declared.change.ChangeKind.{ChangeKind}
 use Rattle.zk_tree.specs.Views.{PathKeys}
-use Rattle.zk_txn.specs.Codes.{no_node}
-use Rattle.zk_txn.specs.Replies.{path_read}
-use Rattle.zk_txn.specs.declared.read.ReadCall.{ReadCall}
-use Rattle.zk_txn.specs.declared.read.ReadCall.TheVariants as calls
-use Rattle.zk_txn.specs.declared.read.ReadReply.{ReadReply}
-use Rattle.zk_txn.specs.declared.read.ReadReply.TheVariants as replies
+use Rattle.zk_table.specs.Codes.{no_node}
+use Rattle.zk_table.specs.Replies.{path_read}
+use Rattle.zk_table.specs.declared.read.ReadCall.{ReadCall}
+use Rattle.zk_table.specs.declared.read.ReadCall.TheVariants as calls
+use Rattle.zk_table.specs.declared.read.ReadReply.{ReadReply}
+use Rattle.zk_table.specs.declared.read.ReadReply.TheVariants as replies
 use Rattle.zk_watch.specs.Watching.{hears}
 use Rattle.zk_watch.specs.declared.watch.WatchKind.{WatchKind}
 use Rattle.zk_watch.specs.declared.watch.WatchKind.TheVariants as kinds

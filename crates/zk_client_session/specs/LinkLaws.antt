@@ -15,8 +15,8 @@ use Rattle.zk_client_session.specs.declared.expected_reply.ExpectedReply.{Expect
 use Rattle.zk_client_session.specs.declared.link.Link.{Link}
 use Rattle.zk_client_session.specs.declared.reply.Reply.{Reply}
 use Rattle.zk_requests.specs.Requests.{is_ephemeral}
-use Rattle.zk_txn.specs.Nodes.{content_length, created, stat_with}
-use Rattle.zk_txn.specs.declared.txn.Txn.{Txn}
+use Rattle.zk_table.specs.Nodes.{content_length, created, stat_with}
+use Rattle.zk_table.specs.declared.txn.Txn.{Txn}
 
 -- a frame with the bytes of a request has the action of that request
 abbrev pub FramesMeanTheirRequests : Type 0

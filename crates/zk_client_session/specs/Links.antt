@@ -41,10 +41,10 @@ use Rattle.zk_requests.specs.declared.call.Part.{Part}
 use Rattle.zk_requests.specs.declared.call.Part.TheVariants as asked
 use Rattle.zk_requests.specs.declared.call.Request.{Request}
 use Rattle.zk_requests.specs.declared.call.Request.TheVariants as requests
-use Rattle.zk_txn.specs.Codes.{no_node}
-use Rattle.zk_txn.specs.Nodes.{content_length}
-use Rattle.zk_txn.specs.declared.read.ReadCall.{ReadCall}
-use Rattle.zk_txn.specs.declared.read.ReadCall.TheVariants as calls
+use Rattle.zk_table.specs.Codes.{no_node}
+use Rattle.zk_table.specs.Nodes.{content_length}
+use Rattle.zk_table.specs.declared.read.ReadCall.{ReadCall}
+use Rattle.zk_table.specs.declared.read.ReadCall.TheVariants as calls
 
 -- ---- codes, as `KeeperException.Code` numbers them
 

@@ -26,10 +26,10 @@ use Rattle.zk_client_session.specs.declared.reply.Reply.TheVariants as answers
 use Rattle.zk_client_session.specs.declared.reply.WatchEvent.{WatchEvent}
 use Rattle.zk_machine.specs.declared.change.ChangeKind.{ChangeKind}
 use Rattle.zk_machine.specs.declared.change.ChangeKind.TheVariants as changes
-use Rattle.zk_txn.specs.declared.read.ReadReply.{ReadReply}
-use Rattle.zk_txn.specs.declared.read.ReadReply.TheVariants as replies
-use Rattle.zk_txn.specs.declared.result.PartResult.{PartResult}
-use Rattle.zk_txn.specs.declared.result.TxnResult.{TxnResult}
+use Rattle.zk_table.specs.declared.read.ReadReply.{ReadReply}
+use Rattle.zk_table.specs.declared.read.ReadReply.TheVariants as replies
+use Rattle.zk_table.specs.declared.result.PartResult.{PartResult}
+use Rattle.zk_table.specs.declared.result.TxnResult.{TxnResult}
 
 -- ---- codes, as `KeeperException.Code` numbers them
 

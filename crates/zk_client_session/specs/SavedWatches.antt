@@ -9,10 +9,10 @@ use Rattle.zk_client_session.specs.declared.saved_watch.SavedWatchKind.{SavedWat
 use Rattle.zk_client_session.specs.declared.saved_watch.SavedWatchKind.TheVariants as kinds
 use Rattle.zk_machine.specs.declared.change.ChangeKind.{ChangeKind}
 use Rattle.zk_machine.specs.declared.change.ChangeKind.TheVariants as changes
-use Rattle.zk_txn.specs.declared.read.ReadCall.{ReadCall}
-use Rattle.zk_txn.specs.declared.read.ReadCall.TheVariants as calls
-use Rattle.zk_txn.specs.declared.read.ReadReply.{ReadReply}
-use Rattle.zk_txn.specs.declared.read.ReadReply.TheVariants as replies
+use Rattle.zk_table.specs.declared.read.ReadCall.{ReadCall}
+use Rattle.zk_table.specs.declared.read.ReadCall.TheVariants as calls
+use Rattle.zk_table.specs.declared.read.ReadReply.{ReadReply}
+use Rattle.zk_table.specs.declared.read.ReadReply.TheVariants as replies
 
 abbrev pub saved : SavedWatchKind → List ℕ → SavedWatch
 saved kind path = record { kind = kind; path = path }

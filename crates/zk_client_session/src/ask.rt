@@ -7,7 +7,7 @@ use crate::saved_watch::SavedWatches;
 use zk_acl::{Ids, Text};
 use zk_path::Path;
 use zk_requests::Request;
-use zk_txn::ReadCall;
+use zk_table::ReadCall;
 
 /// A frame's request to the service.
 #[derive(Debug, Drop)]

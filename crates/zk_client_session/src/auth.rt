@@ -4,7 +4,7 @@ ghost use Rattle.zk_client_session.specs.Links.{digest_in};
 use std::alloc::Global;
 use zk_acl::{AclFault, Id, digest_id};
 use zk_path::NoMemory;
-use zk_txn::Content;
+use zk_table::Content;
 
 /// The identity of scheme digest that these bytes prove; `None` if they prove none.
 #[tactic(auto, using(zk_jute::proofs::Texts::is_text, zk_jute::proofs::Texts::is_no_text))]

@@ -7,8 +7,8 @@ use crate::path_set::PathSet;
 use std::alloc::Global;
 use zk_machine::ChangeKind;
 use zk_path::{NoMemory, Path};
-use zk_txn::codes::NO_NODE;
-use zk_txn::{ReadCall, ReadReply};
+use zk_table::codes::NO_NODE;
+use zk_table::{ReadCall, ReadReply};
 use zk_watch::WatchKind;
 
 fn hears(kind: WatchKind, change: ChangeKind) -> bool

@@ -5,7 +5,7 @@ ghost use Rattle.zk_client_session.specs.Links.{attached, seeing, write, create,
 ghost use Rattle.zk_client_session.specs.declared.ask.Action.TheVariants as actions;
 ghost use Rattle.zk_client_session.specs.declared.expected_reply.ReplyKind.TheVariants as kinds;
 ghost use Rattle.zk_requests.specs.declared.call.Request.TheVariants as requests;
-ghost use Rattle.zk_txn.specs.Nodes.{content_length};
+ghost use Rattle.zk_table.specs.Nodes.{content_length};
 ghost use Rattle.zk_client_session.specs.Replies.{immediate_bytes, bytes_of, after_reply, event_frame, reply_frame};
 
 use crate::ask::{Action, Ask, Immediate, WatcherType};
@@ -30,8 +30,8 @@ use zk_frames::{
 use zk_machine::ChangeKind;
 use zk_path::NoMemory;
 use zk_requests::Request;
-use zk_txn::Content;
-use zk_txn::codes::NO_NODE;
+use zk_table::Content;
+use zk_table::codes::NO_NODE;
 
 const MARSHALLING_ERROR: i32 = -5;
 

@@ -3,7 +3,7 @@ ghost use Rattle.zk_client_session.specs.Links.{call_of, reply_kind};
 
 use crate::expected_reply::ReplyKind;
 use zk_path::Path;
-use zk_txn::ReadCall;
+use zk_table::ReadCall;
 
 /// The type of a read of one node.
 #[derive(Clone, Copy, Debug)]

@@ -4,7 +4,7 @@ ghost use Rattle.zk_client_session.specs.Replies.{zxid_in};
 use std::marker::Model;
 use zk_acl::Text;
 use zk_machine::ChangeKind;
-use zk_txn::{Names, ReadReply, TxnResult};
+use zk_table::{Names, ReadReply, TxnResult};
 
 /// The service's reply to an ask. A `zxid` is the server's last transaction when it replied.
 #[derive(Debug, Drop)]

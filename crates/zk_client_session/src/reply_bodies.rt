@@ -10,7 +10,7 @@ use std::alloc::Global;
 use zk_acl::{Acls, Stat, Text};
 use zk_frames::{MultiResult, MultiResults, ReplyBody};
 use zk_path::{NoMemory, Path};
-use zk_txn::{Content, Names, PartResult, ReadReply, TxnResult};
+use zk_table::{Content, Names, PartResult, ReadReply, TxnResult};
 
 /// A result does not fit the request.
 pub(crate) const SYSTEM_ERROR: i32 = -1;

@@ -10,7 +10,7 @@ use crate::reply_bodies::{SYSTEM_ERROR, body_done, body_read, parts_failed};
 use std::alloc::Global;
 use zk_frames::{ClientReply, ReplyBody};
 use zk_path::NoMemory;
-use zk_txn::{Names, ReadReply, TxnResult};
+use zk_table::{Names, ReadReply, TxnResult};
 
 const UNIMPLEMENTED: i32 = -6;
 

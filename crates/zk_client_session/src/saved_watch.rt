@@ -1,7 +1,7 @@
 ghost use Rattle.std.specs.Prelude.{◌≡◌, ◌++◌, map, IfOk, OnOk, option_map};
 ghost use Rattle.zk_client_session.specs.Links.{path_in};
 ghost use Rattle.zk_client_session.specs.SavedWatches.{saved, saved_in, found_stat, event_if, event_by, setting_call};
-ghost use Rattle.zk_txn.specs.declared.read.ReadCall.TheVariants as calls;
+ghost use Rattle.zk_table.specs.declared.read.ReadCall.TheVariants as calls;
 
 use crate::paths::path_in;
 use crate::reply::WatchEvent;
@@ -11,7 +11,7 @@ use zk_acl::{Stat, Text};
 use zk_frames::SetWatches;
 use zk_machine::ChangeKind;
 use zk_path::NoMemory;
-use zk_txn::{Names, ReadCall, ReadReply};
+use zk_table::{Names, ReadCall, ReadReply};
 
 /// A watch that the client had at another connection.
 #[derive(Debug, Drop)]

@@ -9,8 +9,8 @@ ghost use Rattle.zk_client_session.specs.TreeReads.{ephemerals_of, prefix_below,
 use std::alloc::Global;
 use zk_acl::Text;
 use zk_path::{NoMemory, Path};
+use zk_table::Names;
 use zk_tree::Tree;
-use zk_txn::Names;
 
 /// The paths of a session's ephemeral nodes that have a prefix, in order.
 pub fn ephemerals(alloc: Global, tree: &Tree, session: i64, prefix: &str) -> Result<Names, NoMemory>

@@ -11,7 +11,7 @@ use zk_acl::{Stat, Text};
 use zk_client_session::{Action, ExpectedReply, Link, Reply};
 use zk_machine::ChangeKind;
 use zk_path::Path;
-use zk_txn::{Content, Names, PartResult, PartResults, ReadReply, TxnResult};
+use zk_table::{Content, Names, PartResult, PartResults, ReadReply, TxnResult};
 
 /// The stat of `/f` once it has content `abc` and one child.
 const STAT: Stat = Stat {

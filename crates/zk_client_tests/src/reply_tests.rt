@@ -11,7 +11,7 @@ use zk_frames::{
     write_connect_response, write_event, write_reply,
 };
 use zk_path::NoMemory;
-use zk_txn::{Content, Names};
+use zk_table::{Content, Names};
 
 /// `/f2`, just created.
 const CREATED: Stat = Stat {

@@ -9,7 +9,7 @@ use zk_frames::{
 };
 use zk_jute::JuteFault::{self, Boolean, Kind, Length, Short, Trailing};
 use zk_path::NoMemory;
-use zk_txn::Content;
+use zk_table::Content;
 
 /// What a request says: its type, its path or scheme, its content, and its version, flags, watch,
 /// type, zxid or number of parts.

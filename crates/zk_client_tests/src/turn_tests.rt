@@ -10,7 +10,7 @@ use zk_connections::Connection;
 use zk_hub::reply_to;
 use zk_path::Path;
 use zk_peers::Place;
-use zk_txn::{ReadCall, ReadReply};
+use zk_table::{ReadCall, ReadReply};
 
 /// The first session has the number of the first transaction.
 const SESSION: i64 = 0x1_0000_0001;

@@ -8,7 +8,7 @@ use zk_client_session::{
     WatchEvents,
 };
 use zk_machine::ChangeKind;
-use zk_txn::{ReadCall, ReadReply};
+use zk_table::{ReadCall, ReadReply};
 
 /// The stat of a node whose content changed at 5 and whose children changed at 9.
 const STAT: Stat = Stat {

@@ -30,7 +30,7 @@ use Rattle.zk_directory_state.specs.States.{txn_of}
 use Rattle.zk_directory_state.specs.declared.restore_fault.DirectoryFault.{DirectoryFault}
 use Rattle.zk_directory_state.specs.declared.restore_fault.RestoreFault.{RestoreFault}
 use Rattle.zk_directory_state.specs.declared.restore_fault.RestoreFault.TheVariants as faults
-use Rattle.zk_txn.specs.declared.txn.Txn.{Txn}
+use Rattle.zk_table.specs.declared.txn.Txn.{Txn}
 use Rattle.zk_commands.specs.Later.{AppendsEntries, AppendsFile, AppendsLog, AppendsLogs, AreLater, BreaksLater, FailsBy, FindsLater, FindsLaterIn, LaterIn, is_later, logs_after, reading_at}
 
 -- ---- reading does not stop at the end of the logs

@@ -2,7 +2,7 @@
 use Rattle.std.proofs.Common.{◌≡◌, ◌≢◌, ℕ, zero, suc, ◌-◌, ◌<◌, List, length, get_or, Some, refl, sym, ap, subst, ◌∙◌, arith}
 use Rattle.std.proofs.lemmas.Option.{slice_get-get_or}
 use Rattle.std.specs.Prelude.{slice_get}
-use Rattle.zk_txn.specs.declared.txn.Txn.{Txn}
+use Rattle.zk_table.specs.declared.txn.Txn.{Txn}
 use Rattle.zk_commands.specs.Lists.{marked_at, marked_line}
 
 pub marked_by : (txns : List Txn) (place : ℕ) (txn : Txn) → place ≢ 0 → place - 1 < length txns → txn ≡ get_or txns (place - 1) txn → marked_at txns place ≡ marked_line (Some txn)

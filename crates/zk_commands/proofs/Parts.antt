@@ -10,8 +10,8 @@ use Rattle.std.specs.List.{flat_map}
 use Rattle.zk_debug.specs.Breakpoints.{is_in}
 use Rattle.zk_format.specs.Reports.{node_line}
 use Rattle.zk_listing.specs.Reports.{line}
-use Rattle.zk_txn.specs.declared.node.Node.{Node}
-use Rattle.zk_txn.specs.Nodes.{stat_with}
+use Rattle.zk_table.specs.declared.node.Node.{Node}
+use Rattle.zk_table.specs.Nodes.{stat_with}
 use Rattle.zk_table.specs.States.{NodeMap, children_of}
 use Rattle.zk_tree.specs.declared.entry.Entry.{Entry}
 use Rattle.zk_tree.specs.Entries.{lent, entries_of}

@@ -9,8 +9,8 @@ use Rattle.zk_table.specs.States.{NodeMap}
 use Rattle.zk_format.specs.Reports.{node_line}
 use Rattle.zk_commands.specs.Shown.{or_none}
 use Rattle.zk_tree.specs.declared.entry.Entry.{Entry}
-use Rattle.zk_txn.specs.Nodes.{stat_with}
-use Rattle.zk_txn.specs.declared.node.Node.{Node}
+use Rattle.zk_table.specs.Nodes.{stat_with}
+use Rattle.zk_table.specs.declared.node.Node.{Node}
 
 -- the line of a node of the old tree, unless the new one has a node at its path
 abbrev pub went_line : List ℕ → Option Node → List ℕ

@@ -12,7 +12,7 @@ use Rattle.zk_records.specs.declared.sink.Sink.{Sink}
 use Rattle.zk_log.specs.declared.source.Source.{Source}
 use Rattle.zk_path.specs.declared.memory.NoMemory.{NoMemory}
 use Rattle.zk_table.specs.States.{start_state}
-use Rattle.zk_txn.specs.declared.txn.Txn.{Txn}
+use Rattle.zk_table.specs.declared.txn.Txn.{Txn}
 use Rattle.zk_log_commands.specs.FaultLines.{line_of_log_fault}
 use Rattle.zk_log_commands.specs.Notices.{begins_within}
 use Rattle.zk_log_commands.specs.Telling.{EndsNoted, Told, Loads, OutputsNothing, GivesUp}

@@ -19,7 +19,7 @@ use Rattle.zk_directory_state.specs.States.{txn_of}
 use Rattle.zk_directory_state.specs.declared.restore_fault.DirectoryFault.{DirectoryFault}
 use Rattle.zk_directory_state.specs.declared.restore_fault.RestoreFault.{RestoreFault}
 use Rattle.zk_directory_state.specs.declared.restore_fault.RestoreFault.TheVariants as restore_faults
-use Rattle.zk_txn.specs.declared.txn.Txn.{Txn}
+use Rattle.zk_table.specs.declared.txn.Txn.{Txn}
 
 -- none is the empty tree
 abbrev pub is_later : Option ℤ → Txn → Bool

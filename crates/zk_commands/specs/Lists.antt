@@ -2,7 +2,7 @@
 use Rattle.std.specs.Prelude.{◌+◌, ◌-◌, ℕ, zero, suc, List, [], ◌++◌, Option, Some, None, codes, length, min, slice_get}
 use Rattle.std.specs.List.{flat_map, slice_range}
 use Rattle.zk_format.specs.Listings.{line_of}
-use Rattle.zk_txn.specs.declared.txn.Txn.{Txn}
+use Rattle.zk_table.specs.declared.txn.Txn.{Txn}
 
 abbrev pub unmarked_line : Txn → List ℕ
 unmarked_line txn = codes "  " ++ line_of txn

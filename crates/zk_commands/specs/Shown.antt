@@ -11,7 +11,7 @@ use Rattle.zk_debug.specs.Reading.{looked_up}
 use Rattle.zk_listing.specs.Reports.{line, entry_line, tree_node_line}
 use Rattle.zk_table.specs.States.{NodeMap}
 use Rattle.zk_tree.specs.declared.entry.Entry.{Entry}
-use Rattle.zk_txn.specs.declared.node.Node.{Node}
+use Rattle.zk_table.specs.declared.node.Node.{Node}
 
 abbrev pub or_none : List ℕ → List ℕ
 or_none text = if length text == 0 then codes "none\n" else text

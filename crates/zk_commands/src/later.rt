@@ -9,7 +9,7 @@ use zk_directory_state::{
     DirectoryFault, RestoreFault, check_end, history_fault, read_logs, slices_of, take_entry,
 };
 use zk_path::NoMemory;
-use zk_txn::Txn;
+use zk_table::Txn;
 
 fn push_copy(txns: &mut Vec<Txn>, txn: &Txn) -> Result<(), NoMemory>
     ensures { OnOk result (txns.new.items ≡ txns.old.items ++ txn.now ∷ []) }

@@ -6,7 +6,7 @@ ghost use Rattle.zk_newer_records.specs.NewerRecords.{IsNewer, newer_record};
 use std::alloc::Global;
 use zk_newer_records::{Encoding, NewerFault, NewerRecord, read_newer};
 use zk_path::{NoMemory, Path};
-use zk_txn::{Op, Sub, Txn};
+use zk_table::{Op, Sub, Txn};
 
 /// The length of a digest in a record: its version, and the sum.
 const DIGEST: usize = 12;

@@ -11,7 +11,7 @@ use zk_client_session::{ExpectedReply, Immediate, Link, Reply, WatcherType};
 use zk_frames::{ConnectResponse, FrameFault, write_connect_response};
 use zk_machine::ChangeKind;
 use zk_path::{NoMemory, Path};
-use zk_txn::{ReadCall, ReadReply};
+use zk_table::{ReadCall, ReadReply};
 
 impl Connection {
     pub fn number(&self) -> u64

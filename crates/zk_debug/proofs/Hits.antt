@@ -7,8 +7,8 @@ use Rattle.std.specs.Ordering.{nat_cmp}
 use Rattle.zk_records.specs.Written.{Rises}
 use Rattle.zk_machine.specs.declared.change.Change.{Change}
 use Rattle.zk_machine.specs.Changes.{changes_of}
-use Rattle.zk_txn.specs.declared.result.TxnResult.{TxnResult}
-use Rattle.zk_txn.specs.declared.txn.Txn.{Txn}
+use Rattle.zk_table.specs.declared.result.TxnResult.{TxnResult}
+use Rattle.zk_table.specs.declared.txn.Txn.{Txn}
 use Rattle.zk_table.specs.States.{State}
 use Rattle.zk_table.specs.Steps.{step}
 use Rattle.zk_debug.specs.declared.breakpoint.Breakpoint.{Breakpoint}

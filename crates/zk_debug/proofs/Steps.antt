@@ -8,7 +8,7 @@ use Rattle.zk_machine.specs.declared.applied.Applied.{Applied}
 use Rattle.zk_machine.specs.Changes.{changes_of}
 use Rattle.zk_machine.specs.Machines.{MachineView}
 use Rattle.zk_machine.specs.Undoing.{IsState, restored}
-use Rattle.zk_txn.specs.declared.txn.Txn.{Txn}
+use Rattle.zk_table.specs.declared.txn.Txn.{Txn}
 use Rattle.zk_table.specs.Histories.{state_after}
 use Rattle.zk_table.specs.States.{State}
 use Rattle.zk_table.specs.Steps.{step}

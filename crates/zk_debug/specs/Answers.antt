@@ -10,8 +10,8 @@ use Rattle.zk_debug.specs.declared.stop.Stop.{Stop}
 use Rattle.zk_format.specs.Reports.{node_line, result_line}
 use Rattle.zk_format.specs.Spelling.{id_digits}
 use Rattle.zk_path.specs.declared.memory.NoMemory.{NoMemory}
-use Rattle.zk_txn.specs.declared.node.Node.{Node}
-use Rattle.zk_txn.specs.declared.result.TxnResult.{TxnResult}
+use Rattle.zk_table.specs.declared.node.Node.{Node}
+use Rattle.zk_table.specs.declared.result.TxnResult.{TxnResult}
 use Rattle.zk_table.specs.States.{NodeMap, State, stat_of}
 use Rattle.zk_listing.specs.Reports.{line, tree_report}
 use Rattle.zk_debug.specs.declared.command.Command.{Command}

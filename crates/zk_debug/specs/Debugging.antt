@@ -10,9 +10,9 @@ use Rattle.std.specs.Ordering.{nat_cmp}
 use Rattle.zk_machine.specs.declared.change.Change.{Change}
 use Rattle.zk_machine.specs.Changes.{changes_of}
 use Rattle.zk_machine.specs.Machines.{MachineView}
-use Rattle.zk_txn.specs.declared.result.TxnResult.{TxnResult}
-use Rattle.zk_txn.specs.declared.txn.Txn.{Txn}
-use Rattle.zk_txn.specs.declared.node.Node.{Node}
+use Rattle.zk_table.specs.declared.result.TxnResult.{TxnResult}
+use Rattle.zk_table.specs.declared.txn.Txn.{Txn}
+use Rattle.zk_table.specs.declared.node.Node.{Node}
 use Rattle.zk_table.specs.Histories.{state_after}
 use Rattle.zk_table.specs.States.{State, state_code}
 use Rattle.zk_table.specs.Steps.{step}

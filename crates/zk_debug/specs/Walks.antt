@@ -5,8 +5,8 @@ use Rattle.zk_machine.specs.declared.applied.Applied.{Applied}
 use Rattle.zk_machine.specs.Changes.{changes_of}
 use Rattle.zk_machine.specs.Machines.{MachineView}
 use Rattle.zk_machine.specs.Undoing.{IsState, restored}
-use Rattle.zk_txn.specs.declared.txn.Txn.{Txn}
-use Rattle.zk_txn.specs.declared.node.Node.{Node}
+use Rattle.zk_table.specs.declared.txn.Txn.{Txn}
+use Rattle.zk_table.specs.declared.node.Node.{Node}
 use Rattle.zk_table.specs.States.{State, state_code}
 use Rattle.zk_table.specs.Steps.{step}
 use Rattle.zk_debug.specs.Debugging.{state_at, machine_at}

@@ -4,7 +4,7 @@ ghost use Rattle.zk_debug.specs.Breakpoints.{kind_of, is_below, is_in, names, is
 
 use zk_machine::{Applied, Change, ChangeKind};
 use zk_path::Path;
-use zk_txn::{Op, Sub, Txn};
+use zk_table::{Op, Sub, Txn};
 
 /// A condition on places of a log. It is checked for the transaction just before the place.
 #[derive(Debug, Drop)]

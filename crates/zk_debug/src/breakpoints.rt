@@ -9,7 +9,7 @@ use std::alloc::Global;
 use std::marker::Model;
 use zk_machine::Applied;
 use zk_path::NoMemory;
-use zk_txn::Txn;
+use zk_table::Txn;
 
 /// Breakpoints by number. Numbers rise from 1 and are not reused.
 #[derive(Drop)]

@@ -17,7 +17,7 @@ use std::marker::Model;
 use zk_log::{Loaded, Txns};
 use zk_machine::Machine;
 use zk_path::{NoMemory, Path};
-use zk_txn::{Node, Txn, TxnResult};
+use zk_table::{Node, Txn, TxnResult};
 
 /// The maximum number of breakpoints that can be set.
 const MOST_BREAKPOINTS: u32 = 65_535;
@@ -42,8 +42,8 @@ impl Drop for Debugger {
 }
 
 impl Model for Debugger {
-    ghost use Rattle.zk_txn.specs.contracts.node.Node as node;
-    ghost use Rattle.zk_txn.specs.contracts.txn.Txn as txn;
+    ghost use Rattle.zk_table.specs.contracts.node.Node as node;
+    ghost use Rattle.zk_table.specs.contracts.txn.Txn as txn;
     ghost use Rattle.zk_debug.specs.contracts.breakpoint.Breakpoint as breakpoint;
     ghost use Rattle.zk_debug.specs.Debugging.{Debugging, debugging_code};
 

@@ -7,7 +7,7 @@ use std::marker::Model;
 use zk_log::Txns;
 use zk_machine::{Applied, Machine};
 use zk_path::NoMemory;
-use zk_txn::Txn;
+use zk_table::Txn;
 
 /// A log, a place in it, and a machine at that place. The result, changes and undo record of each
 /// step are stored, so that a step back costs as much as the step.
@@ -35,8 +35,8 @@ impl Drop for Walk {
 }
 
 impl Model for Walk {
-    ghost use Rattle.zk_txn.specs.contracts.node.Node as node;
-    ghost use Rattle.zk_txn.specs.contracts.txn.Txn as txn;
+    ghost use Rattle.zk_table.specs.contracts.node.Node as node;
+    ghost use Rattle.zk_table.specs.contracts.txn.Txn as txn;
     ghost use Rattle.zk_debug.specs.Walks.{Walk, IsWalk, walk_code};
 
     ghost Value = { Walk };

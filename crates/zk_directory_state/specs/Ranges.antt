@@ -3,7 +3,7 @@ use Rattle.std.specs.Prelude.{Bool, true, ◌&&◌, int_le, Option, Some, None}
 use Rattle.zk_directory_state.specs.declared.range.Bound.{Bound}
 use Rattle.zk_directory_state.specs.declared.range.Bound.TheVariants.{Zxid, Time}
 use Rattle.zk_directory_state.specs.declared.range.Range.{Range}
-use Rattle.zk_txn.specs.declared.txn.Txn.{Txn}
+use Rattle.zk_table.specs.declared.txn.Txn.{Txn}
 
 abbrev pub is_from : Option Bound → Txn → Bool
 is_from None txn = true

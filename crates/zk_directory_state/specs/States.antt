@@ -1,7 +1,7 @@
 -- The state that a history leads to: the window of a snapshot is replayed on the snapshot's nodes,
 -- and each later transaction is applied by the rules of the table.
 use Rattle.std.specs.Prelude.{◌≡◌, ℤ, int_le, List, [], ◌∷◌, map, if◌then◌else◌}
-use Rattle.zk_txn.specs.declared.txn.Txn.{Txn}
+use Rattle.zk_table.specs.declared.txn.Txn.{Txn}
 use Rattle.zk_table.specs.Histories.{state_after}
 use Rattle.zk_table.specs.States.{State}
 use Rattle.zk_newer_records.specs.declared.newer_record.NewerRecord.{NewerRecord}

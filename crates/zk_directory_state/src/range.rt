@@ -2,7 +2,7 @@
 ghost use Rattle.std.specs.Prelude.{◌≡◌};
 ghost use Rattle.zk_directory_state.specs.Ranges.{is_from, is_in, is_to, unbounded};
 
-use zk_txn::Txn;
+use zk_table::Txn;
 
 /// A transaction at which a range begins or ends.
 #[derive(Clone, Copy, Debug, PartialEq, Eq)]

@@ -46,7 +46,7 @@ impl Model for Ensemble {
     ghost use Rattle.zab_epoch.specs.contracts.message.Message as message;
     ghost use Rattle.zab_broadcast.specs.contracts.state.State as state;
     ghost use Rattle.zk_requests.specs.contracts.call.Call as call;
-    ghost use Rattle.zk_txn.specs.contracts.node.Node as node;
+    ghost use Rattle.zk_table.specs.contracts.node.Node as node;
     ghost use Rattle.zk_model.specs.contracts.answer.Answered as answered;
     ghost use Rattle.zk_watch.specs.contracts.watch.Watch as watch;
     ghost use Rattle.zk_watch.specs.contracts.watch.Fired as fired;

@@ -7,7 +7,7 @@ use Rattle.std.specs.FinMap.{find}
 use Rattle.std.specs.Borrow.{Bor}
 use Rattle.std.specs.Option.{option_map, option_copied}
 use Rattle.std.specs.Ordering.{eq_by_cmp}
-use Rattle.zk_txn.specs.declared.node.Node.{Node}
+use Rattle.zk_table.specs.declared.node.Node.{Node}
 use Rattle.zk_table.specs.States.{NodeMap, path_cmp, is_child_of, changed, changed_found}
 use Rattle.zk_requests.specs.Overlays.{count_of}
 use Rattle.zk_requests.proofs.Laying.{some_there}

@@ -8,11 +8,11 @@ use Rattle.zk_acl.specs.declared.acl.Acl.{Acl}
 use Rattle.zk_acl.specs.declared.stat.Stat.{Stat}
 use Rattle.zk_path.specs.Paths.{parent_of}
 use Rattle.zk_path.specs.declared.memory.NoMemory.{NoMemory}
-use Rattle.zk_txn.specs.Codes.{bad_arguments, no_node, not_empty}
-use Rattle.zk_txn.specs.Nodes.{created, with_child}
-use Rattle.zk_txn.specs.declared.node.Node.{Node}
-use Rattle.zk_txn.specs.declared.sub.Sub.{Sub}
-use Rattle.zk_txn.specs.declared.txn.Txn.{Txn}
+use Rattle.zk_table.specs.Codes.{bad_arguments, no_node, not_empty}
+use Rattle.zk_table.specs.Nodes.{created, with_child}
+use Rattle.zk_table.specs.declared.node.Node.{Node}
+use Rattle.zk_table.specs.declared.sub.Sub.{Sub}
+use Rattle.zk_table.specs.declared.txn.Txn.{Txn}
 use Rattle.zk_table.specs.Multis.{apply_part, nodes_after}
 use Rattle.zk_table.specs.Operations.{done_unless, create, create_fault, delete, delete_fault, missing_fault, without}
 use Rattle.zk_table.specs.States.{NodeMap, children_of, changed, changed_found, parent_changed}

@@ -8,9 +8,9 @@ use Rattle.std.specs.Option.{option_map}
 use Rattle.std.specs.Ordering.{eq_by_cmp, int_eq}
 use Rattle.std.specs.Prelude.{option_and_then}
 use Rattle.zk_path.specs.Paths.{parent_of}
-use Rattle.zk_txn.specs.Codes.{node_exists, no_children_for_ephemerals}
-use Rattle.zk_txn.specs.declared.node.Node.{Node}
-use Rattle.zk_txn.specs.Nodes.{with_child}
+use Rattle.zk_table.specs.Codes.{node_exists, no_children_for_ephemerals}
+use Rattle.zk_table.specs.declared.node.Node.{Node}
+use Rattle.zk_table.specs.Nodes.{with_child}
 use Rattle.zk_table.specs.Operations.{create_fault, parent_fault}
 use Rattle.zk_table.specs.States.{NodeMap, path_cmp, changed_above, changed_found}
 use Rattle.zk_tree.proofs.Kept.{path_cmp-IsAntisymmetric, insert_same}

@@ -7,7 +7,7 @@ use Rattle.std.specs.FinMap.{find}
 use Rattle.std.specs.List.{AllByRecursion}
 use Rattle.std.specs.List.Sorted.{IsStrictlySortedBy}
 use Rattle.std.specs.Option.{option_map}
-use Rattle.zk_txn.specs.declared.node.Node.{Node}
+use Rattle.zk_table.specs.declared.node.Node.{Node}
 use Rattle.zk_table.specs.States.{path_cmp, children_of}
 use Rattle.zk_fold.specs.declared.node_table.Slot.{Slot}
 use Rattle.zk_fold.specs.Slots.{SlotMap, IsCounted, nodes_at}

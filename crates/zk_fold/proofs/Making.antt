@@ -9,9 +9,9 @@ use Rattle.std.specs.Ordering.{eq_by_cmp, int_eq}
 use Rattle.std.specs.Prelude.{option_and_then, is_none}
 use Rattle.zk_path.specs.Paths.{parent_of, fault_of}
 use Rattle.zk_path.specs.declared.memory.NoMemory.{NoMemory}
-use Rattle.zk_txn.specs.Codes.{no_node, node_exists, no_children_for_ephemerals}
-use Rattle.zk_txn.specs.declared.node.Node.{Node}
-use Rattle.zk_txn.specs.Nodes as nodes
+use Rattle.zk_table.specs.Codes.{no_node, node_exists, no_children_for_ephemerals}
+use Rattle.zk_table.specs.declared.node.Node.{Node}
+use Rattle.zk_table.specs.Nodes as nodes
 use Rattle.zk_table.specs.Operations.{create_fault, parent_fault}
 use Rattle.zk_table.specs.States.{NodeMap, path_cmp, is_child_of, is_parent, changed, changed_found, changed_above, parent_changed}
 use Rattle.zk_requests.specs.Overlays.{count_of}

@@ -7,9 +7,9 @@ use Rattle.std.specs.Option.{option_map}
 use Rattle.std.specs.Ordering.{eq_by_cmp}
 use Rattle.std.specs.Prelude.{option_and_then}
 use Rattle.zk_path.specs.Paths.{parent_of}
-use Rattle.zk_txn.specs.Codes.{node_exists}
-use Rattle.zk_txn.specs.declared.node.Node.{Node}
-use Rattle.zk_txn.specs.Nodes.{first_node, with_child}
+use Rattle.zk_table.specs.Codes.{node_exists}
+use Rattle.zk_table.specs.declared.node.Node.{Node}
+use Rattle.zk_table.specs.Nodes.{first_node, with_child}
 use Rattle.zk_table.specs.Operations.{create_fault, parent_fault}
 use Rattle.zk_table.specs.States.{NodeMap, path_cmp, start_state, changed_above, changed_found}
 use Rattle.zk_requests.specs.Overlays.{count_of}

@@ -9,7 +9,7 @@ use Rattle.std.specs.FinMap.{find, is_sorted}
 use Rattle.std.specs.Option.{option_map}
 use Rattle.std.specs.Ordering.{eq_by_cmp}
 use Rattle.zk_path.specs.Paths.{parent_of, fault_of}
-use Rattle.zk_txn.specs.declared.node.Node.{Node}
+use Rattle.zk_table.specs.declared.node.Node.{Node}
 use Rattle.zk_table.specs.States.{NodeMap, path_cmp, children_of}
 use Rattle.zk_machine.specs.Restoring.{begins_with_slash}
 use Rattle.zk_tree.specs.declared.entry.Entry.{Entry}

@@ -1,7 +1,7 @@
 -- The forward-only table: a state, and whether it has failed.
 use Rattle.std.specs.Prelude.{Bool, refl}
 use Rattle.std.specs.Coded.{Coded, code_by, coded×, coded_bool}
-use Rattle.zk_txn.specs.declared.node.Node.{Node}
+use Rattle.zk_table.specs.declared.node.Node.{Node}
 use Rattle.zk_table.specs.States.{State, state_code}
 
 pub record FoldView : Type 0 where

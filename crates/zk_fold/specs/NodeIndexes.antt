@@ -4,8 +4,8 @@ use Rattle.std.specs.FinMap as finite
 use Rattle.std.specs.FinMap.{get, contains_key}
 use Rattle.std.specs.Ordering.{int_eq}
 use Rattle.zk_path.specs.Paths.{parent_of}
-use Rattle.zk_txn.specs.declared.node.Node.{Node}
-use Rattle.zk_txn.specs.Nodes.{with_child}
+use Rattle.zk_table.specs.declared.node.Node.{Node}
+use Rattle.zk_table.specs.Nodes.{with_child}
 use Rattle.zk_table.specs.Operations.{create_fault}
 use Rattle.zk_table.specs.States.{NodeMap, parent_changed}
 

@@ -38,7 +38,7 @@ impl Drop for Fold {
 }
 
 impl Model for Fold {
-    ghost use Rattle.zk_txn.specs.contracts.node.Node as node;
+    ghost use Rattle.zk_table.specs.contracts.node.Node as node;
     ghost use Rattle.zk_fold.specs.Folds.{FoldView, fold_code};
 
     ghost Value = { FoldView };

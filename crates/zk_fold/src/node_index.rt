@@ -2,7 +2,7 @@ ghost use Rattle.std.specs.Prelude.{◌≡◌, true, false, IfOk, OnOk, IsSome, 
 ghost use Rattle.std.specs.FinMap as finite;
 ghost use Rattle.std.specs.Option.{ForSome, option_copied};
 ghost use Rattle.zk_path.specs.Paths.{parent_of};
-ghost use Rattle.zk_txn.specs.Nodes.{written, guarded};
+ghost use Rattle.zk_table.specs.Nodes.{written, guarded};
 ghost use Rattle.zk_table.specs.Operations.{create_fault, delete_fault, without};
 ghost use Rattle.zk_table.specs.States.{start_state, children_of, owned_by, changed};
 ghost use Rattle.zk_tree.specs.Entries.{lent, entries_of};
@@ -30,7 +30,7 @@ pub(crate) struct NodeIndex {
 impl Model for NodeIndex {
     ghost use Rattle.std.specs.Coded.{coded_list, coded_ℕ};
     ghost use Rattle.std.specs.FinMap as finite;
-    ghost use Rattle.zk_txn.specs.contracts.node.Node as node;
+    ghost use Rattle.zk_table.specs.contracts.node.Node as node;
     ghost use Rattle.zk_table.specs.States.{NodeMap};
     ghost use Rattle.zk_tree.specs.Owners.{IsOwned};
     ghost use Rattle.zk_fold.specs.Slots.{nodes_at, IsCounted};

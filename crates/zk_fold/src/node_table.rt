@@ -2,7 +2,7 @@ ghost use Rattle.std.specs.Prelude.{◌≡◌, ◌≤◌, ◌<◌, ◌+◌, ◌^
 ghost use Rattle.std.specs.FinMap as finite;
 ghost use Rattle.std.specs.Option.{option_copied, ForSome};
 ghost use Rattle.zk_path.specs.Paths.{parent_of};
-ghost use Rattle.zk_txn.specs.Nodes.{written, guarded};
+ghost use Rattle.zk_table.specs.Nodes.{written, guarded};
 ghost use Rattle.zk_fold.specs.Slots.{IsCounted, AreKept, new_place, with_child, without_child, with_node, place_changed, is_fit, made};
 
 use crate::paths::PathSet;

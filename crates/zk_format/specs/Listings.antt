@@ -6,11 +6,11 @@ use Rattle.std.specs.List.{flat_map, AllByRecursion}
 use Rattle.std.specs.Str.{IsUtf8}
 use Rattle.zk_path.specs.Paths.{IsPath}
 use Rattle.zk_acl.specs.declared.acl.Acl.{Acl}
-use Rattle.zk_txn.specs.declared.txn.Txn.{Txn}
-use Rattle.zk_txn.specs.declared.txn.Op.{Op}
-use Rattle.zk_txn.specs.declared.txn.Op.TheVariants as op
-use Rattle.zk_txn.specs.declared.sub.Sub.{Sub}
-use Rattle.zk_txn.specs.declared.sub.Sub.TheVariants as sub
+use Rattle.zk_table.specs.declared.txn.Txn.{Txn}
+use Rattle.zk_table.specs.declared.txn.Op.{Op}
+use Rattle.zk_table.specs.declared.txn.Op.TheVariants as op
+use Rattle.zk_table.specs.declared.sub.Sub.{Sub}
+use Rattle.zk_table.specs.declared.sub.Sub.TheVariants as sub
 use Rattle.zk_format.specs.Spelling.{quoted, content_text, acl_text, id_digits}
 
 -- ---- operations: a word, and a space before each field

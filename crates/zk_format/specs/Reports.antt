@@ -4,9 +4,9 @@ use Rattle.std.specs.Prelude.{ℕ, ℤ, List, [], ◌∷◌, ◌++◌, codes, Op
 use Rattle.std.specs.Fmt.{signed_decimal}
 use Rattle.std.specs.List.{flat_map}
 use Rattle.zk_acl.specs.declared.stat.Stat.{Stat}
-use Rattle.zk_txn.specs.declared.node.Node.{Node}
-use Rattle.zk_txn.specs.declared.result.PartResult.{PartResult}
-use Rattle.zk_txn.specs.declared.result.TxnResult.{TxnResult}
+use Rattle.zk_table.specs.declared.node.Node.{Node}
+use Rattle.zk_table.specs.declared.result.PartResult.{PartResult}
+use Rattle.zk_table.specs.declared.result.TxnResult.{TxnResult}
 use Rattle.zk_format.specs.Spelling.{quoted, content_text, acl_text, stat_text, id_digits}
 
 -- a node: its path, content, access control list and stat

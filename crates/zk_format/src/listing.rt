@@ -10,7 +10,7 @@ use crate::spelling::{
 use std::alloc::Global;
 use zk_acl::Acls;
 use zk_path::{NoMemory, Path};
-use zk_txn::{Content, Op, Sub, Txn};
+use zk_table::{Content, Op, Sub, Txn};
 
 /// Returns the listing of these transactions, one line for each. `assemble` of `zk_listing` reads
 /// it back, unless an access control list has more entries than a line can count.

@@ -6,7 +6,7 @@ ghost use Rattle.zk_format.specs.Reports.{node_line, path_or_dash, stat_or_dash,
 use crate::spelling::{LINE, push_id, spell_acl, spell_content, spell_quoted, spell_stat};
 use zk_acl::Stat;
 use zk_path::{NoMemory, Path};
-use zk_txn::{Node, PartResult, TxnResult};
+use zk_table::{Node, PartResult, TxnResult};
 
 /// Appends a node's line without a newline: its path, content, access control list and stat.
 pub fn push_node_line(

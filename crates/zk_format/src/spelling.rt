@@ -13,7 +13,7 @@ use itoa::Buffer;
 use std::str;
 use zk_acl::{Acl, Acls, Stat};
 use zk_path::NoMemory;
-use zk_txn::Content;
+use zk_table::Content;
 
 /// The capacity reserved for a line before it is formatted, in bytes. Most lines fit and need no
 /// growth.

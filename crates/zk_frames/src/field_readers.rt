@@ -8,7 +8,7 @@ use std::alloc::Global;
 use zk_acl::Text;
 use zk_jute::JuteFault;
 use zk_jute::fields::{count, int, text};
-use zk_txn::Names;
+use zk_table::Names;
 
 /// The length of null.
 const NULL: i32 = -1;

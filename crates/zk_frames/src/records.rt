@@ -2,7 +2,7 @@
 
 use crate::acl_records::AclRecords;
 use zk_acl::Text;
-use zk_txn::{Content, Names};
+use zk_table::{Content, Names};
 
 /// The start of each request: its number, which the reply repeats, and its type.
 #[derive(Clone, Copy, Debug)]

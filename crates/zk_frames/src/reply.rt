@@ -2,7 +2,7 @@ ghost use Rattle.std.specs.Prelude.{◌≡◌};
 
 use std::marker::Model;
 use zk_acl::{Acls, Stat, Text};
-use zk_txn::{Content, Names};
+use zk_table::{Content, Names};
 
 /// The result of a part of a multi.
 #[derive(Debug, Drop)]

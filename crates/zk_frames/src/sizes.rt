@@ -8,7 +8,7 @@ ghost use Rattle.zk_frames.specs.Replies.{stat_record, result_of, body_of, reply
 
 use crate::reply::{ClientReply, MultiResult, MultiResults, ReplyBody, WatcherEvent};
 use zk_acl::{Acl, Acls, Stat};
-use zk_txn::{Content, Names};
+use zk_table::{Content, Names};
 
 /// A length, a count or a type, each a 32-bit number.
 const INT: u64 = 4;

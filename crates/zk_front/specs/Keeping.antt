@@ -10,7 +10,7 @@ use Rattle.zk_line_protocol.specs.declared.told.Reply.{Reply}
 use Rattle.zk_line_protocol.specs.declared.told.Reply.TheVariants as replies
 use Rattle.zk_requests.specs.declared.call.Request.TheVariants as requests
 use Rattle.zk_requests.specs.Timeouts.{clamp}
-use Rattle.zk_txn.specs.declared.result.TxnResult.{TxnResult}
+use Rattle.zk_table.specs.declared.result.TxnResult.{TxnResult}
 use Rattle.zk_prepare.specs.Deadlines.{DeadlineMap, touched, forgotten, expired_at}
 use Rattle.zk_front.specs.Asks.{session_of}
 use Rattle.zk_front.specs.declared.session_table.SessionTable.{SessionTable}

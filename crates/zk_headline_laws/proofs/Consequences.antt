@@ -27,7 +27,7 @@ use Rattle.zk_headline_laws.specs.Consequences.{FitsInWorld, FitEvents, HasConse
 use Rattle.zk_model.specs.Ensembles.{profile_by}
 use Rattle.zk_model.specs.Runs.{in_world, ensemble_after, delivered_after, history_after}
 use Rattle.zk_headline_laws.proofs.Headlines.{headline, delivered_in_history}
-use Rattle.zk_txn.specs.declared.txn.Txn.{Txn}
+use Rattle.zk_table.specs.declared.txn.Txn.{Txn}
 use Rattle.zk_table.specs.Histories.{tree_of}
 
 -- ---- the entries of a list of transactions

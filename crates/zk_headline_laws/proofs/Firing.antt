@@ -38,7 +38,7 @@ use Rattle.zk_model.specs.Runs.{after}
 use Rattle.zk_table.specs.Histories.{state_after}
 use Rattle.zk_table.specs.States.{State, start_state}
 use Rattle.zk_table.specs.Steps.{step}
-use Rattle.zk_txn.specs.declared.read.ReadReply.{ReadReply}
+use Rattle.zk_table.specs.declared.read.ReadReply.{ReadReply}
 use Rattle.zk_watch.specs.declared.watch.Watch.{Watch}
 use Rattle.zk_watch.specs.Watching.{fired_by, left_after}
 

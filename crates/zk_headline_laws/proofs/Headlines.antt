@@ -34,9 +34,9 @@ use Rattle.zk_model.proofs.Lists.{is_there}
 use Rattle.zk_headline_laws.proofs.ReadLaws.{earlier_is_prefix, last_of_the_list}
 use Rattle.zk_headline_laws.proofs.Standing.{stands_in_run}
 use Rattle.zk_model.proofs.Worlds.{take_in_world, delivered_then, history_then, answer_at}
-use Rattle.zk_txn.specs.declared.read.ReadReply.{ReadReply}
-use Rattle.zk_txn.specs.declared.txn.Op.TheVariants.{CloseSession}
-use Rattle.zk_txn.specs.declared.txn.Txn.{Txn}
+use Rattle.zk_table.specs.declared.read.ReadReply.{ReadReply}
+use Rattle.zk_table.specs.declared.txn.Op.TheVariants.{CloseSession}
+use Rattle.zk_table.specs.declared.txn.Txn.{Txn}
 use Rattle.zk_machine.specs.Changes.{changes_of}
 use Rattle.zk_table.specs.Histories.{tree_of}
 use Rattle.zk_watch.proofs.Dropped.{stay_untold}

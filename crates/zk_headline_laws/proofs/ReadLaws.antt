@@ -6,11 +6,11 @@ use Rattle.zab_laws.specs.Prefixes.{IsPrefix, last_key, Rises}
 use Rattle.zab_laws.proofs.PrefixLaws.{prefix_refl, prefix_by_last}
 use Rattle.zab_epoch.specs.Entries.{txns_of}
 use Rattle.zk_headline_laws.specs.Headline.{last_zxid}
-use Rattle.zk_txn.specs.declared.result.TxnResult.{TxnResult}
-use Rattle.zk_txn.specs.declared.txn.Op.{Op}
-use Rattle.zk_txn.specs.declared.txn.Op.TheVariants.{Create, CreateOld, Delete, SetData, SetAcl, OpenSession, CloseSession, Error, Multi}
-use Rattle.zk_txn.specs.declared.txn.Txn.{Txn}
-use Rattle.zk_txn.specs.Parts.{is_error}
+use Rattle.zk_table.specs.declared.result.TxnResult.{TxnResult}
+use Rattle.zk_table.specs.declared.txn.Op.{Op}
+use Rattle.zk_table.specs.declared.txn.Op.TheVariants.{Create, CreateOld, Delete, SetData, SetAcl, OpenSession, CloseSession, Error, Multi}
+use Rattle.zk_table.specs.declared.txn.Txn.{Txn}
+use Rattle.zk_table.specs.Parts.{is_error}
 use Rattle.zk_table.specs.Histories.{state_after, tree_of}
 use Rattle.zk_table.specs.States.{State, start_state}
 use Rattle.zk_table.specs.Steps.{step, step_by}

@@ -13,13 +13,13 @@ use Rattle.zk_model.specs.declared.event.Question.{Question}
 use Rattle.zk_model.specs.Ensembles.{kind_set, with_set, reply_of}
 use Rattle.zk_table.specs.Reads.{names_below, reply_found, reply_to}
 use Rattle.zk_table.specs.States.{NodeMap, State, stat_of}
-use Rattle.zk_txn.specs.Codes.{session_expired, no_auth}
-use Rattle.zk_txn.specs.declared.node.Node.{Node}
-use Rattle.zk_txn.specs.declared.read.ReadCall.{ReadCall}
-use Rattle.zk_txn.specs.declared.read.ReadCall.TheVariants.{GetData, Exists, GetChildren, GetAcl}
-use Rattle.zk_txn.specs.declared.read.ReadReply.{ReadReply}
-use Rattle.zk_txn.specs.declared.read.ReadReply.TheVariants.{Content as HasContent, Found, Children as HasChildren, Refused}
-use Rattle.zk_txn.specs.Replies.{path_read}
+use Rattle.zk_table.specs.Codes.{session_expired, no_auth}
+use Rattle.zk_table.specs.declared.node.Node.{Node}
+use Rattle.zk_table.specs.declared.read.ReadCall.{ReadCall}
+use Rattle.zk_table.specs.declared.read.ReadCall.TheVariants.{GetData, Exists, GetChildren, GetAcl}
+use Rattle.zk_table.specs.declared.read.ReadReply.{ReadReply}
+use Rattle.zk_table.specs.declared.read.ReadReply.TheVariants.{Content as HasContent, Found, Children as HasChildren, Refused}
+use Rattle.zk_table.specs.Replies.{path_read}
 use Rattle.zk_watch.proofs.Guide.{told_first, set_told, others_stay, and_false}
 use Rattle.zk_watch.proofs.Kept.{watch_cmp_total, by_ordering}
 use Rattle.zk_watch.specs.declared.watch.Watch.{Watch}

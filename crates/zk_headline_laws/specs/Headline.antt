@@ -23,9 +23,9 @@ use Rattle.zk_headline_laws.specs.Consequences.{FitEvents, HasConsequences}
 use Rattle.zk_model.specs.Ensembles.{Ensemble, ReplicaView, reply_of, waiting}
 use Rattle.zk_headline_laws.specs.Traces.{trace_after, trace_entries, trace_events}
 use Rattle.zk_model.specs.Runs.{run, in_world, world_count, ensemble_after, replica_after, delivered_after, history_after, answered_of}
-use Rattle.zk_txn.specs.declared.read.ReadReply.{ReadReply}
-use Rattle.zk_txn.specs.declared.txn.Op.TheVariants.{CloseSession}
-use Rattle.zk_txn.specs.declared.txn.Txn.{Txn}
+use Rattle.zk_table.specs.declared.read.ReadReply.{ReadReply}
+use Rattle.zk_table.specs.declared.txn.Op.TheVariants.{CloseSession}
+use Rattle.zk_table.specs.declared.txn.Txn.{Txn}
 use Rattle.zk_table.specs.Histories.{tree_of, results_of}
 use Rattle.zk_table.specs.States.{State}
 use Rattle.zk_watch.specs.declared.watch.Watch.{Watch}

@@ -13,11 +13,11 @@ use Rattle.zk_requests.specs.Requests.{is_open}
 use Rattle.zk_model.specs.declared.event.Question.{Question}
 use Rattle.zk_model.specs.Ensembles.{reply_of}
 use Rattle.zk_table.specs.States.{State}
-use Rattle.zk_txn.specs.declared.node.Node.{Node}
-use Rattle.zk_txn.specs.declared.read.ReadCall.{ReadCall}
-use Rattle.zk_txn.specs.declared.read.ReadCall.TheVariants.{GetData, Exists, GetChildren, GetAcl}
-use Rattle.zk_txn.specs.declared.read.ReadReply.{ReadReply}
-use Rattle.zk_txn.specs.Replies.{path_read}
+use Rattle.zk_table.specs.declared.node.Node.{Node}
+use Rattle.zk_table.specs.declared.read.ReadCall.{ReadCall}
+use Rattle.zk_table.specs.declared.read.ReadCall.TheVariants.{GetData, Exists, GetChildren, GetAcl}
+use Rattle.zk_table.specs.declared.read.ReadReply.{ReadReply}
+use Rattle.zk_table.specs.Replies.{path_read}
 use Rattle.zk_watch.specs.declared.watch.Watch.{Watch}
 use Rattle.zk_watch.specs.Watching.{told_by}
 use Rattle.zk_watch.specs.WatchLaws.{is_told}

@@ -14,8 +14,8 @@ use Rattle.zk_model.specs.declared.event.Question.{Question}
 use Rattle.zk_model.specs.Ensembles.{Ensemble, Told, new_ensemble, happens, waiting, kind_set, with_set}
 use Rattle.zk_table.specs.States.{State, start_state}
 use Rattle.zk_table.specs.Steps.{step}
-use Rattle.zk_txn.specs.declared.read.ReadReply.{ReadReply}
-use Rattle.zk_txn.specs.Replies.{path_read}
+use Rattle.zk_table.specs.declared.read.ReadReply.{ReadReply}
+use Rattle.zk_table.specs.Replies.{path_read}
 use Rattle.zk_watch.specs.declared.watch.Fired.{Fired}
 use Rattle.zk_watch.specs.declared.watch.Watch.{Watch}
 use Rattle.zk_watch.specs.Watching.{fired_by, left_after}

@@ -4,9 +4,9 @@ use Rattle.std.specs.List.{flat_map}
 use Rattle.zab_broadcast.specs.declared.state.State.{State}
 use Rattle.zab_epoch.specs.declared.history.Entry.{Entry}
 use Rattle.zab_epoch.specs.Entries.{txns_of}
-use Rattle.zk_txn.specs.declared.txn.Op.{Op}
-use Rattle.zk_txn.specs.declared.txn.Op.TheVariants.{CloseSession}
-use Rattle.zk_txn.specs.declared.txn.Txn.{Txn}
+use Rattle.zk_table.specs.declared.txn.Op.{Op}
+use Rattle.zk_table.specs.declared.txn.Op.TheVariants.{CloseSession}
+use Rattle.zk_table.specs.declared.txn.Txn.{Txn}
 
 abbrev pub delivered_in : State → List Entry
 delivered_in state = take state.delivered state.peer.stable.history

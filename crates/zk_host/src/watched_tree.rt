@@ -35,7 +35,7 @@ pub struct WatchedTree {
 }
 
 impl Model for WatchedTree {
-    ghost use Rattle.zk_txn.specs.contracts.node.Node as node;
+    ghost use Rattle.zk_table.specs.contracts.node.Node as node;
     ghost use Rattle.zk_watch.specs.contracts.watch.Watch as watch;
     ghost use Rattle.zk_host.specs.contracts.news.Connection as connection_row;
     ghost use Rattle.zk_host.specs.contracts.news.News as news_row;

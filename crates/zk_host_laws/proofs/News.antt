@@ -13,7 +13,7 @@ use Rattle.zk_model.specs.Ensembles.{answered, kind_set}
 use Rattle.zk_model.specs.Runs.{answered_after}
 use Rattle.zk_table.specs.Histories.{state_after}
 use Rattle.zk_table.specs.Steps.{step}
-use Rattle.zk_txn.specs.declared.read.ReadReply.{ReadReply}
+use Rattle.zk_table.specs.declared.read.ReadReply.{ReadReply}
 use Rattle.zk_watch.specs.declared.watch.Fired.{Fired}
 use Rattle.zk_watch.specs.declared.watch.WatchKind.{WatchKind}
 

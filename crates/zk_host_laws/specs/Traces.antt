@@ -15,9 +15,9 @@ use Rattle.zk_model.specs.declared.event.Question.{Question}
 use Rattle.zk_model.specs.Ensembles.{answered, kind_set}
 use Rattle.zk_table.specs.States.{State, start_state}
 use Rattle.zk_table.specs.Steps.{step}
-use Rattle.zk_txn.specs.declared.read.ReadReply.{ReadReply}
-use Rattle.zk_txn.specs.declared.txn.Txn.{Txn}
-use Rattle.zk_txn.specs.Replies.{path_read}
+use Rattle.zk_table.specs.declared.read.ReadReply.{ReadReply}
+use Rattle.zk_table.specs.declared.txn.Txn.{Txn}
+use Rattle.zk_table.specs.Replies.{path_read}
 use Rattle.zk_watch.specs.declared.watch.Fired.{Fired}
 use Rattle.zk_watch.specs.declared.watch.Watch.{Watch}
 use Rattle.zk_watch.specs.declared.watch.WatchKind.{WatchKind}

@@ -8,7 +8,7 @@ use zk_model::Question;
 use zk_peers::{PeerState, Peers, Place};
 use zk_request_syntax::{Lookup, push_reply, read_lookup, read_request};
 use zk_requests::Call;
-use zk_txn::ReadReply;
+use zk_table::ReadReply;
 
 pub type Ensemble = Peers<MemoryStorage>;
 

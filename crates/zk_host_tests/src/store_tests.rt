@@ -8,7 +8,7 @@ use zab_epoch::{Entry, History, Stable};
 use zab_host::{MemoryStorage, Storage, TAG_BOOTS, TagIssuer};
 use zk_path::NoMemory;
 use zk_records::size;
-use zk_txn::{Op, Txn};
+use zk_table::{Op, Txn};
 
 /// An entry that changes nothing.
 fn entry(tag: u64, zxid: i64) -> Entry {

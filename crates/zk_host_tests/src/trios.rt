@@ -12,7 +12,7 @@ use zk_model::Question;
 use zk_path::NoMemory;
 use zk_request_syntax::{Lookup, push_reply, read_lookup, read_request};
 use zk_requests::Call;
-use zk_txn::ReadReply;
+use zk_table::ReadReply;
 
 pub type TreeHost = ReplicaHost<MemoryStorage>;
 

@@ -12,7 +12,7 @@ use Rattle.zk_client_session.specs.declared.ask.Ask.TheVariants as asks
 use Rattle.zk_client_session.specs.declared.saved_watch.SavedWatch.{SavedWatch}
 use Rattle.zk_machine.specs.declared.change.ChangeKind.{ChangeKind}
 use Rattle.zk_model.specs.declared.event.Question.{Question}
-use Rattle.zk_txn.specs.Replies.{path_read}
+use Rattle.zk_table.specs.Replies.{path_read}
 
 abbrev pub own : Connection → ℕ × List ℕ
 own it = (it.number, it.input)

@@ -7,7 +7,7 @@ use Rattle.zk_hub.specs.Resumptions.{set_by, with_watch_at}
 use Rattle.zk_hub.specs.declared.reading.Resumption.{Resumption}
 use Rattle.zk_client_session.specs.SavedWatches.{setting_call}
 use Rattle.zk_client_session.specs.declared.saved_watch.SavedWatch.{SavedWatch}
-use Rattle.zk_txn.specs.declared.read.ReadCall.{ReadCall}
+use Rattle.zk_table.specs.declared.read.ReadCall.{ReadCall}
 
 call_or : ReadCall → Option ReadCall → ReadCall
 call_or call None = call

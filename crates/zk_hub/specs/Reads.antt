@@ -8,7 +8,7 @@ use Rattle.zk_host.specs.declared.host_fault.ReadFault.TheVariants as faults
 use Rattle.zk_client_session.specs.ConnectionWatches as own
 use Rattle.zk_model.specs.Ensembles.{reply_of}
 use Rattle.zk_model.specs.declared.event.Question.{Question}
-use Rattle.zk_txn.specs.declared.read.ReadReply.{ReadReply}
+use Rattle.zk_table.specs.declared.read.ReadReply.{ReadReply}
 
 -- what the server has delivered, with its connections' watches, and one of the connections
 pub record Reader : Type 0 where

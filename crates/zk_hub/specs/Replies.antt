@@ -14,11 +14,11 @@ use Rattle.zk_client_session.specs.declared.ask.Ask.TheVariants.{Write, Read, Sy
 use Rattle.zk_client_session.specs.declared.reply.Reply.{Reply}
 use Rattle.zk_client_session.specs.declared.reply.Reply.TheVariants as replies
 use Rattle.zk_model.specs.declared.event.Question.{Question}
-use Rattle.zk_txn.specs.Replies.{path_read}
-use Rattle.zk_txn.specs.declared.read.ReadCall.{ReadCall}
-use Rattle.zk_txn.specs.declared.read.ReadCall.TheVariants as calls
-use Rattle.zk_txn.specs.declared.read.ReadReply.{ReadReply}
-use Rattle.zk_txn.specs.declared.read.ReadReply.TheVariants.{Refused}
+use Rattle.zk_table.specs.Replies.{path_read}
+use Rattle.zk_table.specs.declared.read.ReadCall.{ReadCall}
+use Rattle.zk_table.specs.declared.read.ReadCall.TheVariants as calls
+use Rattle.zk_table.specs.declared.read.ReadReply.{ReadReply}
+use Rattle.zk_table.specs.declared.read.ReadReply.TheVariants.{Refused}
 
 abbrev pub question : ℕ → ℤ → ℤ → List Id → ReadCall → Bool → Question
 question server session seen auths call watch = record {

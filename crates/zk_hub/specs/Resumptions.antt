@@ -13,11 +13,11 @@ use Rattle.zk_client_session.specs.declared.saved_watch.SavedWatchKind.{SavedWat
 use Rattle.zk_client_session.specs.declared.saved_watch.SavedWatchKind.TheVariants as kinds
 use Rattle.zk_machine.specs.declared.change.ChangeKind.{ChangeKind}
 use Rattle.zk_model.specs.declared.event.Question.{Question}
-use Rattle.zk_txn.specs.Replies.{path_read}
-use Rattle.zk_txn.specs.declared.read.ReadCall.{ReadCall}
-use Rattle.zk_txn.specs.declared.read.ReadCall.TheVariants as calls
-use Rattle.zk_txn.specs.declared.read.ReadReply.{ReadReply}
-use Rattle.zk_txn.specs.declared.read.ReadReply.TheVariants as replies
+use Rattle.zk_table.specs.Replies.{path_read}
+use Rattle.zk_table.specs.declared.read.ReadCall.{ReadCall}
+use Rattle.zk_table.specs.declared.read.ReadCall.TheVariants as calls
+use Rattle.zk_table.specs.declared.read.ReadReply.{ReadReply}
+use Rattle.zk_table.specs.declared.read.ReadReply.TheVariants as replies
 
 -- a read for the client, no matter what it has seen
 abbrev pub question_for : Resumption → ReadCall → Bool → Question

@@ -1,4 +1,4 @@
-use zk_txn::TxnResult;
+use zk_table::TxnResult;
 
 /// The outcome of a client's request.
 #[derive(Debug, Drop)]

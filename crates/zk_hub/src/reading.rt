@@ -1,7 +1,7 @@
 ghost use Rattle.std.specs.Prelude.{◌≡◌, ◌++◌, ◌∷◌, [], map, IfOk, OnOk};
 ghost use Rattle.zk_hub.specs.Reads.{reader, KeepsNodes, Looks};
 ghost use Rattle.zk_hub.specs.Replies.{children_at, count_by, is_refused, Counts, Replies};
-ghost use Rattle.zk_txn.specs.Replies.{path_read};
+ghost use Rattle.zk_table.specs.Replies.{path_read};
 ghost use Rattle.zk_hub.specs.Resumptions.{after_watch, after_watches, event_of, events_of, found_at, named_in, question_for, set_by, setter, with_watch_at, Resumes};
 ghost use Rattle.zk_client_session.specs.Links.{path_in};
 ghost use Rattle.zk_client_session.specs.TreeReads.{descendant_count, ephemerals_of};
@@ -18,8 +18,8 @@ use zk_connections::Connection;
 use zk_host::{ReadFault, ReplicaHost};
 use zk_model::Question;
 use zk_path::{NoMemory, Path};
+use zk_table::{Names, ReadCall, ReadReply};
 use zk_tree::Tree;
-use zk_txn::{Names, ReadCall, ReadReply};
 
 /// Reads for a connection, and sets its watch.
 fn look<S: Storage>(

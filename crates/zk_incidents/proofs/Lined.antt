@@ -4,7 +4,7 @@ use Rattle.std.specs.Borrow.{Bor}
 use Rattle.zk_json.specs.Times.{AppendsTime}
 use Rattle.zk_newer_records.specs.declared.newer_record.Encoding.{Encoding}
 use Rattle.zk_newer_records.specs.declared.newer_record.NewerRecord.{NewerRecord}
-use Rattle.zk_txn.specs.declared.txn.Txn.{Txn}
+use Rattle.zk_table.specs.declared.txn.Txn.{Txn}
 use Rattle.zk_format.specs.Spelling.{id_digits}
 use Rattle.zk_incidents.specs.Histories.{AppendsLineBy, entry_text, expiry_of, head_text, op_word}
 

@@ -12,12 +12,12 @@ use Rattle.zk_table.specs.Multis.{nodes_after}
 use Rattle.zk_table.specs.Operations.{without_all}
 use Rattle.zk_table.specs.States.{NodeMap, State}
 use Rattle.zk_table.specs.Steps.{step_by}
-use Rattle.zk_txn.specs.Parts.{is_error}
-use Rattle.zk_txn.specs.declared.sub.Sub.{Sub}
-use Rattle.zk_txn.specs.declared.sub.Sub.TheVariants as subs
-use Rattle.zk_txn.specs.declared.txn.Op.{Op}
-use Rattle.zk_txn.specs.declared.txn.Op.TheVariants as ops
-use Rattle.zk_txn.specs.declared.txn.Txn.{Txn}
+use Rattle.zk_table.specs.Parts.{is_error}
+use Rattle.zk_table.specs.declared.sub.Sub.{Sub}
+use Rattle.zk_table.specs.declared.sub.Sub.TheVariants as subs
+use Rattle.zk_table.specs.declared.txn.Op.{Op}
+use Rattle.zk_table.specs.declared.txn.Op.TheVariants as ops
+use Rattle.zk_table.specs.declared.txn.Txn.{Txn}
 
 -- ---- operations that touch no node
 

@@ -8,9 +8,9 @@ use Rattle.zk_newer_records.specs.declared.newer_record.Encoding.{Encoding}
 use Rattle.zk_newer_records.specs.declared.newer_record.Encoding.TheVariants as forms
 use Rattle.zk_newer_records.specs.declared.newer_record.NewerRecord.{NewerRecord}
 use Rattle.zk_json.specs.Times.{IsTimeText}
-use Rattle.zk_txn.specs.declared.txn.Op.{Op}
-use Rattle.zk_txn.specs.declared.txn.Op.TheVariants as ops
-use Rattle.zk_txn.specs.declared.txn.Txn.{Txn}
+use Rattle.zk_table.specs.declared.txn.Op.{Op}
+use Rattle.zk_table.specs.declared.txn.Op.TheVariants as ops
+use Rattle.zk_table.specs.declared.txn.Txn.{Txn}
 use Rattle.zk_incidents.specs.Owners.{Owned, owned_after, touched}
 use Rattle.zk_incidents.specs.Within.{is_within}
 use Rattle.zk_incidents.specs.declared.history_fold.History.{History}

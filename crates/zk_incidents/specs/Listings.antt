@@ -6,8 +6,8 @@ use Rattle.zk_incidents.specs.Owners.{Owned, closed, owned_after, touched}
 use Rattle.zk_newer_records.specs.declared.newer_record.NewerRecord.{NewerRecord}
 use Rattle.zk_table.specs.States.{State, owned_by}
 use Rattle.zk_table.specs.Steps.{step}
-use Rattle.zk_txn.specs.declared.txn.Op.{Op}
-use Rattle.zk_txn.specs.declared.txn.Op.TheVariants as ops
+use Rattle.zk_table.specs.declared.txn.Op.{Op}
+use Rattle.zk_table.specs.declared.txn.Op.TheVariants as ops
 
 abbrev pub after : State → NewerRecord → State
 after state newer = (step state newer.txn).0

@@ -9,11 +9,11 @@ use Rattle.zk_newer_records.specs.declared.newer_record.Encoding.{Encoding}
 use Rattle.zk_newer_records.specs.declared.newer_record.Encoding.TheVariants as forms
 use Rattle.zk_newer_records.specs.declared.newer_record.NewerRecord.{NewerRecord}
 use Rattle.zk_table.specs.States.{path_cmp}
-use Rattle.zk_txn.specs.Parts.{is_error}
-use Rattle.zk_txn.specs.declared.sub.Sub.{Sub}
-use Rattle.zk_txn.specs.declared.sub.Sub.TheVariants as subs
-use Rattle.zk_txn.specs.declared.txn.Op.{Op}
-use Rattle.zk_txn.specs.declared.txn.Op.TheVariants as ops
+use Rattle.zk_table.specs.Parts.{is_error}
+use Rattle.zk_table.specs.declared.sub.Sub.{Sub}
+use Rattle.zk_table.specs.declared.sub.Sub.TheVariants as subs
+use Rattle.zk_table.specs.declared.txn.Op.{Op}
+use Rattle.zk_table.specs.declared.txn.Op.TheVariants as ops
 use Rattle.zk_incidents.specs.Writes.{written}
 
 -- paths in order, each with the session that owns its node

@@ -8,7 +8,7 @@ use zk_format::{push_id, push_quoted};
 use zk_json::push_time;
 use zk_newer_records::{Encoding, NewerRecord};
 use zk_path::NoMemory;
-use zk_txn::{Op, Txn};
+use zk_table::{Op, Txn};
 
 /// The word of a create, by its encoding.
 fn create_word(form: &Encoding) -> &'static str

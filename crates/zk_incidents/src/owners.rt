@@ -10,8 +10,7 @@ use std::collections::BTreeMap;
 use std::marker::Model;
 use zk_newer_records::{Encoding, NewerRecord};
 use zk_path::{NoMemory, Path};
-use zk_table::hold_error;
-use zk_txn::{Op, Sub};
+use zk_table::{Op, Sub, hold_error};
 
 /// The sessions that own ephemeral nodes, by path, as far as the records so far show.
 #[derive(Drop)]

@@ -2,12 +2,11 @@
 ghost use Rattle.std.specs.Prelude.{◌≡◌, ◌++◌, ◌∷◌, [], IfOk, OnOk, map};
 ghost use Rattle.std.specs.List.{flat_map};
 ghost use Rattle.zk_incidents.specs.Writes.{written, written_part};
-ghost use Rattle.zk_txn.specs.declared.txn.Op.TheVariants as ops;
+ghost use Rattle.zk_table.specs.declared.txn.Op.TheVariants as ops;
 
 use std::alloc::Global;
 use zk_path::{NoMemory, Path};
-use zk_table::hold_error;
-use zk_txn::{Op, Sub};
+use zk_table::{Op, Sub, hold_error};
 
 /// The paths of the nodes that an operation creates, changes or deletes, one for each write.
 pub(crate) fn written<'a>(alloc: Global, op: &'a Op) -> Result<Vec<&'a str>, NoMemory>

@@ -14,12 +14,12 @@ use Rattle.json.proofs.Printed.Trees.{value-json_tokens}
 use Rattle.zk_acl.specs.declared.acl.Acl.{Acl}
 use Rattle.zk_acl.specs.declared.stat.Stat.{Stat}
 use Rattle.zk_path.specs.declared.memory.NoMemory.{NoMemory}
-use Rattle.zk_txn.specs.declared.node.Node.{Node}
-use Rattle.zk_txn.specs.declared.sub.Sub.{Sub}
-use Rattle.zk_txn.specs.declared.sub.Sub.TheVariants as subs
-use Rattle.zk_txn.specs.declared.txn.Op.{Op}
-use Rattle.zk_txn.specs.declared.txn.Op.TheVariants as ops
-use Rattle.zk_txn.specs.declared.txn.Txn.{Txn}
+use Rattle.zk_table.specs.declared.node.Node.{Node}
+use Rattle.zk_table.specs.declared.sub.Sub.{Sub}
+use Rattle.zk_table.specs.declared.sub.Sub.TheVariants as subs
+use Rattle.zk_table.specs.declared.txn.Op.{Op}
+use Rattle.zk_table.specs.declared.txn.Op.TheVariants as ops
+use Rattle.zk_table.specs.declared.txn.Txn.{Txn}
 use Rattle.zk_json.specs.Changes.{AppendsChange, AppendsChangeLine, IsChange, IsLast, IsSide, change_of, fields_of_change, last_fields, last_of}
 use Rattle.zk_json.specs.Incidents.{change_fields, count_of, history_of}
 use Rattle.zk_json.specs.Json.{AppendsLineOf, Fields, acl_entry_fields, acl_entry_of, acl_of, data_of, items_of, members_of, object_of, strings_of, text_by, text_of}

@@ -10,7 +10,7 @@ use Rattle.json.specs.Tree.{json_tokens, items_tokens, members_tokens}
 use Rattle.zk_acl.specs.declared.stat.Stat.{Stat}
 use Rattle.zk_path.specs.declared.memory.NoMemory.{NoMemory}
 use Rattle.zk_json.specs.Times.{AppendsTime, IsTimeText}
-use Rattle.zk_txn.specs.declared.node.Node.{Node}
+use Rattle.zk_table.specs.declared.node.Node.{Node}
 use Rattle.zk_json.specs.Changes.{AppendsChange, AppendsLast, AppendsSide, change_of, fields_of_change, last_of}
 use Rattle.zk_json.specs.declared.changes.LastChange.{LastChange}
 use Rattle.zk_json.specs.Json.{Fields, array_of, fields_tokens, items_of, members_of, object_of, text_by}

@@ -5,7 +5,7 @@ use Rattle.json.specs.Token.{Token}
 use Rattle.json.specs.Tree.{json_tokens}
 use Rattle.zk_acl.specs.declared.stat.Stat.{Stat}
 use Rattle.zk_json.specs.Times.{IsTimeText}
-use Rattle.zk_txn.specs.declared.node.Node.{Node}
+use Rattle.zk_table.specs.declared.node.Node.{Node}
 use Rattle.zk_json.specs.Json.{Fields, IsLineOf, id_of, object_of}
 use Rattle.zk_json.specs.Nodes.{node_of}
 use Rattle.zk_json.specs.declared.changes.Held.{Held}

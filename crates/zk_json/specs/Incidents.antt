@@ -2,7 +2,7 @@
 use Rattle.std.specs.Prelude.{◌≡◌, ℕ, Bool, List, [], ◌∷◌, ◌++◌, codes, decimal}
 use Rattle.json.specs.Json.{Json, boolean, number, string}
 use Rattle.zk_json.specs.Times.{IsTimeText}
-use Rattle.zk_txn.specs.declared.txn.Txn.{Txn}
+use Rattle.zk_table.specs.declared.txn.Txn.{Txn}
 use Rattle.zk_json.specs.Json.{Fields, IsLineOf, object_of, strings_of}
 use Rattle.zk_json.specs.Records.{record_fields}
 

@@ -3,7 +3,7 @@ use Rattle.std.specs.Prelude.{◌≡◌, ℕ, List, [], ◌∷◌, ◌++◌, cod
 use Rattle.json.specs.Json.{Json, string}
 use Rattle.zk_acl.specs.declared.stat.Stat.{Stat}
 use Rattle.zk_json.specs.Times.{IsTimeText}
-use Rattle.zk_txn.specs.declared.node.Node.{Node}
+use Rattle.zk_table.specs.declared.node.Node.{Node}
 use Rattle.zk_json.specs.Json.{Fields, acl_of, content_fields, id_of, IsLineOf, number_of, object_of}
 
 -- Programmer's Guide, "ZooKeeper Stat Structure": when the node was created and changed, with the texts of the times

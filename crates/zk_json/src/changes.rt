@@ -11,7 +11,7 @@ use crate::nodes::push_node;
 use crate::records::time_text;
 use zk_acl::Stat;
 use zk_path::{NoMemory, Path};
-use zk_txn::Node;
+use zk_table::Node;
 
 /// A node with its stat.
 #[derive(Clone, Copy, Debug)]

@@ -10,7 +10,7 @@ use base64::engine::general_purpose::STANDARD;
 use std::str;
 use zk_acl::{Acl, Acls};
 use zk_path::NoMemory;
-use zk_txn::Content;
+use zk_table::Content;
 
 /// Appends a content in base64.
 fn push_base64(json: &mut JsonText, content: &Option<Content>) -> Result<(), NoMemory>

@@ -11,7 +11,7 @@ use crate::fields::{push_boolean_field, push_count_field, push_text_field};
 use crate::json_text::{JsonText, push_text_line};
 use crate::records::{push_record_fields, time_text};
 use zk_path::NoMemory;
-use zk_txn::Txn;
+use zk_table::Txn;
 
 /// Appends the items of an array of strings.
 fn push_strings(json: &mut JsonText, texts: &[&str]) -> Result<(), NoMemory>

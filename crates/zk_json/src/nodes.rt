@@ -11,7 +11,7 @@ use crate::json_text::{JsonText, push_text_line};
 use crate::records::time_text;
 use zk_acl::Stat;
 use zk_path::{NoMemory, Path};
-use zk_txn::Node;
+use zk_table::Node;
 
 /// Appends the fields of a stat that say when the node was created and changed.
 fn push_change_fields(

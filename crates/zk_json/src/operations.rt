@@ -11,7 +11,7 @@ use crate::fields::{push_boolean_field, push_number_field, push_text_field};
 use crate::json_text::JsonText;
 use zk_acl::Acls;
 use zk_path::{NoMemory, Path};
-use zk_txn::{Content, Op, Sub};
+use zk_table::{Content, Op, Sub};
 
 /// Appends the fields of an operation.
 pub(crate) fn push_op_fields(json: &mut JsonText, op: &Op) -> Result<(), NoMemory>

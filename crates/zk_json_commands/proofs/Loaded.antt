@@ -11,7 +11,7 @@ use Rattle.zk_records.specs.declared.sink.Sink.{Sink}
 use Rattle.zk_table.specs.Histories.{state_after}
 use Rattle.zk_table.specs.States.{State}
 use Rattle.zk_table.specs.Steps.{step}
-use Rattle.zk_txn.specs.declared.txn.Txn.{Txn}
+use Rattle.zk_table.specs.declared.txn.Txn.{Txn}
 use Rattle.zk_json_commands.specs.Logs.{OutputsSuch}
 
 -- the text was written

@@ -7,8 +7,8 @@ use Rattle.zk_json.specs.Nodes.{IsNodeLine}
 use Rattle.zk_table.specs.States.{NodeMap, children_of}
 use Rattle.zk_tree.specs.Entries.{entries_of, lent}
 use Rattle.zk_tree.specs.declared.entry.Entry.{Entry}
-use Rattle.zk_txn.specs.Nodes.{stat_with}
-use Rattle.zk_txn.specs.declared.node.Node.{Node}
+use Rattle.zk_table.specs.Nodes.{stat_with}
+use Rattle.zk_table.specs.declared.node.Node.{Node}
 use Rattle.zk_json_commands.specs.Lines.{AppendsLines, AreLines}
 use Rattle.zk_json_commands.specs.Nodes.{AppendsEntryLine, IsEntryLine, IsLine}
 

@@ -17,7 +17,7 @@ use Rattle.zk_json_commands.specs.Lines.{AppendsLines, AreLines}
 use Rattle.zk_path.specs.declared.memory.NoMemory.{NoMemory}
 use Rattle.zk_records.specs.declared.sink.Sink.{Sink}
 use Rattle.zk_table.specs.States.{NodeMap, State, stat_of}
-use Rattle.zk_txn.specs.declared.node.Node.{Node}
+use Rattle.zk_table.specs.declared.node.Node.{Node}
 use Rattle.std.specs.List.{filter}
 
 -- ---- a line

@@ -12,7 +12,7 @@ use Rattle.zk_log_commands.specs.Writing.{LeavesSink}
 use Rattle.zk_path.specs.declared.memory.NoMemory.{NoMemory}
 use Rattle.zk_records.specs.declared.sink.Sink.{Sink}
 use Rattle.zk_table.specs.Histories.{tree_of}
-use Rattle.zk_txn.specs.declared.txn.Txn.{Txn}
+use Rattle.zk_table.specs.declared.txn.Txn.{Txn}
 use Rattle.zk_json.specs.Json.{IsLineOf, object_of}
 use Rattle.zk_json_commands.specs.States.{AreTreeLines, ending_fields}
 

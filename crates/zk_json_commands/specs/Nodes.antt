@@ -4,8 +4,8 @@ use Rattle.std.specs.FinMap.{entries}
 use Rattle.zk_json.specs.Nodes.{AppendsNodeLine, IsNodeLine}
 use Rattle.zk_table.specs.States.{NodeMap, stat_of}
 use Rattle.zk_tree.specs.declared.entry.Entry.{Entry}
-use Rattle.zk_txn.specs.Nodes.{stat_with}
-use Rattle.zk_txn.specs.declared.node.Node.{Node}
+use Rattle.zk_table.specs.Nodes.{stat_with}
+use Rattle.zk_table.specs.declared.node.Node.{Node}
 use Rattle.zk_json_commands.specs.Lines.{AreLines}
 
 -- the line of a node of a tree

@@ -12,9 +12,9 @@ use zk_acl::Stat;
 use zk_incidents::Scope;
 use zk_json::{Held, LastChange, push_change_line};
 use zk_path::{NoMemory, Path};
+use zk_table::Node;
 use zk_tree::Tree;
 use zk_tree_changes::{LastChanges, Paths, Stamp, differ_at};
-use zk_txn::Node;
 
 /// Appends a line for each node of a scope that differs between two trees, in order of path.
 #[tactic(auto, unfolding(zk_tree_changes::specs::Differences::differing))]

@@ -6,8 +6,8 @@ use Rattle.std.specs.Ordering.{int_eq}
 use Rattle.std.proofs.lemmas.Bool.Decides.{Decides-int_eq}
 use Rattle.zk_acl.specs.declared.acl.Acl.{Acl}
 use Rattle.zk_jute.specs.declared.bodies.CreateTxnV0.{CreateTxnV0}
-use Rattle.zk_txn.specs.declared.txn.Op.{Op}
-use Rattle.zk_txn.specs.declared.txn.Op.TheVariants as ops
+use Rattle.zk_table.specs.declared.txn.Op.{Op}
+use Rattle.zk_table.specs.declared.txn.Op.TheVariants as ops
 use Rattle.zk_records.specs.Records.{int, ustring, acl_vector, kind_of, body_of, create_old_body, IsCreateOld, IsOp, EndsByItself}
 use Rattle.zk_jute.specs.Reading.{◌>>=◌, number_at, acl_at, vector_at, set_acl_at, made_of, create_op, old_create_op, with_count, ended_or_counted, created_at, set_data_op, op_at}
 use Rattle.std.proofs.lemmas.List.{append-nil}

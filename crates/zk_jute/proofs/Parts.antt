@@ -5,8 +5,8 @@ use Rattle.std.specs.Int.{w32}
 use Rattle.std.specs.Ordering.{int_eq}
 use Rattle.std.proofs.lemmas.Bool.Decides.{Decides-int_eq}
 use Rattle.std.proofs.lemmas.List.{append-nil}
-use Rattle.zk_txn.specs.declared.sub.Sub.{Sub}
-use Rattle.zk_txn.specs.declared.sub.Sub.TheVariants as subs
+use Rattle.zk_table.specs.declared.sub.Sub.{Sub}
+use Rattle.zk_table.specs.declared.sub.Sub.TheVariants as subs
 use Rattle.zk_jute.specs.declared.multis.PartKind.{PartKind}
 use Rattle.zk_jute.specs.declared.multis.PartKind.TheVariants as parts
 use Rattle.zk_records.specs.Records.{int, ustring, vector, part_kind_of, part_body_of, part_of, IsShort, AreElements, IsSub, IsPart}

@@ -1,7 +1,7 @@
 -- Laws of records.
 use Rattle.std.specs.Prelude.{◌≡◌, ◌⊎◌, ℕ, List, [], ◌++◌, length}
 use Rattle.zk_records.specs.Records.{IsRecordOf, IsOldCreate}
-use Rattle.zk_txn.specs.declared.txn.Txn.{Txn}
+use Rattle.zk_table.specs.declared.txn.Txn.{Txn}
 
 -- if one record is a proper prefix of another, the shorter is a 3.3 create, and the longer is the
 -- same with four more bytes

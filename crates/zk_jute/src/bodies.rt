@@ -9,7 +9,7 @@ use crate::fields::{boolean, content, int, path};
 use std::alloc::Global;
 use zk_acl::Acls;
 use zk_path::Path;
-use zk_txn::{Content, Op, Sub};
+use zk_table::{Content, Op, Sub};
 
 /// `CreateTxnV0`, the prefix of `CreateTxn`.
 #[derive(Debug, Drop)]

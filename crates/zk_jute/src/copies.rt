@@ -3,7 +3,7 @@ ghost use Rattle.zk_jute.specs.Archives.{IsEnd};
 
 use std::alloc::Global;
 use zk_path::NoMemory;
-use zk_txn::Txn;
+use zk_table::Txn;
 
 /// The number of values that are kept when older ones are dropped.
 const KEPT: usize = 1024;

@@ -8,7 +8,7 @@ use bytes::Buf;
 use std::alloc::Global;
 use zk_acl::Text;
 use zk_path::Path;
-use zk_txn::Content;
+use zk_table::Content;
 
 /// Four bytes, in two's complement.
 pub fn int(input: &mut &[u8]) -> Result<i32, JuteFault>

@@ -8,7 +8,7 @@ use crate::fields::{count, counted, int, path};
 use std::alloc::Global;
 use zk_acl::Acls;
 use zk_records::kinds;
-use zk_txn::{Sub, Subs};
+use zk_table::{Sub, Subs};
 
 /// The operation of a part.
 #[derive(Clone, Copy, Debug)]

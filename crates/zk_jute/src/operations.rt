@@ -10,7 +10,7 @@ use crate::multis::parts;
 use std::alloc::Global;
 use zk_acl::Acls;
 use zk_records::kinds;
-use zk_txn::Op;
+use zk_table::Op;
 
 /// `SetACLTxn`.
 #[tactic(auto, unfolding(crate::specs::Reading::set_acl_at))]

@@ -3,7 +3,7 @@ use crate::txns::Txns;
 use std::alloc::Global;
 use std::marker::Model;
 use zk_path::NoMemory;
-use zk_txn::Txn;
+use zk_table::Txn;
 
 /// A borrowed range of an [`Archive`](crate::Archive).
 #[derive(Debug, Drop)]
@@ -17,7 +17,7 @@ pub struct Span<'a> {
 impl<'a> Model for Span<'a> {
     ghost use Rattle.std.specs.Prelude.{List};
     ghost use Rattle.zk_jute.specs.Archives.{IsEnd};
-    ghost use Rattle.zk_txn.specs.declared.txn.Txn.{Txn};
+    ghost use Rattle.zk_table.specs.declared.txn.Txn.{Txn};
 
     ghost Value = { List Txn };
 

@@ -1,5 +1,5 @@
 use std::marker::Model;
-use zk_txn::Txn;
+use zk_table::Txn;
 
 /// Transactions as values, borrowed or owned.
 #[derive(Debug, Drop)]
@@ -16,7 +16,7 @@ enum Values<'a> {
 /// Contracts see the list of the transactions.
 impl<'a> Model for Txns<'a> {
     ghost use Rattle.std.specs.Prelude.{List};
-    ghost use Rattle.zk_txn.specs.declared.txn.Txn.{Txn};
+    ghost use Rattle.zk_table.specs.declared.txn.Txn.{Txn};
 
     ghost Value = { List Txn };
 

@@ -20,9 +20,9 @@ use Rattle.zk_request_syntax.proofs.PartTexts.{whole_part}
 use Rattle.zk_request_syntax.proofs.RequestTexts.{whole_request}
 use Rattle.zk_format.specs.Listings.{IsListedPath}
 use Rattle.zk_format.specs.Spelling.{quoted}
-use Rattle.zk_txn.specs.Replies.{path_read}
-use Rattle.zk_txn.specs.declared.read.ReadCall.{ReadCall}
-use Rattle.zk_txn.specs.declared.read.ReadCall.TheVariants as calls
+use Rattle.zk_table.specs.Replies.{path_read}
+use Rattle.zk_table.specs.declared.read.ReadCall.{ReadCall}
+use Rattle.zk_table.specs.declared.read.ReadCall.TheVariants as calls
 use Rattle.zk_line_protocol.specs.ParsedLines.{behind_word, proof_in, synced_in, proved_in, said_by_request, said_by_lookup, or_said, said_in_text, or_part, said_in_multi_text}
 use Rattle.zk_line_protocol.specs.Spelled.{IsWrite, SpellsProof, LinesSay, LinesSayInMulti}
 use Rattle.zk_line_protocol.specs.declared.parsed_line.ParsedLine.{ParsedLine}

@@ -27,11 +27,11 @@ use Rattle.zk_line_protocol.specs.Tellings.{wish_of_request, wish_of_call}
 use Rattle.zk_requests.specs.declared.call.Part.{Part}
 use Rattle.zk_requests.specs.declared.call.Request.{Request}
 use Rattle.zk_requests.specs.declared.call.Request.TheVariants as requests
-use Rattle.zk_txn.specs.Codes.{bad_arguments, session_expired}
-use Rattle.zk_txn.specs.declared.read.ReadCall.{ReadCall}
-use Rattle.zk_txn.specs.declared.read.ReadReply.{ReadReply}
-use Rattle.zk_txn.specs.declared.read.ReadReply.TheVariants as replies
-use Rattle.zk_txn.specs.declared.result.TxnResult.{TxnResult}
+use Rattle.zk_table.specs.Codes.{bad_arguments, session_expired}
+use Rattle.zk_table.specs.declared.read.ReadCall.{ReadCall}
+use Rattle.zk_table.specs.declared.read.ReadReply.{ReadReply}
+use Rattle.zk_table.specs.declared.read.ReadReply.TheVariants as replies
+use Rattle.zk_table.specs.declared.result.TxnResult.{TxnResult}
 
 -- ---- the state of a connection
 

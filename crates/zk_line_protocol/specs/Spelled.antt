@@ -10,7 +10,7 @@ use Rattle.zk_request_syntax.specs.declared.lookups.Lookup.TheVariants as lookup
 use Rattle.zk_request_syntax.specs.RequestLines.{SpellsRequest, SpellsLookup, SpellsPart}
 use Rattle.zk_format.specs.Listings.{IsListedPath}
 use Rattle.zk_format.specs.Spelling.{quoted}
-use Rattle.zk_txn.specs.declared.read.ReadCall.{ReadCall}
+use Rattle.zk_table.specs.declared.read.ReadCall.{ReadCall}
 use Rattle.zk_line_protocol.specs.ParsedLines.{said_in_text, said_in_multi_text}
 use Rattle.zk_line_protocol.specs.declared.parsed_line.ParsedLine.TheVariants as saids
 use Rattle.zk_line_protocol.specs.declared.parsed_line.ParsedMultiLine.TheVariants as insides

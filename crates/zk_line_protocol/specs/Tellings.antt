@@ -15,11 +15,11 @@ use Rattle.zk_requests.specs.declared.call.Request.TheVariants as requests
 use Rattle.zk_request_syntax.specs.ReplyLines.{refusal_text, reply_text}
 use Rattle.zk_format.specs.Reports.{part_answer}
 use Rattle.zk_format.specs.Spelling.{quoted, stat_text, id_digits}
-use Rattle.zk_txn.specs.declared.read.ReadCall.{ReadCall}
-use Rattle.zk_txn.specs.declared.read.ReadCall.TheVariants as calls
-use Rattle.zk_txn.specs.declared.read.ReadReply.{ReadReply}
-use Rattle.zk_txn.specs.declared.read.ReadReply.TheVariants as replies
-use Rattle.zk_txn.specs.declared.result.TxnResult.{TxnResult}
+use Rattle.zk_table.specs.declared.read.ReadCall.{ReadCall}
+use Rattle.zk_table.specs.declared.read.ReadCall.TheVariants as calls
+use Rattle.zk_table.specs.declared.read.ReadReply.{ReadReply}
+use Rattle.zk_table.specs.declared.read.ReadReply.TheVariants as replies
+use Rattle.zk_table.specs.declared.result.TxnResult.{TxnResult}
 
 -- ---- the expected kind of reply
 

@@ -15,7 +15,7 @@ use zk_machine::ChangeKind;
 use zk_path::{NoMemory, Path};
 use zk_request_syntax::{push_refusal, push_reply};
 use zk_requests::clamp;
-use zk_txn::{PartResult, ReadReply, TxnResult};
+use zk_table::{PartResult, ReadReply, TxnResult};
 
 /// Appends an event: `event KIND PATH`.
 pub fn push_event(page: &mut String, kind: ChangeKind, path: &Path) -> Result<(), NoMemory>

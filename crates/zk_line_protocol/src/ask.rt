@@ -1,7 +1,7 @@
 use crate::ExpectedReply;
 use zk_acl::Ids;
 use zk_requests::Request;
-use zk_txn::ReadCall;
+use zk_table::ReadCall;
 
 /// A line's request to the service.
 #[derive(Debug, Drop)]

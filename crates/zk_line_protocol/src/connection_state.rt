@@ -12,8 +12,8 @@ use std::alloc::Global;
 use zk_acl::Ids;
 use zk_path::NoMemory;
 use zk_requests::Request;
-use zk_txn::codes::{BAD_ARGUMENTS, SESSION_EXPIRED};
-use zk_txn::{ReadReply, TxnResult};
+use zk_table::codes::{BAD_ARGUMENTS, SESSION_EXPIRED};
+use zk_table::{ReadReply, TxnResult};
 
 /// The state of a connection between two lines.
 ///

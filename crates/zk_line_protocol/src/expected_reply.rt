@@ -3,7 +3,7 @@ ghost use Rattle.zk_line_protocol.specs.Tellings.{wish_of_request, wish_of_call}
 
 use zk_path::Path;
 use zk_requests::Request;
-use zk_txn::ReadCall;
+use zk_table::ReadCall;
 
 /// The kind of reply that a line expects from the service.
 #[derive(Debug, Drop)]

@@ -11,7 +11,7 @@ use zk_listing::ListCause;
 use zk_path::{NoMemory, Path};
 use zk_request_syntax::Lookup;
 use zk_requests::{Part, Request};
-use zk_txn::ReadCall;
+use zk_table::ReadCall;
 
 /// The content of a line outside a multi.
 #[derive(Debug, Drop)]

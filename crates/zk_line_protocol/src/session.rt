@@ -10,8 +10,8 @@ use std::alloc::Global;
 use zk_acl::Id;
 use zk_path::NoMemory;
 use zk_requests::{Part, Request};
-use zk_txn::ReadCall;
-use zk_txn::codes::BAD_ARGUMENTS;
+use zk_table::ReadCall;
+use zk_table::codes::BAD_ARGUMENTS;
 
 /// A session that a connection has opened.
 #[derive(Debug)]

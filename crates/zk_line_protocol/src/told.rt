@@ -4,7 +4,7 @@ ghost use Rattle.zk_line_protocol.specs.declared.told.ServiceFault.TheVariants a
 use std::marker::Model;
 use zk_machine::Change;
 use zk_path::NoMemory;
-use zk_txn::{ReadReply, TxnResult};
+use zk_table::{ReadReply, TxnResult};
 
 /// The events of a session's watches, in order. Its model is their list.
 #[derive(Debug, Drop)]

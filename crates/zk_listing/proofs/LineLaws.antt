@@ -11,8 +11,8 @@ use Rattle.std.proofs.lemmas.List.Concat.{flat_map-append}
 use Rattle.zk_listing.specs.declared.list_fault.ListCause.{ListCause}
 use Rattle.zk_listing.specs.declared.list_fault.ListCause.TheVariants as causes
 use Rattle.zk_listing.specs.Promises.{BeginsWithNoLine, ReadsLine, AddsLine, BeginsWithListing, IsFirstFault}
-use Rattle.zk_txn.specs.declared.txn.Txn.{Txn}
-use Rattle.zk_txn.specs.declared.txn.Op.{Op}
+use Rattle.zk_table.specs.declared.txn.Txn.{Txn}
+use Rattle.zk_table.specs.declared.txn.Op.{Op}
 use Rattle.zk_format.specs.Spelling.{id_digits}
 use Rattle.zk_format.specs.Listings.{op_text, header_text, line_of, listing_of, IsListed}
 use Rattle.zk_listing.specs.Reading.{both, spaced, past, int_at, id_at, id_from, op_at, Takes, Header, header_at, txn_of, txn_at}

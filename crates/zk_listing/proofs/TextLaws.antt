@@ -16,11 +16,11 @@ use Rattle.zk_acl.specs.declared.acl.Acl.{Acl}
 use Rattle.zk_format.proofs.HexBytes.{both_true, low, ascii, digits_utf8}
 use Rattle.zk_format.specs.Listings.{create_text, create_old_text, delete_text, set_data_text, set_acl_text, check_text, error_text, ephemeral_text, sub_text, part_text, op_text, header_text, line_of, listing_of, IsListed, IsListedAcl, AreListedAcls, IsListedPath, IsListedSub, IsListedOp}
 use Rattle.zk_format.specs.Spelling.{escaped, quoted, content_text, acl_entry_text, acl_text, sixteen_digits, id_digits}
-use Rattle.zk_txn.specs.declared.sub.Sub.{Sub}
-use Rattle.zk_txn.specs.declared.sub.Sub.TheVariants as subs
-use Rattle.zk_txn.specs.declared.txn.Op.{Op}
-use Rattle.zk_txn.specs.declared.txn.Op.TheVariants as ops
-use Rattle.zk_txn.specs.declared.txn.Txn.{Txn}
+use Rattle.zk_table.specs.declared.sub.Sub.{Sub}
+use Rattle.zk_table.specs.declared.sub.Sub.TheVariants as subs
+use Rattle.zk_table.specs.declared.txn.Op.{Op}
+use Rattle.zk_table.specs.declared.txn.Op.TheVariants as ops
+use Rattle.zk_table.specs.declared.txn.Txn.{Txn}
 
 -- ---- parts
 

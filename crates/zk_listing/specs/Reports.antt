@@ -5,8 +5,8 @@ use Rattle.std.specs.FinMap.{entries}
 use Rattle.std.specs.List.{flat_map}
 use Rattle.zk_format.specs.Reports.{node_line}
 use Rattle.zk_format.specs.Spelling.{sixteen_digits, id_digits}
-use Rattle.zk_txn.specs.declared.node.Node.{Node}
-use Rattle.zk_txn.specs.Nodes.{stat_with}
+use Rattle.zk_table.specs.declared.node.Node.{Node}
+use Rattle.zk_table.specs.Nodes.{stat_with}
 use Rattle.zk_table.specs.States.{NodeMap, State, stat_of}
 use Rattle.zk_tree.specs.declared.entry.Entry.{Entry}
 

@@ -1,7 +1,7 @@
 //! Parsing transactions from a listing.
 ghost use Rattle.std.specs.Prelude.{◌≡◌, ◌≢◌, List, IfOk, IfErr, MatchResult, []};
 ghost use Rattle.std.specs.List.{AllByRecursion};
-ghost use Rattle.zk_txn.specs.declared.txn.Txn.{Txn};
+ghost use Rattle.zk_table.specs.declared.txn.Txn.{Txn};
 ghost use Rattle.zk_format.specs.Listings.{IsListed, listing_of};
 ghost use Rattle.zk_listing.specs.Promises.{ReadsLine, AddsLine, BeginsWithListing, IsFirstFault};
 ghost use Rattle.zk_listing.specs.Reading.{Takes, TakesUnit, past, txn_at};
@@ -11,7 +11,7 @@ use crate::list_fault::{ListCause, ListFault};
 use crate::ops::operation;
 use crate::parts::{space, spaced_id, spaced_int, spaced_long};
 use std::alloc::Global;
-use zk_txn::Txn;
+use zk_table::Txn;
 
 /// Returns the transactions of a listing, one per line.
 ///

@@ -8,7 +8,7 @@ ghost use Rattle.std.specs.List.{list_any, position, position_or_len};
 use crate::list_fault::ListCause;
 use crate::{decode_lower, decode_lower_to};
 use std::alloc::Global;
-use zk_txn::Content;
+use zk_table::Content;
 
 /// The number of bytes that are searched together for the end of a field.
 const STEP: usize = 32;

@@ -8,7 +8,7 @@ use crate::parts::{space, spaced_acl, spaced_content, spaced_int, spaced_path};
 use std::alloc::Global;
 use zk_acl::Acls;
 use zk_path::Path;
-use zk_txn::{Content, Op, Sub, Subs};
+use zk_table::{Content, Op, Sub, Subs};
 
 /// The first word of an operation or of a multi's part.
 #[derive(Clone, Copy, Debug)]

@@ -10,7 +10,7 @@ use crate::quoting::quoted;
 use std::alloc::Global;
 use zk_acl::{Acl, Acls, Id, Text};
 use zk_path::{Path, PathFault};
-use zk_txn::Content;
+use zk_table::Content;
 
 /// The path of a node, quoted.
 #[tactic(auto, unfolding(crate::specs::Reading::path_at))]

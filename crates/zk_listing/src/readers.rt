@@ -17,7 +17,7 @@ use crate::quoting::quoted;
 use std::alloc::Global;
 use zk_acl::Acls;
 use zk_path::Path;
-use zk_txn::Content;
+use zk_table::Content;
 
 /// Advances the input unless the field was rejected.
 fn move_on<'a, T>(

@@ -7,7 +7,7 @@ use Rattle.std.specs.Fmt.{signed_decimal}
 use Rattle.zk_cli_args.specs.declared.form.Form.{Form}
 use Rattle.zk_format.specs.Listings.{line_of, op_text}
 use Rattle.zk_json.specs.Times.{AppendsTime, IsTimeText}
-use Rattle.zk_txn.specs.declared.txn.Txn.{Txn}
+use Rattle.zk_table.specs.declared.txn.Txn.{Txn}
 use Rattle.zk_listings.specs.Lines.{AppendsTxnLine, AppendsTxnLines, AreTxnLines, CutsFront, IsTxnLine, front_text}
 
 pub timed : (time : ℤ) (old new : List ℕ) → old ≡ [] → AppendsTime old time new → IsTimeText time new

@@ -9,7 +9,7 @@ use Rattle.zk_listings.specs.declared.tail.Fed.{Fed}
 use Rattle.zk_listings.specs.declared.tail.LogTail.{LogTail}
 use Rattle.zk_cli_args.specs.declared.form.Form.{Form}
 use Rattle.zk_newer_records.specs.declared.newer_record.NewerRecord.{NewerRecord}
-use Rattle.zk_txn.specs.declared.txn.Txn.{Txn}
+use Rattle.zk_table.specs.declared.txn.Txn.{Txn}
 use Rattle.zk_listings.specs.Lines.{AreTxnLines}
 
 abbrev Lists : Form → LogTail → List ℕ → Type 0

@@ -7,7 +7,7 @@ use Rattle.zk_format.specs.Listings.{line_of, op_text}
 use Rattle.zk_format.specs.Spelling.{id_digits}
 use Rattle.zk_json.specs.Records.{IsRecordLine}
 use Rattle.zk_json.specs.Times.{IsTimeText}
-use Rattle.zk_txn.specs.declared.txn.Txn.{Txn}
+use Rattle.zk_table.specs.declared.txn.Txn.{Txn}
 
 -- the fields before the time, and a space after each
 abbrev pub front_text : ℤ → ℤ → ℤ → List ℕ

@@ -12,7 +12,7 @@ use Rattle.zk_log.specs.declared.source.Source.{Source}
 use Rattle.zk_newer_records.specs.declared.newer_record.NewerRecord.{NewerRecord}
 use Rattle.zk_path.specs.declared.memory.NoMemory.{NoMemory}
 use Rattle.zk_records.specs.declared.sink.Sink.{Sink}
-use Rattle.zk_txn.specs.declared.txn.Txn.{Txn}
+use Rattle.zk_table.specs.declared.txn.Txn.{Txn}
 use Rattle.zk_listings.specs.Lines.{AppendsTxnLine, AreTxnLines}
 use Rattle.zk_listings.specs.declared.lines.RecordLines.{RecordLines}
 

@@ -8,7 +8,7 @@ use crate::timed::push_timed_line;
 use zk_format::spell_line;
 use zk_json::push_record_line;
 use zk_path::NoMemory;
-use zk_txn::Txn;
+use zk_table::Txn;
 
 /// Appends a transaction's line, with its newline. An allocation failure may leave a part of it.
 pub fn push_txn_line(text: &mut String, form: Form, txn: &Txn) -> Result<(), NoMemory>

@@ -14,7 +14,7 @@ use zk_directory_files::put_text;
 use zk_log::{LogFault, Sink, Source, load};
 use zk_log_commands::{TURNS, tell_log_fault};
 use zk_path::NoMemory;
-use zk_txn::Txn;
+use zk_table::Txn;
 
 /// The lines of transactions.
 #[tactic(auto, using(crate::proofs::Listed::all_told))]

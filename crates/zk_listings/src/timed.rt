@@ -9,7 +9,7 @@ use std::alloc::Global;
 use zk_format::{push_id, spell_line};
 use zk_json::push_time;
 use zk_path::NoMemory;
-use zk_txn::Txn;
+use zk_table::Txn;
 
 /// Appends the fields before the time, and a space after each.
 fn push_front(text: &mut String, zxid: i64, session: i64, cxid: i32) -> Result<(), NoMemory>

@@ -17,7 +17,7 @@ use Rattle.zk_format.specs.Listings.{listing_of}
 use Rattle.zk_listing.specs.Reports.{line, tree_report}
 use Rattle.zk_table.specs.Histories.{state_after}
 use Rattle.zk_table.specs.States.{State, start_state}
-use Rattle.zk_txn.specs.declared.txn.Txn.{Txn}
+use Rattle.zk_table.specs.declared.txn.Txn.{Txn}
 use Rattle.zk_log_commands.specs.Notices.{begins_within, first_of, within_epoch}
 use Rattle.zk_log_commands.specs.Showing.{shown_of, end_line, show_report}
 use Rattle.zk_log_commands.specs.Telling.{EndsNoted, Loads, Outputs, OutputsNoted, TellsLog, TellsWriting}

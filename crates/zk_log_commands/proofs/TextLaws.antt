@@ -6,7 +6,7 @@ use Rattle.zk_debug.specs.Scripts.{RunsScript}
 use Rattle.zk_listing.specs.declared.script_fault.ScriptFault.{ScriptFault}
 use Rattle.zk_listing.specs.declared.script_fault.ScriptFault.TheVariants as script_faults
 use Rattle.zk_table.specs.States.{State}
-use Rattle.zk_txn.specs.declared.txn.Txn.{Txn}
+use Rattle.zk_table.specs.declared.txn.Txn.{Txn}
 use Rattle.zk_log_commands.specs.Debugs.{RunsFromStart}
 use Rattle.zk_log_commands.specs.Reading.{ReadsAll, TellsRead}
 use Rattle.zk_log_commands.specs.declared.text.TextFault.{TextFault}

@@ -14,7 +14,7 @@ use Rattle.zk_debug.specs.Scripts.{RunsScript}
 use Rattle.zk_listing.specs.declared.script_fault.ScriptFault.{ScriptFault}
 use Rattle.zk_listing.specs.declared.script_fault.ScriptFault.TheVariants as script_faults
 use Rattle.zk_table.specs.States.{State, start_state}
-use Rattle.zk_txn.specs.declared.txn.Txn.{Txn}
+use Rattle.zk_table.specs.declared.txn.Txn.{Txn}
 use Rattle.zk_log_commands.specs.Answering.{OutputsAnswers}
 use Rattle.zk_log_commands.specs.FaultLines.{line_of_log_fault}
 use Rattle.zk_log_commands.specs.Notices.{begins_within}

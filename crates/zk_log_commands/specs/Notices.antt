@@ -2,7 +2,7 @@
 use Rattle.std.specs.Prelude.{ℕ, ℤ, List, [], ◌∷◌, ◌++◌, ◌==◌, Option, Some, None, if◌then◌else◌, codes}
 use Rattle.zk_directory.specs.Continuing.{counter_of}
 use Rattle.zk_format.specs.Spelling.{id_digits}
-use Rattle.zk_txn.specs.declared.txn.Txn.{Txn}
+use Rattle.zk_table.specs.declared.txn.Txn.{Txn}
 
 abbrev pub first_zxid : List Txn → Option ℤ
 first_zxid [] = None

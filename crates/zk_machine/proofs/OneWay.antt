@@ -13,15 +13,15 @@ use Rattle.std.specs.Ordering.{eq_by_cmp, int_eq}
 use Rattle.zk_acl.specs.declared.acl.Acl.{Acl}
 use Rattle.zk_acl.specs.declared.stat.Stat.{Stat}
 use Rattle.zk_path.specs.Paths.{parent_of}
-use Rattle.zk_txn.specs.declared.node.Node.{Node}
-use Rattle.zk_txn.specs.declared.sub.Sub.{Sub}
-use Rattle.zk_txn.specs.declared.sub.Sub.TheVariants as parts
-use Rattle.zk_txn.specs.declared.txn.Op.{Op}
-use Rattle.zk_txn.specs.declared.txn.Op.TheVariants as ops
-use Rattle.zk_txn.specs.declared.txn.Txn.{Txn}
-use Rattle.zk_txn.specs.Codes.{node_exists}
-use Rattle.zk_txn.specs.Parts.{is_error}
-use Rattle.zk_txn.specs.Nodes.{created, with_child, without_child, written, guarded}
+use Rattle.zk_table.specs.declared.node.Node.{Node}
+use Rattle.zk_table.specs.declared.sub.Sub.{Sub}
+use Rattle.zk_table.specs.declared.sub.Sub.TheVariants as parts
+use Rattle.zk_table.specs.declared.txn.Op.{Op}
+use Rattle.zk_table.specs.declared.txn.Op.TheVariants as ops
+use Rattle.zk_table.specs.declared.txn.Txn.{Txn}
+use Rattle.zk_table.specs.Codes.{node_exists}
+use Rattle.zk_table.specs.Parts.{is_error}
+use Rattle.zk_table.specs.Nodes.{created, with_child, without_child, written, guarded}
 use Rattle.zk_table.specs.Multis.{apply_part}
 use Rattle.zk_table.specs.Operations.{done_unless, create_fault, create, delete_fault, delete, missing_fault, set_data, set_acl, without, without_all}
 use Rattle.zk_table.specs.States.{NodeMap, path_cmp, owned_by, changed_found, changed, changed_above, parent_changed, stat_at}

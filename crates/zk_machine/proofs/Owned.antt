@@ -10,9 +10,9 @@ use Rattle.std.specs.List.{list_any}
 use Rattle.std.specs.Option.{option_map}
 use Rattle.std.specs.Ordering.{eq_by_cmp, int_eq}
 use Rattle.zk_path.specs.Paths.{parent_of}
-use Rattle.zk_txn.specs.declared.node.Node.{Node}
-use Rattle.zk_txn.specs.declared.txn.Txn.{Txn}
-use Rattle.zk_txn.specs.Nodes.{without_child}
+use Rattle.zk_table.specs.declared.node.Node.{Node}
+use Rattle.zk_table.specs.declared.txn.Txn.{Txn}
+use Rattle.zk_table.specs.Nodes.{without_child}
 use Rattle.zk_table.specs.Operations.{without, without_all}
 use Rattle.zk_table.specs.States.{NodeMap, path_cmp, owned_by, children_of, changed_above, changed_found}
 use Rattle.zk_table.proofs.Sorted.{to_true}

@@ -7,7 +7,7 @@ use Rattle.std.specs.FinMap as finite
 use Rattle.std.specs.FinMap.{find, is_sorted}
 use Rattle.std.specs.List.{flat_map}
 use Rattle.std.specs.Ordering.{eq_by_cmp}
-use Rattle.zk_txn.specs.declared.node.Node.{Node}
+use Rattle.zk_table.specs.declared.node.Node.{Node}
 use Rattle.zk_path.specs.Paths.{parent_of}
 use Rattle.zk_table.specs.States.{NodeMap, path_cmp, changed_found, changed_above, parent_changed}
 use Rattle.zk_table.proofs.Sorted.{to_true, stands_at, entries_inserted, missing_at_place}

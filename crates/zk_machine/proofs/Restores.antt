@@ -10,7 +10,7 @@ use Rattle.std.specs.FinMap.{find, is_sorted}
 use Rattle.std.specs.Option.{option_map}
 use Rattle.std.specs.Ordering.{eq_by_cmp, int_eq}
 use Rattle.zk_path.specs.Paths.{parent_of}
-use Rattle.zk_txn.specs.declared.node.Node.{Node}
+use Rattle.zk_table.specs.declared.node.Node.{Node}
 use Rattle.zk_table.specs.States.{NodeMap, path_cmp, children_of}
 use Rattle.zk_machine.specs.Preimages.{Preimage}
 use Rattle.zk_machine.specs.Restoring.{must_go, cleared_at, cleared, filled_at, filled, begins_with_slash, all_begin}

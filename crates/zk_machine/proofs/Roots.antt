@@ -2,7 +2,7 @@
 use Rattle.std.proofs.Common.{◌≡◌, pos, Some, sym, ap, ◌∙◌, codes}
 use Rattle.std.specs.FinMap as finite
 use Rattle.std.specs.Option.{option_map}
-use Rattle.zk_txn.specs.declared.node.Node.{Node}
+use Rattle.zk_table.specs.declared.node.Node.{Node}
 use Rattle.zk_table.specs.States.{NodeMap}
 use Rattle.zk_tree.specs.Trees.{owner_at}
 use Rattle.zk_machine.specs.Undoing.{PreimageMap, KeepsRoot, nodes_before}

@@ -1,7 +1,7 @@
 -- Preimages: the nodes before a change, recorded in order.
 use Rattle.std.specs.Prelude.{ℕ, List, [], ◌∷◌, Option, if◌then◌else◌}
 use Rattle.std.specs.FinMap.{insert, contains_key}
-use Rattle.zk_txn.specs.declared.node.Node.{Node}
+use Rattle.zk_table.specs.declared.node.Node.{Node}
 use Rattle.zk_machine.specs.Undoing.{PreimageMap}
 
 abbrev pub Preimage : Type 0

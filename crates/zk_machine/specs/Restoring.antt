@@ -4,7 +4,7 @@ use Rattle.std.specs.Prelude.{ℕ, Bool, true, false, not, ◌&&◌, List, [], �
 use Rattle.std.specs.FinMap.{get, insert, remove}
 use Rattle.std.specs.Ordering.{int_eq}
 use Rattle.zk_path.specs.Paths.{is_slash}
-use Rattle.zk_txn.specs.declared.node.Node.{Node}
+use Rattle.zk_table.specs.declared.node.Node.{Node}
 use Rattle.zk_table.specs.States.{NodeMap}
 use Rattle.zk_machine.specs.Preimages.{Preimage}
 

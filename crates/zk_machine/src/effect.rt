@@ -2,7 +2,7 @@
 
 ghost use Rattle.std.specs.Prelude.{◌≡◌, [], None, IfOk, IsTrue, OnOk};
 ghost use Rattle.std.specs.FinMap as finite;
-ghost use Rattle.zk_txn.specs.Answers.{plain_answer};
+ghost use Rattle.zk_table.specs.Answers.{plain_answer};
 ghost use Rattle.zk_table.specs.Multis.{apply_part, nodes_after, answers_of, first_refusal};
 ghost use Rattle.zk_machine.specs.Changes.{changes_between, part_changes};
 ghost use Rattle.zk_machine.specs.Undoing.{nodes_before};

@@ -34,7 +34,7 @@ pub struct Machine {
 }
 
 impl Model for Machine {
-    ghost use Rattle.zk_txn.specs.contracts.node.Node as node;
+    ghost use Rattle.zk_table.specs.contracts.node.Node as node;
     ghost use Rattle.zk_machine.specs.Machines.{MachineView, machine_code};
     ghost use Rattle.zk_machine.specs.Tables.{state_of};
 

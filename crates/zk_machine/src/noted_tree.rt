@@ -2,7 +2,7 @@ ghost use Rattle.std.specs.Prelude.{◌≡◌, pos, IfOk, OnOk, Some, true, fals
 ghost use Rattle.std.specs.FinMap as finite;
 ghost use Rattle.std.specs.Option.{ForSome};
 ghost use Rattle.zk_path.specs.Paths.{parent_of};
-ghost use Rattle.zk_txn.specs.Nodes.{with_child, without_child};
+ghost use Rattle.zk_table.specs.Nodes.{with_child, without_child};
 ghost use Rattle.zk_table.specs.States.{children_of, parent_changed};
 ghost use Rattle.zk_tree.specs.Trees.{owner_at};
 ghost use Rattle.zk_machine.specs.Changes.{changes_between};

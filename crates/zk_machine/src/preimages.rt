@@ -21,7 +21,7 @@ impl Model for Preimages {
     ghost use Rattle.std.specs.Prelude.{IsTrue};
     ghost use Rattle.std.specs.Coded.{coded_list, coded_option, coded_ℕ};
     ghost use Rattle.std.specs.FinMap as finite;
-    ghost use Rattle.zk_txn.specs.contracts.node.Node as node;
+    ghost use Rattle.zk_table.specs.contracts.node.Node as node;
     ghost use Rattle.zk_table.specs.States.{path_cmp};
     ghost use Rattle.zk_machine.specs.Restoring.{all_begin};
     ghost use Rattle.zk_machine.specs.Undoing.{PreimageMap};

@@ -1,8 +1,8 @@
 //! Replies to reads, by the tree's indexes.
 
 ghost use Rattle.std.specs.Prelude.{◌≡◌, IfOk};
-ghost use Rattle.zk_txn.specs.declared.read.ReadReply.TheVariants as replies;
-ghost use Rattle.zk_txn.specs.Replies.{if_readable};
+ghost use Rattle.zk_table.specs.declared.read.ReadReply.TheVariants as replies;
+ghost use Rattle.zk_table.specs.Replies.{if_readable};
 ghost use Rattle.zk_table.specs.Reads.{names_below, reply_from};
 
 use zk_acl::{Id, Stat};

@@ -3,7 +3,7 @@
 ghost use Rattle.std.specs.Prelude.{◌≡◌, pos, ℕ, List, Option, true, Some, OnOk, IsTrue, IsSome, length, codes, option_map};
 ghost use Rattle.std.specs.FinMap as finite;
 ghost use Rattle.zk_path.specs.Paths.{parent_of};
-ghost use Rattle.zk_txn.specs.declared.node.Node.{Node};
+ghost use Rattle.zk_table.specs.declared.node.Node.{Node};
 ghost use Rattle.zk_table.specs.States.{NodeMap, path_cmp, children_of};
 ghost use Rattle.zk_machine.specs.Restoring.{must_go, cleared_at, cleared, filled_at, filled, all_begin};
 ghost use Rattle.zk_tree.specs.Trees.{owner_at};

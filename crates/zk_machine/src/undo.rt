@@ -31,7 +31,7 @@ impl Drop for Undo {
 
 impl Model for Undo {
     ghost use Rattle.std.specs.Prelude.{◌<◌};
-    ghost use Rattle.zk_txn.specs.contracts.node.Node as node;
+    ghost use Rattle.zk_table.specs.contracts.node.Node as node;
     ghost use Rattle.zk_machine.specs.Undoing.{Undoing, undo_code, IsUndoing};
 
     ghost Value = { Undoing };

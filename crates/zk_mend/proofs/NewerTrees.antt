@@ -23,10 +23,10 @@ use Rattle.zk_table.specs.Operations.{without_all}
 use Rattle.zk_table.specs.States.{NodeMap, State, owned_by, path_cmp}
 use Rattle.zk_table.specs.Steps.{step_by}
 use Rattle.zk_tree.proofs.Lists.{rising_keys, same_itself}
-use Rattle.zk_txn.specs.declared.node.Node.{Node}
-use Rattle.zk_txn.specs.declared.txn.Op.{Op}
-use Rattle.zk_txn.specs.declared.txn.Op.TheVariants as ops
-use Rattle.zk_txn.specs.declared.txn.Txn.{Txn}
+use Rattle.zk_table.specs.declared.node.Node.{Node}
+use Rattle.zk_table.specs.declared.txn.Op.{Op}
+use Rattle.zk_table.specs.declared.txn.Op.TheVariants as ops
+use Rattle.zk_table.specs.declared.txn.Txn.{Txn}
 use Rattle.zk_mend.proofs.Refusals.{passed}
 use Rattle.zk_mend.specs.NewerLogs.{LogPosition, start_place, after_record, is_others, owns, closes_others, txns_in, AllMayCome, MayCome}
 use Rattle.zk_mend.specs.NewerTables.{going, goes_with, newer_close, newer_state, newer_step_by, MendedTreeIsTheServers}

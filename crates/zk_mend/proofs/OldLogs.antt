@@ -19,10 +19,10 @@ use Rattle.zk_newer_records.specs.declared.changes.Change.{Change}
 use Rattle.zk_newer_records.specs.declared.changes.Change.TheVariants as changes
 use Rattle.zk_table.specs.States.{NodeMap}
 use Rattle.zk_table.specs.Steps.{step}
-use Rattle.zk_txn.specs.declared.sub.Sub.{Sub}
-use Rattle.zk_txn.specs.declared.txn.Op.{Op}
-use Rattle.zk_txn.specs.declared.txn.Op.TheVariants as ops
-use Rattle.zk_txn.specs.declared.txn.Txn.{Txn}
+use Rattle.zk_table.specs.declared.sub.Sub.{Sub}
+use Rattle.zk_table.specs.declared.txn.Op.{Op}
+use Rattle.zk_table.specs.declared.txn.Op.TheVariants as ops
+use Rattle.zk_table.specs.declared.txn.Txn.{Txn}
 use Rattle.zk_mend.specs.Mending.{IsMended}
 use Rattle.zk_mend.specs.NewerLogs.{LogPosition, start_place, after_all, after_record, owners_next, newer_entry, txns_in, closes_others, lists_others, AllMayCome, HasNewerEntry, MayCome}
 use Rattle.zk_mend.specs.Telling.{added, told_after, unchanged_told}

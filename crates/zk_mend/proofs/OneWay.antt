@@ -17,7 +17,7 @@ use Rattle.zk_log.specs.declared.loaded.Ending.TheVariants.{Whole, Padding, Torn
 use Rattle.zk_newer_records.proofs.Whole.{newer_ones_are_of_one}
 use Rattle.zk_newer_records.specs.NewerRecords.{newer_record, IsSpelled}
 use Rattle.zk_newer_records.specs.declared.newer_record.NewerRecord.{NewerRecord}
-use Rattle.zk_txn.specs.declared.txn.Txn.{Txn}
+use Rattle.zk_table.specs.declared.txn.Txn.{Txn}
 use Rattle.zk_mend.specs.Mending.{IsMended, IsUnmended, IsUnmendedAt}
 use Rattle.zk_mend.specs.NewerLogs.{LogPosition, start_place, after_all, after_record, newer_entry, txns_in, refusal, IsRefusedRecord, IsMendFault, MayCome, MendStops, Mends}
 use Rattle.zk_mend.specs.declared.fault.MendFault.{MendFault}

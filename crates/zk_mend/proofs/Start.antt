@@ -3,8 +3,8 @@ use Rattle.std.proofs.Common.{◌≡◌, ℕ, pos, ◌+◌, ◌%◌, ◌^◌, �
 use Rattle.std.proofs.lemmas.Cmp.{nat_list_cmp_total}
 use Rattle.std.specs.FinMap as finite
 use Rattle.std.specs.FinMap.{entries, entries-insert, len-entries, len-empty, put}
-use Rattle.zk_txn.specs.declared.node.Node.{Node}
-use Rattle.zk_txn.specs.Nodes.{first_node}
+use Rattle.zk_table.specs.declared.node.Node.{Node}
+use Rattle.zk_table.specs.Nodes.{first_node}
 use Rattle.zk_table.specs.States.{NodeMap, path_cmp, start_state}
 use Rattle.zk_mend.specs.Digests.{node_digest, total, tree_digest}
 use Rattle.zk_mend.specs.Following.{no_owners}

@@ -6,7 +6,7 @@ use Rattle.zk_records.specs.Written.{last_of}
 use Rattle.zk_newer_records.specs.Changes.{owners_of}
 use Rattle.zk_newer_records.specs.NewerRecords.{newer_record}
 use Rattle.zk_newer_records.specs.declared.newer_record.NewerRecord.{NewerRecord}
-use Rattle.zk_txn.specs.declared.txn.Txn.{Txn}
+use Rattle.zk_table.specs.declared.txn.Txn.{Txn}
 use Rattle.zk_table.specs.States.{State}
 use Rattle.zk_table.specs.Steps.{step}
 use Rattle.zk_mend.proofs.Walks.{length-newer_entry}

@@ -3,7 +3,7 @@ use Rattle.std.specs.Prelude.{◌≡◌, ℕ, ℤ, List, length}
 use Rattle.zk_records.specs.Sizes.{capped}
 use Rattle.zk_log.specs.Logs.{IsLogOf}
 use Rattle.zk_log.specs.declared.loaded.Ending.{Ending}
-use Rattle.zk_txn.specs.declared.txn.Txn.{Txn}
+use Rattle.zk_table.specs.declared.txn.Txn.{Txn}
 use Rattle.zk_mend.specs.Mending.{IsMended, IsUnmended}
 use Rattle.zk_mend.specs.Telling.{unchanged_told}
 use Rattle.zk_mend.specs.declared.fault.MendFault.{MendFault}

@@ -21,8 +21,8 @@ use Rattle.zk_newer_records.specs.declared.newer_record.Encoding.TheVariants as 
 use Rattle.zk_newer_records.specs.declared.newer_record.NewerRecord.{NewerRecord}
 use Rattle.zk_table.specs.States.{NodeMap, State, owned_by, start_state}
 use Rattle.zk_table.specs.Steps.{step}
-use Rattle.zk_txn.specs.declared.node.Node.{Node}
-use Rattle.zk_txn.specs.declared.txn.Txn.{Txn}
+use Rattle.zk_table.specs.declared.node.Node.{Node}
+use Rattle.zk_table.specs.declared.txn.Txn.{Txn}
 use Rattle.zk_mend.specs.Telling.{nothing_told, told_after}
 use Rattle.zk_mend.specs.declared.fault.MendFault.{MendFault}
 use Rattle.zk_mend.specs.declared.fault.MendFault.TheVariants as faults

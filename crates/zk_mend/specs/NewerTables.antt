@@ -12,12 +12,12 @@ use Rattle.zk_table.specs.Histories.{tree_of}
 use Rattle.zk_table.specs.Operations.{told, without_all}
 use Rattle.zk_table.specs.States.{NodeMap, State, start_state}
 use Rattle.zk_table.specs.Steps.{step_by}
-use Rattle.zk_txn.specs.Answers.{plain_answer}
-use Rattle.zk_txn.specs.declared.node.Node.{Node}
-use Rattle.zk_txn.specs.declared.result.TxnResult.{TxnResult}
-use Rattle.zk_txn.specs.declared.txn.Op.{Op}
-use Rattle.zk_txn.specs.declared.txn.Op.TheVariants as ops
-use Rattle.zk_txn.specs.declared.txn.Txn.{Txn}
+use Rattle.zk_table.specs.Answers.{plain_answer}
+use Rattle.zk_table.specs.declared.node.Node.{Node}
+use Rattle.zk_table.specs.declared.result.TxnResult.{TxnResult}
+use Rattle.zk_table.specs.declared.txn.Op.{Op}
+use Rattle.zk_table.specs.declared.txn.Op.TheVariants as ops
+use Rattle.zk_table.specs.declared.txn.Txn.{Txn}
 use Rattle.zk_mend.specs.Mending.{IsMended}
 use Rattle.zk_mend.specs.NewerLogs.{owns}
 use Rattle.zk_mend.specs.declared.mended.Mended.{Mended}

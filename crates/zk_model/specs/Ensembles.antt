@@ -26,16 +26,16 @@ use Rattle.zk_model.specs.declared.event.Question.{Question}
 use Rattle.zk_model.specs.declared.fault.EnsembleFault.{EnsembleFault}
 use Rattle.zk_model.specs.declared.fault.EnsembleFault.TheVariants as faults
 use Rattle.zk_model.specs.Refusals.{ensemble_fault_of}
-use Rattle.zk_txn.specs.declared.read.ReadCall.{ReadCall}
-use Rattle.zk_txn.specs.declared.read.ReadCall.TheVariants.{GetData, Exists, GetChildren}
-use Rattle.zk_txn.specs.declared.read.ReadReply.{ReadReply}
-use Rattle.zk_txn.specs.declared.read.ReadReply.TheVariants.{Content, Found, Children, Refused}
-use Rattle.zk_txn.specs.declared.result.TxnResult.{TxnResult}
-use Rattle.zk_txn.specs.declared.txn.Op.{Op}
-use Rattle.zk_txn.specs.declared.txn.Op.TheVariants.{CloseSession}
-use Rattle.zk_txn.specs.declared.txn.Txn.{Txn}
-use Rattle.zk_txn.specs.Codes.{no_node, session_expired}
-use Rattle.zk_txn.specs.Replies.{path_read}
+use Rattle.zk_table.specs.declared.read.ReadCall.{ReadCall}
+use Rattle.zk_table.specs.declared.read.ReadCall.TheVariants.{GetData, Exists, GetChildren}
+use Rattle.zk_table.specs.declared.read.ReadReply.{ReadReply}
+use Rattle.zk_table.specs.declared.read.ReadReply.TheVariants.{Content, Found, Children, Refused}
+use Rattle.zk_table.specs.declared.result.TxnResult.{TxnResult}
+use Rattle.zk_table.specs.declared.txn.Op.{Op}
+use Rattle.zk_table.specs.declared.txn.Op.TheVariants.{CloseSession}
+use Rattle.zk_table.specs.declared.txn.Txn.{Txn}
+use Rattle.zk_table.specs.Codes.{no_node, session_expired}
+use Rattle.zk_table.specs.Replies.{path_read}
 use Rattle.zk_table.specs.Reads.{reply_to}
 use Rattle.zk_table.specs.States.{State, start_state}
 use Rattle.zk_table.specs.Steps.{step}

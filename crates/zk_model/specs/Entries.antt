@@ -7,7 +7,7 @@ use Rattle.zab_epoch.specs.Entries.{txns_of}
 use Rattle.zk_requests.specs.declared.call.Call.{Call}
 use Rattle.zk_prepare.specs.Preparing.{PrepView, StandsFor}
 use Rattle.zk_requests.specs.Requests.{meaning_of}
-use Rattle.zk_txn.specs.declared.txn.Txn.{Txn}
+use Rattle.zk_table.specs.declared.txn.Txn.{Txn}
 use Rattle.zk_table.specs.Histories.{tree_of}
 use Rattle.zk_table.specs.States.{start_state}
 

@@ -10,9 +10,9 @@ use Rattle.zk_records.specs.Sizes.{size_of}
 use Rattle.zk_requests.specs.declared.call.Call.{Call}
 use Rattle.zk_requests.specs.Requests.{within_limit}
 use Rattle.zk_model.specs.Entries.{entry_of}
-use Rattle.zk_txn.specs.Codes.{bad_arguments}
-use Rattle.zk_txn.specs.declared.txn.Op.TheVariants as ops
-use Rattle.zk_txn.specs.declared.txn.Txn.{Txn}
+use Rattle.zk_table.specs.Codes.{bad_arguments}
+use Rattle.zk_table.specs.declared.txn.Op.TheVariants as ops
+use Rattle.zk_table.specs.declared.txn.Txn.{Txn}
 
 below_limit : (size : ℕ) → nat_lt 1048576 size ≡ false → size ≤ 16777216
 below_limit size small = grind (arith, nat_tests)

@@ -1,5 +1,5 @@
 use zab_model::Moved;
-use zk_txn::{ReadReply, TxnResult};
+use zk_table::{ReadReply, TxnResult};
 
 /// The answer to an accepted event.
 #[derive(Debug, Drop)]

@@ -8,7 +8,7 @@ use crate::fault::EnsembleFault;
 use zk_acl::{Acl, Acls, Id, Ids, Stat, Text};
 use zk_path::Path;
 use zk_requests::{Call, Part, Parts, Request};
-use zk_txn::{Content, Names, PartResult, PartResults, ReadCall, ReadReply, TxnResult};
+use zk_table::{Content, Names, PartResult, PartResults, ReadCall, ReadReply, TxnResult};
 
 /// Equality of the values that contracts see.
 pub trait Equals {

@@ -1,6 +1,6 @@
 use zk_acl::Ids;
 use zk_requests::Call;
-use zk_txn::ReadCall;
+use zk_table::ReadCall;
 
 /// A client's read at a server. Servers are numbered from 1.
 #[derive(Debug, Drop)]

@@ -10,7 +10,7 @@ use zk_jute::Span;
 use zk_machine::Machine;
 use zk_path::NoMemory;
 use zk_prepare::{Call, Prep, closing_call};
-use zk_txn::Txn;
+use zk_table::Txn;
 
 /// How many transactions are read at once: older ones are kept as bytes alone.
 const READ_AT_ONCE: usize = 1024;

@@ -5,10 +5,10 @@ use Rattle.std.specs.Int.{w32, w64}
 use Rattle.std.specs.Ordering.{int_eq}
 use Rattle.std.proofs.lemmas.Bool.Decides.{Decides-int_eq}
 use Rattle.std.proofs.lemmas.List.{append-nil}
-use Rattle.zk_txn.specs.declared.txn.Op.{Op}
-use Rattle.zk_txn.specs.declared.txn.Op.TheVariants as ops
-use Rattle.zk_txn.specs.declared.sub.Sub.{Sub}
-use Rattle.zk_txn.specs.declared.sub.Sub.TheVariants as subs
+use Rattle.zk_table.specs.declared.txn.Op.{Op}
+use Rattle.zk_table.specs.declared.txn.Op.TheVariants as ops
+use Rattle.zk_table.specs.declared.sub.Sub.{Sub}
+use Rattle.zk_table.specs.declared.sub.Sub.TheVariants as subs
 use Rattle.zk_jute.specs.declared.bodies.CreateTxn.{CreateTxn}
 use Rattle.zk_jute.specs.declared.fault.JuteFault.{JuteFault}
 use Rattle.zk_records.specs.Records.{long, ustring, vector, kind_of, body_of, IsOp, AreElements, EndsByItself}

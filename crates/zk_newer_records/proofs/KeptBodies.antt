@@ -8,8 +8,8 @@ use Rattle.std.proofs.lemmas.List.{append-nil}
 use Rattle.zk_acl.specs.declared.acl.Acl.{Acl}
 use Rattle.zk_path.specs.Paths.{IsPath, fault_of}
 use Rattle.zk_path.proofs.FaultLaw.{fault_of-IsPath}
-use Rattle.zk_txn.specs.declared.sub.Sub.{Sub}
-use Rattle.zk_txn.specs.declared.sub.Sub.TheVariants as subs
+use Rattle.zk_table.specs.declared.sub.Sub.{Sub}
+use Rattle.zk_table.specs.declared.sub.Sub.TheVariants as subs
 use Rattle.zk_jute.specs.declared.fault.JuteFault.{JuteFault}
 use Rattle.zk_records.specs.Records.{int, long, ustring, buffer, boolean, acl_entry, acl_vector, IsPathText, IsContent, AreAcls, IsCreateOld, IsSub}
 use Rattle.zk_jute.specs.Reading.{◌>>=◌, number_at, boolean_at, made_of, create_part}

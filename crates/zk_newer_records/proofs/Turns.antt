@@ -3,7 +3,7 @@ use Rattle.std.proofs.Common.{◌≡◌, ℕ, zero, suc, ℤ, ◌+◌, ◌<◌, 
 use Rattle.zk_jute.specs.declared.fault.JuteFault.{JuteFault}
 use Rattle.zk_jute.specs.declared.fault.JuteFault.TheVariants as faults
 use Rattle.zk_jute.specs.Reading.{Fails, made_of}
-use Rattle.zk_txn.specs.declared.sub.Sub.{Sub}
+use Rattle.zk_table.specs.declared.sub.Sub.{Sub}
 use Rattle.zk_newer_records.specs.declared.parts.PartEncoding.{PartEncoding}
 use Rattle.zk_newer_records.specs.declared.parts.NewerPart.{NewerPart}
 use Rattle.std.proofs.lemmas.List.{append-nil}

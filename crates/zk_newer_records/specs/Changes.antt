@@ -11,10 +11,10 @@ use Rattle.zk_newer_records.specs.declared.newer_record.Encoding.TheVariants as 
 use Rattle.zk_newer_records.specs.declared.parts.NewerPart.{NewerPart}
 use Rattle.zk_newer_records.specs.declared.parts.PartEncoding.{PartEncoding}
 use Rattle.zk_newer_records.specs.declared.parts.PartEncoding.TheVariants as parts
-use Rattle.zk_txn.specs.declared.txn.Op.{Op}
-use Rattle.zk_txn.specs.declared.txn.Op.TheVariants as ops
-use Rattle.zk_txn.specs.declared.sub.Sub.{Sub}
-use Rattle.zk_txn.specs.declared.sub.Sub.TheVariants as subs
+use Rattle.zk_table.specs.declared.txn.Op.{Op}
+use Rattle.zk_table.specs.declared.txn.Op.TheVariants as ops
+use Rattle.zk_table.specs.declared.sub.Sub.{Sub}
+use Rattle.zk_table.specs.declared.sub.Sub.TheVariants as subs
 use Rattle.zk_newer_records.specs.NewerRecords.{paired}
 
 -- ---- kinds of change

@@ -4,7 +4,7 @@ use Rattle.zk_records.specs.Records.{record_of, IsRecordOf}
 use Rattle.zk_newer_records.specs.Changes.{is_unchanged}
 use Rattle.zk_newer_records.specs.NewerRecords.{IsSpelled, IsNewer, own}
 use Rattle.zk_newer_records.specs.declared.newer_record.NewerRecord.{NewerRecord}
-use Rattle.zk_txn.specs.declared.txn.Txn.{Txn}
+use Rattle.zk_table.specs.declared.txn.Txn.{Txn}
 
 -- a record of 3.4 represents its own transaction, and is what a 3.5 to 3.8 server writes without a
 -- digest

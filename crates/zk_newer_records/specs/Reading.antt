@@ -17,10 +17,10 @@ use Rattle.zk_newer_records.specs.declared.operations.EncodedOp.{EncodedOp}
 use Rattle.zk_newer_records.specs.declared.parts.PartEncoding.{PartEncoding}
 use Rattle.zk_newer_records.specs.declared.parts.PartEncoding.TheVariants as parts
 use Rattle.zk_newer_records.specs.declared.parts.NewerPart.{NewerPart}
-use Rattle.zk_txn.specs.declared.txn.Op.{Op}
-use Rattle.zk_txn.specs.declared.txn.Op.TheVariants as ops
-use Rattle.zk_txn.specs.declared.sub.Sub.{Sub}
-use Rattle.zk_txn.specs.declared.sub.Sub.TheVariants as subs
+use Rattle.zk_table.specs.declared.txn.Op.{Op}
+use Rattle.zk_table.specs.declared.txn.Op.TheVariants as ops
+use Rattle.zk_table.specs.declared.sub.Sub.{Sub}
+use Rattle.zk_table.specs.declared.sub.Sub.TheVariants as subs
 
 -- ---- bodies
 

@@ -12,7 +12,7 @@ use zk_jute::acls::acl_vector;
 use zk_jute::bodies::{CreateTxn, CreateTxnV0};
 use zk_jute::fields::{boolean, content, int, long, path};
 use zk_path::Path;
-use zk_txn::{Content, Sub};
+use zk_table::{Content, Sub};
 
 /// The bytes of a 32-bit number: an error's code, a version or a count.
 const INT: usize = 4;

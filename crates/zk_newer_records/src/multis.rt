@@ -17,7 +17,7 @@ use zk_jute::bodies::{create, set_data};
 use zk_jute::fields::{count, counted, int, long, path};
 use zk_jute::multis::check;
 use zk_jute::{JuteFault, kinds as old};
-use zk_txn::{Op, Sub, Subs};
+use zk_table::{Op, Sub, Subs};
 
 /// A create, encoded as that of a node with a time to live.
 #[tactic(auto, unfolding(crate::specs::Reading::ttl_part_at))]

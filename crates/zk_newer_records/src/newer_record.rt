@@ -6,7 +6,7 @@ ghost use Rattle.zk_newer_records.specs.NewerRecords.{listed_of};
 use crate::parts::PartEncodings;
 use std::marker::Model;
 use zk_path::Path;
-use zk_txn::Txn;
+use zk_table::Txn;
 
 /// The paths in the record of a closed session, modelled as a list.
 #[derive(Debug, Drop)]

@@ -16,7 +16,7 @@ use zk_jute::fields::{count, int, long, path};
 use zk_jute::multis::check;
 use zk_jute::operations::op;
 use zk_jute::{JuteFault, kinds as old};
-use zk_txn::{Op, Sub, Subs};
+use zk_table::{Op, Sub, Subs};
 
 /// An operation and its encoding.
 #[derive(Debug, Drop)]

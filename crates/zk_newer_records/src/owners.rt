@@ -9,7 +9,7 @@ use crate::newer_record::{Encoding, NewerRecord};
 use crate::parts::PartEncoding;
 use std::alloc::Global;
 use zk_path::{NoMemory, Path};
-use zk_txn::{Op, Sub};
+use zk_table::{Op, Sub};
 
 impl NewerRecord {
     /// The containers and the nodes with a time to live that the record creates, with their owners

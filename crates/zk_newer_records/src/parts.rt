@@ -7,7 +7,7 @@ ghost use Rattle.zk_newer_records.specs.NewerRecords.{is_kept};
 
 use crate::changes::{CONTAINER_OWNER, Change, ttl_owner};
 use std::marker::Model;
-use zk_txn::Sub;
+use zk_table::Sub;
 
 /// The encoding of a part of a multi.
 #[derive(Clone, Copy, Debug, PartialEq, Eq)]

@@ -14,7 +14,7 @@ use crate::operations::written;
 use std::alloc::Global;
 use zk_acl::Acls;
 use zk_jute::{JuteFault, txn_header};
-use zk_txn::Txn;
+use zk_table::Txn;
 
 /// The record of these bytes, whether or not a failed multi has its error code.
 #[tactic(auto, unfolding(crate::specs::Reading::spelled_at))]

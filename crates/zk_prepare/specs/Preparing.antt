@@ -2,8 +2,8 @@
 -- but not yet delivered.
 use Rattle.std.specs.Prelude.{◌≡◌, Bool, List, refl}
 use Rattle.std.specs.Coded.{Coded, code_by, coded×, coded_bool}
-use Rattle.zk_txn.specs.declared.node.Node.{Node}
-use Rattle.zk_txn.specs.declared.txn.Txn.{Txn}
+use Rattle.zk_table.specs.declared.node.Node.{Node}
+use Rattle.zk_table.specs.declared.txn.Txn.{Txn}
 use Rattle.zk_table.specs.Histories.{state_after}
 use Rattle.zk_table.specs.States.{State, state_code}
 

@@ -1,5 +1,5 @@
 ghost use Rattle.std.specs.Prelude.{◌≡◌, ◌≤◌, List, [], ◌∷◌, ◌++◌, take, drop, length, true, false, IfOk, OnOk, OnErr};
-ghost use Rattle.zk_txn.specs.declared.txn.Txn.{Txn as Taken};
+ghost use Rattle.zk_table.specs.declared.txn.Txn.{Txn as Taken};
 ghost use Rattle.zk_table.specs.Histories.{state_after};
 ghost use Rattle.zk_table.specs.States.{State};
 ghost use Rattle.zk_table.specs.Steps.{step};
@@ -36,7 +36,7 @@ impl Drop for Prep {
 
 impl Model for Prep {
     ghost use Rattle.std.specs.Prelude.{◌≡◌, false};
-    ghost use Rattle.zk_txn.specs.contracts.node.Node as node;
+    ghost use Rattle.zk_table.specs.contracts.node.Node as node;
     ghost use Rattle.zk_prepare.specs.Preparing.{PrepView, prep_code};
 
     ghost Value = { PrepView };

@@ -11,12 +11,12 @@ use Rattle.zk_acl.specs.declared.stat.Stat.{Stat}
 use Rattle.zk_acl.specs.Access.{allows, fix, read_perm, write_perm, create_perm, delete_perm, admin_perm}
 use Rattle.zk_path.specs.Paths.{has_slash, is_root}
 use Rattle.zk_path.specs.Sequences.{sequence}
-use Rattle.zk_txn.specs.declared.node.Node.{Node}
-use Rattle.zk_txn.specs.declared.sub.Sub.{Sub}
-use Rattle.zk_txn.specs.declared.sub.Sub.TheVariants as subs
-use Rattle.zk_txn.specs.declared.txn.Txn.{Txn}
-use Rattle.zk_txn.specs.Codes.{bad_arguments, no_node, no_auth, bad_version, no_children_for_ephemerals, node_exists, not_empty, invalid_acl}
-use Rattle.zk_txn.specs.Parts.{is_error}
+use Rattle.zk_table.specs.declared.node.Node.{Node}
+use Rattle.zk_table.specs.declared.sub.Sub.{Sub}
+use Rattle.zk_table.specs.declared.sub.Sub.TheVariants as subs
+use Rattle.zk_table.specs.declared.txn.Txn.{Txn}
+use Rattle.zk_table.specs.Codes.{bad_arguments, no_node, no_auth, bad_version, no_children_for_ephemerals, node_exists, not_empty, invalid_acl}
+use Rattle.zk_table.specs.Parts.{is_error}
 use Rattle.zk_table.specs.Multis.{apply_part}
 use Rattle.zk_table.specs.Operations.{done_unless, parent_fault, create_fault, delete_fault, missing_fault}
 use Rattle.zk_table.specs.States.{NodeMap, children_of}

@@ -3,10 +3,10 @@ use Rattle.std.proofs.Common.{◌≡◌, ◌⊎◌, inl, inr, ℤ, true, ◌||�
 use Rattle.std.proofs.lemmas.Bool.{cases_cond}
 use Rattle.zk_records.specs.Records.{record_of}
 use Rattle.zk_records.specs.Sizes.{size_of}
-use Rattle.zk_txn.specs.declared.txn.Op.{Op}
-use Rattle.zk_txn.specs.declared.txn.Op.TheVariants as ops
-use Rattle.zk_txn.specs.declared.txn.Txn.{Txn}
-use Rattle.zk_txn.specs.Codes.{bad_arguments, session_expired}
+use Rattle.zk_table.specs.declared.txn.Op.{Op}
+use Rattle.zk_table.specs.declared.txn.Op.TheVariants as ops
+use Rattle.zk_table.specs.declared.txn.Txn.{Txn}
+use Rattle.zk_table.specs.Codes.{bad_arguments, session_expired}
 use Rattle.zk_table.specs.States.{State}
 use Rattle.zk_requests.specs.declared.call.Call.{Call}
 use Rattle.zk_requests.specs.Requests.{opens, is_open, header_of, asked_on, op_on, op_or_error, within_limit}

@@ -11,11 +11,11 @@ use Rattle.std.specs.Ordering.{eq_by_cmp, int_eq}
 use Rattle.zk_acl.specs.declared.acl.Acl.{Acl}
 use Rattle.zk_acl.specs.declared.stat.Stat.{Stat}
 use Rattle.zk_path.specs.Paths.{parent_of}
-use Rattle.zk_txn.specs.declared.node.Node.{Node}
-use Rattle.zk_txn.specs.declared.sub.Sub.{Sub}
-use Rattle.zk_txn.specs.declared.sub.Sub.TheVariants as subs
-use Rattle.zk_txn.specs.declared.txn.Txn.{Txn}
-use Rattle.zk_txn.specs.Nodes.{created, with_child, without_child, written, guarded}
+use Rattle.zk_table.specs.declared.node.Node.{Node}
+use Rattle.zk_table.specs.declared.sub.Sub.{Sub}
+use Rattle.zk_table.specs.declared.sub.Sub.TheVariants as subs
+use Rattle.zk_table.specs.declared.txn.Txn.{Txn}
+use Rattle.zk_table.specs.Nodes.{created, with_child, without_child, written, guarded}
 use Rattle.zk_table.specs.Multis.{apply_part, nodes_after}
 use Rattle.zk_table.specs.Operations.{done_unless, create, create_fault, delete, delete_fault, set_data, set_acl, missing_fault, without, without_all}
 use Rattle.zk_table.specs.States.{NodeMap, path_cmp, owned_by, stat_at, changed, changed_found, changed_above, parent_changed}

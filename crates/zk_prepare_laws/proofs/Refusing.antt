@@ -5,13 +5,13 @@ use Rattle.std.specs.List.{list_any}
 use Rattle.zk_acl.specs.declared.acl.Acl.{Acl}
 use Rattle.zk_acl.specs.declared.acl.Id.{Id}
 use Rattle.zk_acl.specs.Access.{fix}
-use Rattle.zk_txn.specs.declared.sub.Sub.{Sub}
-use Rattle.zk_txn.specs.declared.sub.Sub.TheVariants as subs
-use Rattle.zk_txn.specs.declared.txn.Op.{Op}
-use Rattle.zk_txn.specs.declared.txn.Op.TheVariants as ops
-use Rattle.zk_txn.specs.declared.txn.Txn.{Txn}
-use Rattle.zk_txn.specs.Codes.{invalid_acl}
-use Rattle.zk_txn.specs.Parts.{is_error}
+use Rattle.zk_table.specs.declared.sub.Sub.{Sub}
+use Rattle.zk_table.specs.declared.sub.Sub.TheVariants as subs
+use Rattle.zk_table.specs.declared.txn.Op.{Op}
+use Rattle.zk_table.specs.declared.txn.Op.TheVariants as ops
+use Rattle.zk_table.specs.declared.txn.Txn.{Txn}
+use Rattle.zk_table.specs.Codes.{invalid_acl}
+use Rattle.zk_table.specs.Parts.{is_error}
 use Rattle.zk_table.specs.Multis.{answers_of}
 use Rattle.zk_table.specs.States.{State}
 use Rattle.zk_table.specs.Steps.{step}

@@ -7,8 +7,8 @@ use Rattle.std.specs.FinMap.{insert, remove, contains_key, nat_cmp-IsAntisymmetr
 use Rattle.std.specs.Int.{w64, cast_unsigned, cast_signed}
 use Rattle.std.specs.Int.RustNames.{FitsSigned}
 use Rattle.zk_acl.specs.declared.acl.Id.{Id}
-use Rattle.zk_txn.specs.declared.txn.Op.{Op}
-use Rattle.zk_txn.specs.declared.txn.Txn.{Txn}
+use Rattle.zk_table.specs.declared.txn.Op.{Op}
+use Rattle.zk_table.specs.declared.txn.Txn.{Txn}
 use Rattle.zk_table.specs.Histories.{tree_of}
 use Rattle.zk_table.specs.States.{State, SessionMap}
 use Rattle.zk_tree.proofs.Kept.{tied, contains_key-insert, contains_key-remove}

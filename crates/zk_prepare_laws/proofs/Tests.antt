@@ -1,7 +1,7 @@
 -- What has passed, where tests in turn give an answer.
 use Rattle.std.proofs.Common.{◌≡◌, ℕ, ℤ, Bool, true, false, List, Option, Some, None, is_none, cond, Result, Ok, Err, refl}
 use Rattle.zk_path.specs.Paths.{fault_of}
-use Rattle.zk_txn.specs.Codes.{bad_arguments}
+use Rattle.zk_table.specs.Codes.{bad_arguments}
 use Rattle.zk_requests.specs.Refusals.{◌>>=◌, demand, or_refused}
 use Rattle.zk_requests.specs.Requests.{path_in}
 

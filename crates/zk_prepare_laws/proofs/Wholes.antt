@@ -4,14 +4,14 @@ use Rattle.std.proofs.lemmas.Bool.{false≢true, cond-true, cond-false, or_parts
 use Rattle.std.specs.List.{AllByRecursion, list_any}
 use Rattle.std.specs.Ordering.{int_eq}
 use Rattle.zk_acl.specs.declared.acl.Id.{Id}
-use Rattle.zk_txn.specs.declared.result.PartResult.{PartResult}
-use Rattle.zk_txn.specs.declared.result.TxnResult.{TxnResult}
-use Rattle.zk_txn.specs.declared.sub.Sub.{Sub}
-use Rattle.zk_txn.specs.declared.sub.Sub.TheVariants as subs
-use Rattle.zk_txn.specs.declared.txn.Op.{Op}
-use Rattle.zk_txn.specs.declared.txn.Op.TheVariants as ops
-use Rattle.zk_txn.specs.declared.txn.Txn.{Txn}
-use Rattle.zk_txn.specs.Parts.{is_error}
+use Rattle.zk_table.specs.declared.result.PartResult.{PartResult}
+use Rattle.zk_table.specs.declared.result.TxnResult.{TxnResult}
+use Rattle.zk_table.specs.declared.sub.Sub.{Sub}
+use Rattle.zk_table.specs.declared.sub.Sub.TheVariants as subs
+use Rattle.zk_table.specs.declared.txn.Op.{Op}
+use Rattle.zk_table.specs.declared.txn.Op.TheVariants as ops
+use Rattle.zk_table.specs.declared.txn.Txn.{Txn}
+use Rattle.zk_table.specs.Parts.{is_error}
 use Rattle.zk_table.specs.Multis.{apply_part, nodes_after, answers_of, answers_unapplied, first_refusal, told_parts, multi}
 use Rattle.zk_table.specs.Operations.{Done}
 use Rattle.zk_table.specs.States.{NodeMap, State}

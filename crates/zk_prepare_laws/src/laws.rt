@@ -1,7 +1,7 @@
 ghost use Rattle.std.specs.Prelude.{List};
 ghost use Rattle.zk_prepare_laws.specs.Consequences.{HasOpenOwners, IsRefusedOnlyAsError, IsWholeOrNothing};
 ghost use Rattle.zk_prepare_laws.specs.Prepared.{ArePrepared, HaveSessions, IsPrepared, OfEach};
-ghost use Rattle.zk_txn.specs.declared.txn.Txn.{Txn};
+ghost use Rattle.zk_table.specs.declared.txn.Txn.{Txn};
 ghost use Rattle.zk_table.specs.Histories.{tree_of};
 ghost use Rattle.zk_table.specs.States.{State};
 

@@ -12,7 +12,7 @@ use std::alloc::Global;
 use zk_acl::Text;
 use zk_jute::JuteFault;
 use zk_jute::fields::{counted, int, long, text};
-use zk_txn::Content;
+use zk_table::Content;
 
 /// The version of a hello with one address: `PROTOCOL_VERSION_V1`.
 const ONE_ADDRESS: i64 = -65_536;

@@ -1,4 +1,4 @@
-use zk_txn::Content;
+use zk_table::Content;
 
 /// What a server does: `QuorumPeer.ServerState`, in the order of its numbers.
 #[derive(Clone, Copy, Debug)]

@@ -1,5 +1,5 @@
 use zk_acl::Ids;
-use zk_txn::Content;
+use zk_table::Content;
 
 /// A packet between a learner and its leader: `QuorumPacket`.
 #[derive(Debug, Drop)]

@@ -9,7 +9,7 @@ use std::alloc::Global;
 use zk_acl::{Id, Ids};
 use zk_jute::JuteFault;
 use zk_jute::fields::{content, int, long, text};
-use zk_txn::Content;
+use zk_table::Content;
 
 /// The greatest length of a packet's data, and of an item of a stream.
 pub(crate) const MOST_BYTES: i32 = 16_777_216;

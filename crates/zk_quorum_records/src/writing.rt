@@ -14,7 +14,7 @@ use bytes::BufMut;
 use std::alloc::Global;
 use zk_acl::{Id, Ids, Text};
 use zk_path::NoMemory;
-use zk_txn::Content;
+use zk_table::Content;
 
 /// The greatest length of a field, and number of elements of a vector.
 const MOST_COUNT: usize = 0x7fff_ffff;

@@ -3,7 +3,7 @@ use Rattle.std.specs.Prelude.{◌≤◌}
 use Rattle.zk_records.specs.Ranges.{InRange}
 use Rattle.zk_records.specs.Records.{record_of, IsRecordOf}
 use Rattle.zk_records.specs.Sizes.{size_of}
-use Rattle.zk_txn.specs.declared.txn.Txn.{Txn}
+use Rattle.zk_table.specs.declared.txn.Txn.{Txn}
 
 -- a transaction whose size is in the limit has a record
 abbrev pub ShortOnesHaveRecords : Type 0

@@ -5,7 +5,7 @@ use Rattle.std.specs.FinMap.{find}
 use Rattle.std.specs.List.{list_any}
 use Rattle.std.specs.Option.{unwrap_or}
 use Rattle.std.specs.Ordering.{eq_by_cmp}
-use Rattle.zk_txn.specs.declared.node.Node.{Node}
+use Rattle.zk_table.specs.declared.node.Node.{Node}
 use Rattle.zk_table.proofs.Sorted.{sorted_from_entries}
 use Rattle.zk_table.specs.States.{NodeMap, State, path_cmp}
 use Rattle.zk_table.specs.Steps.{step}

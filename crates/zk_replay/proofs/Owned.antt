@@ -5,7 +5,7 @@ use Rattle.std.specs.FinMap as finite
 use Rattle.std.specs.List.{list_any}
 use Rattle.std.specs.Ordering.{eq_by_cmp}
 use Rattle.std.specs.Str.{bytes_eq}
-use Rattle.zk_txn.specs.declared.sub.Sub.{Sub}
+use Rattle.zk_table.specs.declared.sub.Sub.{Sub}
 use Rattle.zk_table.specs.States.{path_cmp}
 use Rattle.zk_tree.proofs.Kept.{tests_alike}
 use Rattle.zk_snapshot.specs.declared.snapshot.Stored.{Stored}

@@ -4,8 +4,8 @@ use Rattle.zk_replay.proofs.Turning.{next_is, at_end}
 use Rattle.zk_replay.specs.Drafts.{DraftMap}
 use Rattle.zk_replay.specs.Rules.{delete, delete_all, apply_part, apply_parts}
 use Rattle.zk_replay.specs.Windows.{part_is_done, some_part_is_done}
-use Rattle.zk_txn.specs.declared.sub.Sub.{Sub}
-use Rattle.zk_txn.specs.declared.txn.Txn.{Txn}
+use Rattle.zk_table.specs.declared.sub.Sub.{Sub}
+use Rattle.zk_table.specs.declared.txn.Txn.{Txn}
 
 deleted : (drafts : DraftMap) (zxid : ℤ) (path : List ℕ) (paths : List (List ℕ)) → delete_all drafts zxid (path ∷ paths) ≡ delete_all (delete drafts zxid path) zxid paths
 unfolding delete_all

@@ -3,7 +3,7 @@ use Rattle.std.proofs.Common.{◌≡◌, ℕ, ◌+◌, ◌%◌, ◌^◌, ◌<◌
 use Rattle.std.proofs.lemmas.List.{at_drop_more}
 use Rattle.std.specs.FinMap as finite
 use Rattle.std.specs.Prelude.{Some}
-use Rattle.zk_txn.specs.declared.node.Node.{Node}
+use Rattle.zk_table.specs.declared.node.Node.{Node}
 use Rattle.zk_table.specs.States.{NodeMap, children_of}
 use Rattle.zk_tree.specs.declared.entry.Entry.{Entry}
 use Rattle.zk_tree.specs.Entries.{lent, entries_of}

@@ -7,8 +7,8 @@ use Rattle.std.specs.Ordering.{int_eq}
 use Rattle.std.specs.Str.{bytes_eq}
 use Rattle.zk_acl.specs.declared.acl.Acl.{Acl}
 use Rattle.zk_path.specs.Paths.{parent_of}
-use Rattle.zk_txn.specs.declared.node.Node.{Node}
-use Rattle.zk_txn.specs.Nodes.{open_to_all}
+use Rattle.zk_table.specs.declared.node.Node.{Node}
+use Rattle.zk_table.specs.Nodes.{open_to_all}
 use Rattle.zk_table.specs.States.{NodeMap, SessionMap, State}
 use Rattle.zk_fold.specs.NodeIndexes.{can_insert}
 use Rattle.zk_snapshot.specs.declared.snapshot.Access.{Access}

@@ -6,9 +6,9 @@ use Rattle.std.specs.FinMap.{FinMap, entries, get, insert, remove}
 use Rattle.std.specs.List.{starts_with}
 use Rattle.std.specs.Ordering.{int_eq}
 use Rattle.zk_acl.specs.declared.acl.Acl.{Acl}
-use Rattle.zk_txn.specs.declared.node.Node.{Node}
-use Rattle.zk_txn.specs.declared.txn.Txn.{Txn}
-use Rattle.zk_txn.specs.Nodes as nodes
+use Rattle.zk_table.specs.declared.node.Node.{Node}
+use Rattle.zk_table.specs.declared.txn.Txn.{Txn}
+use Rattle.zk_table.specs.Nodes as nodes
 use Rattle.zk_table.specs.States.{path_cmp}
 use Rattle.zk_replay.specs.declared.draft_node.DraftNode.{DraftNode}
 

@@ -4,11 +4,11 @@ use Rattle.std.specs.Prelude.{ℕ, ℤ, List, [], ◌∷◌, Bool, false, Option
 use Rattle.std.specs.List.{list_any}
 use Rattle.std.specs.Ordering.{int_eq}
 use Rattle.std.specs.Str.{bytes_eq}
-use Rattle.zk_txn.specs.declared.sub.Sub.{Sub}
-use Rattle.zk_txn.specs.declared.sub.Sub.TheVariants as subs
-use Rattle.zk_txn.specs.declared.txn.Op.{Op}
-use Rattle.zk_txn.specs.declared.txn.Op.TheVariants as ops
-use Rattle.zk_txn.specs.Parts.{is_error}
+use Rattle.zk_table.specs.declared.sub.Sub.{Sub}
+use Rattle.zk_table.specs.declared.sub.Sub.TheVariants as subs
+use Rattle.zk_table.specs.declared.txn.Op.{Op}
+use Rattle.zk_table.specs.declared.txn.Op.TheVariants as ops
+use Rattle.zk_table.specs.Parts.{is_error}
 use Rattle.zk_snapshot.specs.declared.snapshot.Stored.{Stored}
 use Rattle.zk_newer_records.specs.Changes.{owners_of}
 use Rattle.zk_newer_records.specs.declared.newer_record.NewerRecord.{NewerRecord}

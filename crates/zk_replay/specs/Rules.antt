@@ -5,14 +5,14 @@ use Rattle.std.specs.FinMap.{contains_key, insert, remove}
 use Rattle.std.specs.Int.{w64, cast_unsigned}
 use Rattle.std.specs.List.{list_any}
 use Rattle.zk_path.specs.Paths.{parent_of}
-use Rattle.zk_txn.specs.declared.node.Node.{Node}
-use Rattle.zk_txn.specs.declared.sub.Sub.{Sub}
-use Rattle.zk_txn.specs.declared.sub.Sub.TheVariants as subs
-use Rattle.zk_txn.specs.declared.txn.Op.{Op}
-use Rattle.zk_txn.specs.declared.txn.Op.TheVariants as ops
-use Rattle.zk_txn.specs.declared.txn.Txn.{Txn}
-use Rattle.zk_txn.specs.Nodes.{created}
-use Rattle.zk_txn.specs.Parts.{is_error}
+use Rattle.zk_table.specs.declared.node.Node.{Node}
+use Rattle.zk_table.specs.declared.sub.Sub.{Sub}
+use Rattle.zk_table.specs.declared.sub.Sub.TheVariants as subs
+use Rattle.zk_table.specs.declared.txn.Op.{Op}
+use Rattle.zk_table.specs.declared.txn.Op.TheVariants as ops
+use Rattle.zk_table.specs.declared.txn.Txn.{Txn}
+use Rattle.zk_table.specs.Nodes.{created}
+use Rattle.zk_table.specs.Parts.{is_error}
 use Rattle.zk_table.specs.States.{SessionMap}
 use Rattle.zk_newer_records.specs.NewerRecords.{listed_of}
 use Rattle.zk_newer_records.specs.declared.newer_record.NewerRecord.{NewerRecord}

@@ -2,11 +2,11 @@
 use Rattle.std.specs.Prelude.{ℕ, List, [], ◌∷◌, Option, Some, None}
 use Rattle.std.specs.FinMap.{empty, insert}
 use Rattle.zk_path.specs.Paths.{parent_of}
-use Rattle.zk_txn.specs.declared.sub.Sub.{Sub}
-use Rattle.zk_txn.specs.declared.sub.Sub.TheVariants as subs
-use Rattle.zk_txn.specs.declared.txn.Op.{Op}
-use Rattle.zk_txn.specs.declared.txn.Op.TheVariants as ops
-use Rattle.zk_txn.specs.declared.txn.Txn.{Txn}
+use Rattle.zk_table.specs.declared.sub.Sub.{Sub}
+use Rattle.zk_table.specs.declared.sub.Sub.TheVariants as subs
+use Rattle.zk_table.specs.declared.txn.Op.{Op}
+use Rattle.zk_table.specs.declared.txn.Op.TheVariants as ops
+use Rattle.zk_table.specs.declared.txn.Txn.{Txn}
 use Rattle.zk_table.specs.States.{NodeMap, owned_by}
 use Rattle.zk_tree.specs.Views.{PathKeys}
 

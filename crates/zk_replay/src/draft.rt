@@ -2,7 +2,7 @@ ghost use Rattle.std.specs.Prelude.{◌≡◌, ◌≢◌, IfOk, OnOk};
 ghost use Rattle.std.specs.FinMap as finite;
 ghost use Rattle.std.specs.Int.{w64, cast_unsigned};
 ghost use Rattle.zk_path.specs.Paths.{parent_of};
-ghost use Rattle.zk_txn.specs.Nodes.{open_to_all};
+ghost use Rattle.zk_table.specs.Nodes.{open_to_all};
 ghost use Rattle.zk_replay.specs.Bases.{listed, acl_of, shown_owner, node_with, draft_with, draft_of, parent_marked, with_stored, drafted, sessions_of, parent_fault, stored_fault, drafted_fault, snapshot_fault, FailsBy, IsDraftOf};
 
 use crate::draft_node::DraftNode;

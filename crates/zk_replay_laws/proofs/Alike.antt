@@ -8,15 +8,15 @@ use Rattle.std.specs.Ordering.{int_eq, eq_by_cmp}
 use Rattle.zk_acl.specs.declared.acl.Acl.{Acl}
 use Rattle.zk_acl.specs.declared.stat.Stat.{Stat}
 use Rattle.zk_path.specs.Paths.{parent_of}
-use Rattle.zk_txn.specs.declared.node.Node.{Node}
-use Rattle.zk_txn.specs.declared.sub.Sub.{Sub}
-use Rattle.zk_txn.specs.declared.sub.Sub.TheVariants as subs
-use Rattle.zk_txn.specs.declared.txn.Op.{Op}
-use Rattle.zk_txn.specs.declared.txn.Op.TheVariants as ops
-use Rattle.zk_txn.specs.declared.txn.Txn.{Txn}
-use Rattle.zk_txn.specs.Nodes.{with_child, without_child, written, guarded, created}
-use Rattle.zk_txn.specs.Codes.{node_exists, no_node, bad_arguments, not_empty}
-use Rattle.zk_txn.specs.Parts.{is_error}
+use Rattle.zk_table.specs.declared.node.Node.{Node}
+use Rattle.zk_table.specs.declared.sub.Sub.{Sub}
+use Rattle.zk_table.specs.declared.sub.Sub.TheVariants as subs
+use Rattle.zk_table.specs.declared.txn.Op.{Op}
+use Rattle.zk_table.specs.declared.txn.Op.TheVariants as ops
+use Rattle.zk_table.specs.declared.txn.Txn.{Txn}
+use Rattle.zk_table.specs.Nodes.{with_child, without_child, written, guarded, created}
+use Rattle.zk_table.specs.Codes.{node_exists, no_node, bad_arguments, not_empty}
+use Rattle.zk_table.specs.Parts.{is_error}
 use Rattle.zk_table.specs.States.{NodeMap, State, path_cmp, is_child_of, children_of, owned_by, changed, changed_found, changed_above}
 use Rattle.zk_table.specs.Operations.{done_unless, parent_fault, create_fault, create, without, delete_fault, delete, missing_fault, set_data, set_acl, without_all}
 use Rattle.zk_table.specs.Multis.{apply_part, nodes_after, told_parts, answers_of, answers_unapplied}

@@ -5,9 +5,9 @@ use Rattle.std.specs.FinMap.{get, remove}
 use Rattle.std.specs.List.{list_any}
 use Rattle.std.specs.Ordering.{eq_by_cmp}
 use Rattle.zk_path.specs.Paths.{parent_of}
-use Rattle.zk_txn.specs.declared.node.Node.{Node}
-use Rattle.zk_txn.specs.declared.txn.Txn.{Txn}
-use Rattle.zk_txn.specs.Nodes.{without_child}
+use Rattle.zk_table.specs.declared.node.Node.{Node}
+use Rattle.zk_table.specs.declared.txn.Txn.{Txn}
+use Rattle.zk_table.specs.Nodes.{without_child}
 use Rattle.zk_table.specs.Operations.{without, without_all}
 use Rattle.zk_table.specs.States.{NodeMap, path_cmp, changed_above}
 use Rattle.zk_replay.specs.Rules as rules

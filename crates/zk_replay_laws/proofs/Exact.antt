@@ -3,11 +3,11 @@ use Rattle.std.proofs.Common.{◌≡◌, inl, inr, ℤ, pos, List, [], ◌∷◌
 use Rattle.std.specs.FinMap.{get, empty, entries}
 use Rattle.std.specs.List.{list_any}
 use Rattle.std.specs.Prelude.{int_le}
-use Rattle.zk_txn.specs.declared.txn.Op.{Op}
-use Rattle.zk_txn.specs.declared.txn.Op.TheVariants as ops
-use Rattle.zk_txn.specs.declared.txn.Txn.{Txn}
-use Rattle.zk_txn.specs.declared.sub.Sub.{Sub}
-use Rattle.zk_txn.specs.Parts.{is_error}
+use Rattle.zk_table.specs.declared.txn.Op.{Op}
+use Rattle.zk_table.specs.declared.txn.Op.TheVariants as ops
+use Rattle.zk_table.specs.declared.txn.Txn.{Txn}
+use Rattle.zk_table.specs.declared.sub.Sub.{Sub}
+use Rattle.zk_table.specs.Parts.{is_error}
 use Rattle.zk_table.specs.States.{State, start_state}
 use Rattle.zk_table.specs.Histories.{state_after, tree_of}
 use Rattle.zk_table.specs.Steps.{step, step_by}

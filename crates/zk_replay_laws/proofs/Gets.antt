@@ -10,7 +10,7 @@ use Rattle.std.specs.Ordering.{eq_by_cmp}
 use Rattle.std.specs.Prelude.{nat_eq}
 use Rattle.std.specs.declared.cmp.Ordering.{Ordering}
 use Rattle.zk_table.specs.States.{path_cmp, NodeMap, changed, changed_found}
-use Rattle.zk_txn.specs.declared.node.Node.{Node}
+use Rattle.zk_table.specs.declared.node.Node.{Node}
 use Rattle.zk_replay.specs.Drafts as drafts
 use Rattle.zk_replay.specs.declared.draft_node.DraftNode.{DraftNode}
 use Rattle.zk_replay.specs.Drafts.{DraftMap, remove_all, starting_in, without_below, removed, had_children}

@@ -2,8 +2,8 @@
 use Rattle.std.proofs.Common.{◌≡◌, ℕ, ℤ, List, ◌∷◌, Option, Some, None, refl, sym, ap, subst, ◌∙◌, ⊎_elim}
 use Rattle.std.specs.FinMap.{get}
 use Rattle.zk_acl.specs.declared.acl.Acl.{Acl}
-use Rattle.zk_txn.specs.declared.node.Node.{Node}
-use Rattle.zk_txn.specs.Nodes as nodes
+use Rattle.zk_table.specs.declared.node.Node.{Node}
+use Rattle.zk_table.specs.Nodes as nodes
 use Rattle.zk_table.specs.States.{NodeMap}
 use Rattle.zk_replay.specs.Drafts as drafts
 use Rattle.zk_replay.specs.declared.draft_node.DraftNode.{DraftNode}

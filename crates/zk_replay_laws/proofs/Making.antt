@@ -1,8 +1,8 @@
 -- Replaying a create keeps a draft seen.
 use Rattle.std.proofs.Common.{◌≡◌, ◌≢◌, inl, inr, ℕ, ℤ, List, [], ◌∷◌, length, Bool, true, false, is_some, Option, Some, None, refl, sym, ap, subst, ◌∙◌, ⊎_elim, arith}
 use Rattle.std.specs.FinMap.{get}
-use Rattle.zk_txn.specs.declared.node.Node.{Node}
-use Rattle.zk_txn.specs.Nodes as nodes
+use Rattle.zk_table.specs.declared.node.Node.{Node}
+use Rattle.zk_table.specs.Nodes as nodes
 use Rattle.zk_table.specs.States.{NodeMap}
 use Rattle.zk_replay.specs.Drafts as drafts
 use Rattle.zk_replay.specs.declared.draft_node.DraftNode.{DraftNode}

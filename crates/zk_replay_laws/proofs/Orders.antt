@@ -5,7 +5,7 @@ use Rattle.std.proofs.lemmas.Cmp.{int_cmp_total}
 use Rattle.std.specs.Ordering.{int_cmp, ordering_reverse}
 use Rattle.std.specs.Prelude.{int_lt}
 use Rattle.std.specs.declared.cmp.Ordering.{Ordering}
-use Rattle.zk_txn.specs.declared.txn.Txn.{Txn}
+use Rattle.zk_table.specs.declared.txn.Txn.{Txn}
 use Rattle.zk_replay_laws.specs.Histories.{AreRising}
 
 less_if : (a b : ℤ) → int_cmp a b ≡ Less → int_lt a b ≡ true

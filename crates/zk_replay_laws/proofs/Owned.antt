@@ -8,9 +8,9 @@ use Rattle.std.specs.List.{list_any}
 use Rattle.std.specs.Option.{option_map}
 use Rattle.std.specs.Ordering.{int_eq, eq_by_cmp}
 use Rattle.zk_path.specs.Paths.{parent_of, is_root}
-use Rattle.zk_txn.specs.declared.node.Node.{Node}
-use Rattle.zk_txn.specs.declared.txn.Txn.{Txn}
-use Rattle.zk_txn.specs.Nodes.{without_child}
+use Rattle.zk_table.specs.declared.node.Node.{Node}
+use Rattle.zk_table.specs.declared.txn.Txn.{Txn}
+use Rattle.zk_table.specs.Nodes.{without_child}
 use Rattle.zk_table.specs.Operations.{without, without_all}
 use Rattle.zk_table.specs.States.{NodeMap, path_cmp, owned_by, changed, changed_found, changed_above}
 use Rattle.zk_replay_laws.proofs.Paths.{some_inj, none_some}

@@ -3,8 +3,8 @@ use Rattle.std.proofs.Common.{◌≡◌, ◌⊎◌, inl, inr, ℕ, ℤ, pos, Lis
 use Rattle.std.specs.FinMap.{get}
 use Rattle.std.specs.Ordering.{int_eq}
 use Rattle.zk_path.specs.Paths.{parent_of}
-use Rattle.zk_txn.specs.declared.node.Node.{Node}
-use Rattle.zk_txn.specs.Nodes as nodes
+use Rattle.zk_table.specs.declared.node.Node.{Node}
+use Rattle.zk_table.specs.Nodes as nodes
 use Rattle.zk_table.specs.States.{NodeMap}
 use Rattle.zk_replay_laws.proofs.Paths.{some_inj, none_some}
 use Rattle.zk_replay_laws.proofs.Gets.{cases_path, changed_at, changed_elsewhere}

@@ -3,7 +3,7 @@ use Rattle.std.proofs.Common.{◌≡◌, ◌≢◌, ◌⊎◌, inl, inr, ℕ, �
 use Rattle.std.proofs.lemmas.Bool.{cond-true, cond-false, false_from_ne_true}
 use Rattle.std.specs.FinMap.{get, insert}
 use Rattle.zk_path.specs.Paths.{parent_of, is_root}
-use Rattle.zk_txn.specs.declared.node.Node.{Node}
+use Rattle.zk_table.specs.declared.node.Node.{Node}
 use Rattle.zk_replay.specs.Drafts as drafts
 use Rattle.zk_replay.specs.declared.draft_node.DraftNode.{DraftNode}
 use Rattle.zk_replay.specs.Drafts.{DraftMap, removed, fresh, with_child, without_child}

@@ -6,11 +6,11 @@ use Rattle.std.specs.FinMap.{get, get-insert, get-remove, same_map, nat_cmp-IsAn
 use Rattle.std.specs.Int.{w64, cast_unsigned}
 use Rattle.std.specs.List.{list_any}
 use Rattle.std.specs.Ordering.{eq_by_cmp, nat_cmp}
-use Rattle.zk_txn.specs.declared.txn.Op.{Op}
-use Rattle.zk_txn.specs.declared.txn.Op.TheVariants as ops
-use Rattle.zk_txn.specs.declared.txn.Txn.{Txn}
-use Rattle.zk_txn.specs.declared.sub.Sub.{Sub}
-use Rattle.zk_txn.specs.Parts.{is_error}
+use Rattle.zk_table.specs.declared.txn.Op.{Op}
+use Rattle.zk_table.specs.declared.txn.Op.TheVariants as ops
+use Rattle.zk_table.specs.declared.txn.Txn.{Txn}
+use Rattle.zk_table.specs.declared.sub.Sub.{Sub}
+use Rattle.zk_table.specs.Parts.{is_error}
 use Rattle.zk_table.specs.States.{SessionMap, State}
 use Rattle.zk_table.specs.Histories.{state_after}
 use Rattle.zk_table.specs.Steps.{step, step_by}

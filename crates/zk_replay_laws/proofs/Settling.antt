@@ -6,7 +6,7 @@ use Rattle.std.specs.FinMap.{FinMap, get, insert, empty, entries, entries_sorted
 use Rattle.std.specs.Ordering.{eq_by_cmp}
 use Rattle.zk_table.proofs.Sorted.{to_true}
 use Rattle.zk_table.specs.States.{path_cmp, NodeMap}
-use Rattle.zk_txn.specs.declared.node.Node.{Node}
+use Rattle.zk_table.specs.declared.node.Node.{Node}
 use Rattle.zk_replay.specs.declared.draft_node.DraftNode.{DraftNode}
 use Rattle.zk_replay.specs.Drafts.{DraftMap}
 use Rattle.zk_replay.specs.Bases.{settled}

@@ -4,7 +4,7 @@ use Rattle.std.proofs.lemmas.Bool.{cond-true, cond-false, cases_Bool, false≢tr
 use Rattle.std.proofs.lemmas.Cmp.{int_cmp_total, eq_by_cmp_equiv}
 use Rattle.std.specs.FinMap.{get, int_cmp-IsAntisymmetric}
 use Rattle.std.specs.Prelude.{int_lt}
-use Rattle.zk_txn.specs.declared.node.Node.{Node}
+use Rattle.zk_table.specs.declared.node.Node.{Node}
 use Rattle.zk_table.specs.States.{NodeMap}
 use Rattle.zk_replay.specs.declared.draft_node.DraftNode.{DraftNode}
 pub use Rattle.zk_replay_laws.specs.Windows.{LacksList as Lacks}

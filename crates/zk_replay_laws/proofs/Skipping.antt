@@ -4,8 +4,8 @@ use Rattle.std.proofs.lemmas.Bool.{both_ways, or_left, or_right, or_parts}
 use Rattle.std.specs.FinMap.{get}
 use Rattle.std.specs.Ordering.{int_eq}
 use Rattle.zk_path.specs.Paths.{parent_of}
-use Rattle.zk_txn.specs.declared.node.Node.{Node}
-use Rattle.zk_txn.specs.Nodes as nodes
+use Rattle.zk_table.specs.declared.node.Node.{Node}
+use Rattle.zk_table.specs.Nodes as nodes
 use Rattle.zk_table.specs.States.{NodeMap}
 use Rattle.zk_replay.specs.Drafts.{DraftMap}
 use Rattle.zk_replay.specs.declared.draft_node.DraftNode.{DraftNode}

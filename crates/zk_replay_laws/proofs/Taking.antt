@@ -9,12 +9,12 @@ use Rattle.std.specs.Option.{option_and_then}
 use Rattle.zk_acl.specs.declared.acl.Acl.{Acl}
 use Rattle.zk_acl.specs.declared.stat.Stat.{Stat}
 use Rattle.zk_path.specs.Paths.{parent_of, fault_of}
-use Rattle.zk_txn.specs.declared.node.Node.{Node}
-use Rattle.zk_txn.specs.declared.sub.Sub.{Sub}
-use Rattle.zk_txn.specs.declared.sub.Sub.TheVariants as subs
-use Rattle.zk_txn.specs.declared.txn.Txn.{Txn}
-use Rattle.zk_txn.specs.Codes.{no_node, node_exists, not_empty, bad_arguments, no_children_for_ephemerals}
-use Rattle.zk_txn.specs.Nodes.{created, with_child, without_child}
+use Rattle.zk_table.specs.declared.node.Node.{Node}
+use Rattle.zk_table.specs.declared.sub.Sub.{Sub}
+use Rattle.zk_table.specs.declared.sub.Sub.TheVariants as subs
+use Rattle.zk_table.specs.declared.txn.Txn.{Txn}
+use Rattle.zk_table.specs.Codes.{no_node, node_exists, not_empty, bad_arguments, no_children_for_ephemerals}
+use Rattle.zk_table.specs.Nodes.{created, with_child, without_child}
 use Rattle.zk_table.specs.States.{NodeMap, path_cmp, children_of, is_child_of, is_parent, changed_above}
 use Rattle.zk_table.specs.Operations.{done_unless, create, create_fault, parent_fault, delete, delete_fault, set_data, set_acl, missing_fault, without}
 use Rattle.zk_table.specs.Multis.{apply_part, nodes_after, answers_of, first_refusal}

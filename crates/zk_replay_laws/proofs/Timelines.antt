@@ -2,7 +2,7 @@
 use Rattle.std.proofs.Common.{◌≡◌, ◌⊎◌, inl, inr, ℕ, ℤ, List, [], ◌∷◌, false, Some, ap, ◌∙◌, ⊎_elim}
 use Rattle.std.specs.FinMap.{get}
 use Rattle.std.specs.Prelude.{int_lt}
-use Rattle.zk_txn.specs.declared.node.Node.{Node}
+use Rattle.zk_table.specs.declared.node.Node.{Node}
 use Rattle.zk_table.specs.States.{NodeMap}
 use Rattle.zk_replay_laws.proofs.Changes.{Change, applied, zxid_of, IsTaken}
 use Rattle.zk_replay_laws.proofs.Servers.{IsClosedMap, closed_after, pzxid_after}

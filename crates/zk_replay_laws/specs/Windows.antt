@@ -4,8 +4,8 @@ use Rattle.std.specs.FinMap.{get}
 use Rattle.std.specs.Option.{option_map}
 use Rattle.zk_acl.specs.declared.acl.Acl.{Acl}
 use Rattle.zk_path.specs.Paths.{fault_of}
-use Rattle.zk_txn.specs.declared.node.Node.{Node}
-use Rattle.zk_txn.specs.declared.txn.Txn.{Txn}
+use Rattle.zk_table.specs.declared.node.Node.{Node}
+use Rattle.zk_table.specs.declared.txn.Txn.{Txn}
 use Rattle.zk_table.specs.Histories.{state_after, tree_of}
 use Rattle.zk_table.specs.States.{State, start_state}
 use Rattle.zk_newer_records.specs.declared.newer_record.NewerRecord.{NewerRecord}

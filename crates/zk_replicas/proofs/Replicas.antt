@@ -7,7 +7,7 @@ use Rattle.zk_requests.specs.declared.call.Call.{Call}
 use Rattle.zk_model.specs.declared.answer.Answer.TheVariants.{Looked}
 use Rattle.zk_model.specs.declared.fault.EnsembleFault.{EnsembleFault}
 use Rattle.zk_model.specs.declared.fault.EnsembleFault.TheVariants as faults
-use Rattle.zk_txn.specs.declared.read.ReadReply.{ReadReply}
+use Rattle.zk_table.specs.declared.read.ReadReply.{ReadReply}
 use Rattle.zk_model.specs.Ensembles.{Ensemble, ReplicaView, Told, ensemble, replica_at, changed_at, at_server, looks, watching, reply_of}
 use Rattle.zk_model.specs.declared.event.Question.{Question}
 

@@ -4,7 +4,7 @@ use Rattle.std.specs.Coded.{Coded, code_by, coded×, coded_list}
 use Rattle.zk_machine.specs.Machines.{MachineView}
 use Rattle.zk_model.specs.declared.answer.Answered.{Answered}
 use Rattle.zk_model.specs.Ensembles.{ReplicaView}
-use Rattle.zk_txn.specs.declared.node.Node.{Node}
+use Rattle.zk_table.specs.declared.node.Node.{Node}
 use Rattle.zk_table.specs.States.{State, start_state, state_code}
 use Rattle.zk_watch.specs.declared.watch.Fired.{Fired}
 use Rattle.zk_watch.specs.declared.watch.Watch.{Watch}

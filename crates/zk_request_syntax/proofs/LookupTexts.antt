@@ -8,9 +8,9 @@ use Rattle.zk_path.specs.Paths.{IsPath, fault_of}
 use Rattle.zk_path.specs.declared.fault.PathFault.{PathFault}
 use Rattle.zk_path.proofs.FaultLaw.{IsPath-from_fault, fault_of-IsPath}
 use Rattle.zk_format.specs.Spelling.{escaped, quoted}
-use Rattle.zk_txn.specs.Replies.{path_read}
-use Rattle.zk_txn.specs.declared.read.ReadCall.{ReadCall}
-use Rattle.zk_txn.specs.declared.read.ReadCall.TheVariants as calls
+use Rattle.zk_table.specs.Replies.{path_read}
+use Rattle.zk_table.specs.declared.read.ReadCall.{ReadCall}
+use Rattle.zk_table.specs.declared.read.ReadCall.TheVariants as calls
 use Rattle.zk_request_syntax.specs.declared.lookups.Aspect.{Aspect}
 use Rattle.zk_request_syntax.specs.declared.lookups.Aspect.TheVariants as aspects
 use Rattle.zk_request_syntax.specs.declared.lookups.Lookup.{Lookup}

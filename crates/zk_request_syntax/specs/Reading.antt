@@ -23,8 +23,8 @@ use Rattle.zk_request_syntax.specs.declared.lookups.Aspect.TheVariants as aspect
 use Rattle.zk_request_syntax.specs.declared.lookups.Lookup.{Lookup}
 use Rattle.zk_request_syntax.specs.declared.lookups.Lookup.TheVariants as lookups
 use Rattle.zk_request_syntax.specs.RequestLines.{flags_of}
-use Rattle.zk_txn.specs.declared.read.ReadCall.{ReadCall}
-use Rattle.zk_txn.specs.declared.read.ReadCall.TheVariants as calls
+use Rattle.zk_table.specs.declared.read.ReadCall.{ReadCall}
+use Rattle.zk_table.specs.declared.read.ReadCall.TheVariants as calls
 
 -- ---- fields, up to their end
 

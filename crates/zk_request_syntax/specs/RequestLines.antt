@@ -16,9 +16,9 @@ use Rattle.zk_request_syntax.specs.declared.lookups.Lookup.{Lookup}
 use Rattle.zk_request_syntax.specs.declared.lookups.Lookup.TheVariants as lookups
 use Rattle.zk_format.specs.Listings.{IsListedContent, AreListedAcls}
 use Rattle.zk_format.specs.Spelling.{quoted, content_text, acl_text}
-use Rattle.zk_txn.specs.Replies.{path_read}
-use Rattle.zk_txn.specs.declared.read.ReadCall.{ReadCall}
-use Rattle.zk_txn.specs.declared.read.ReadCall.TheVariants as calls
+use Rattle.zk_table.specs.Replies.{path_read}
+use Rattle.zk_table.specs.declared.read.ReadCall.{ReadCall}
+use Rattle.zk_table.specs.declared.read.ReadCall.TheVariants as calls
 
 -- ---- fields
 

@@ -8,7 +8,7 @@ ghost use Rattle.zk_request_syntax.specs.Reading.{at_end, ended_result, id_field
 use std::alloc::Global;
 use zk_acl::{Acls, Text};
 use zk_listing::{ListCause, read_acl, read_content, read_id, read_int, read_long, read_quoted};
-use zk_txn::Content;
+use zk_table::Content;
 
 /// The fields of a create.
 #[derive(Debug, Drop)]

@@ -11,7 +11,7 @@ use crate::words::{flag, take_word};
 use std::alloc::Global;
 use zk_listing::ListCause;
 use zk_path::{Path, PathFault};
-use zk_txn::ReadCall;
+use zk_table::ReadCall;
 
 /// The content of a read's line.
 #[derive(Debug, Drop)]

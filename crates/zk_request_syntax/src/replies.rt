@@ -8,7 +8,7 @@ ghost use Rattle.zk_request_syntax.specs.ReplyLines.{refusal_text, reply_text, n
 use zk_acl::{Stat, Text};
 use zk_listing::{push_acl, push_content, push_quoted, push_stat};
 use zk_path::NoMemory;
-use zk_txn::ReadReply;
+use zk_table::ReadReply;
 
 /// Appends an error by its code.
 pub fn push_refusal(line: &mut String, code: i32) -> Result<(), NoMemory>

@@ -9,7 +9,7 @@ use crate::words::take_space;
 use std::alloc::Global;
 use zk_acl::{Acls, Id, Ids, Text};
 use zk_listing::ListCause;
-use zk_txn::Content;
+use zk_table::Content;
 
 /// Takes a space and the number of a transaction or a session.
 pub fn spaced_id(input: &mut &str) -> Result<i64, ListCause>

@@ -4,7 +4,7 @@ use Rattle.std.proofs.lemmas.Cmp.{nat_list_cmp_total}
 use Rattle.std.proofs.lemmas.List.Kept.{IsStrictlySortedBy-filter}
 use Rattle.std.specs.FinMap as finite
 use Rattle.std.specs.Ordering.{eq_by_cmp}
-use Rattle.zk_txn.specs.declared.node.Node.{Node}
+use Rattle.zk_table.specs.declared.node.Node.{Node}
 use Rattle.zk_table.specs.States.{NodeMap, path_cmp, is_child_of, children_of}
 use Rattle.zk_tree.proofs.Kept.{path_cmp-IsAntisymmetric}
 use Rattle.zk_tree.proofs.Lists.{same_is, rising_keys, keys_are, len-keys, any-children_of}

@@ -7,7 +7,7 @@ use Rattle.std.specs.FinMap.{find}
 use Rattle.std.specs.List.{list_any}
 use Rattle.std.specs.Option.{option_map}
 use Rattle.std.specs.Ordering.{eq_by_cmp}
-use Rattle.zk_txn.specs.declared.node.Node.{Node}
+use Rattle.zk_table.specs.declared.node.Node.{Node}
 use Rattle.zk_table.specs.States.{NodeMap, path_cmp, is_child_of, children_of, changed, changed_found}
 use Rattle.zk_tree.specs.Trees.{IsTree, owner_at}
 use Rattle.zk_tree.proofs.Kept.{path_cmp-IsAntisymmetric}

@@ -7,8 +7,8 @@ use Rattle.std.specs.Option.{option_map}
 use Rattle.std.specs.Ordering.{eq_by_cmp, int_eq}
 use Rattle.std.specs.Prelude.{option_and_then}
 use Rattle.zk_path.specs.Paths.{parent_of}
-use Rattle.zk_txn.specs.Codes.{no_node, node_exists, not_empty, bad_arguments}
-use Rattle.zk_txn.specs.declared.node.Node.{Node}
+use Rattle.zk_table.specs.Codes.{no_node, node_exists, not_empty, bad_arguments}
+use Rattle.zk_table.specs.declared.node.Node.{Node}
 use Rattle.zk_table.specs.Operations.{create_fault, parent_fault, delete_fault}
 use Rattle.zk_table.specs.States.{NodeMap, path_cmp, is_child_of, is_parent, children_of, changed, changed_found, changed_above, parent_changed}
 use Rattle.zk_tree.proofs.Kept.{tests_alike}

@@ -16,14 +16,14 @@ use Rattle.zk_records.specs.Records.{record_of}
 use Rattle.zk_records.specs.Sizes.{size_of}
 use Rattle.zk_path.specs.Paths.{fault_of, has_slash, before_last_slash}
 use Rattle.zk_path.specs.Sequences.{sequence}
-use Rattle.zk_txn.specs.declared.node.Node.{Node}
-use Rattle.zk_txn.specs.declared.sub.Sub.{Sub}
-use Rattle.zk_txn.specs.declared.sub.Sub.TheVariants as subs
-use Rattle.zk_txn.specs.declared.txn.Op.{Op}
-use Rattle.zk_txn.specs.declared.txn.Op.TheVariants as ops
-use Rattle.zk_txn.specs.declared.txn.Txn.{Txn}
-use Rattle.zk_txn.specs.Codes.{runtime_inconsistency, bad_arguments, no_node, no_auth, bad_version, no_children_for_ephemerals, node_exists, not_empty, session_expired, invalid_acl}
-use Rattle.zk_txn.specs.Parts.{is_error}
+use Rattle.zk_table.specs.declared.node.Node.{Node}
+use Rattle.zk_table.specs.declared.sub.Sub.{Sub}
+use Rattle.zk_table.specs.declared.sub.Sub.TheVariants as subs
+use Rattle.zk_table.specs.declared.txn.Op.{Op}
+use Rattle.zk_table.specs.declared.txn.Op.TheVariants as ops
+use Rattle.zk_table.specs.declared.txn.Txn.{Txn}
+use Rattle.zk_table.specs.Codes.{runtime_inconsistency, bad_arguments, no_node, no_auth, bad_version, no_children_for_ephemerals, node_exists, not_empty, session_expired, invalid_acl}
+use Rattle.zk_table.specs.Parts.{is_error}
 use Rattle.zk_table.specs.Multis.{apply_part}
 use Rattle.zk_table.specs.States.{NodeMap, State, children_of}
 use Rattle.zk_requests.specs.declared.call.Call.{Call}

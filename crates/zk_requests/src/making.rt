@@ -2,8 +2,8 @@
 
 ghost use Rattle.std.specs.Prelude.{◌≡◌, ℤ, Result, false, IfOk};
 ghost use Rattle.zk_requests.specs.Refusals.{Gives};
-ghost use Rattle.zk_txn.specs.declared.sub.Sub.{Sub};
-ghost use Rattle.zk_txn.specs.declared.txn.Op.TheVariants as ops;
+ghost use Rattle.zk_table.specs.declared.sub.Sub.{Sub};
+ghost use Rattle.zk_table.specs.declared.txn.Op.TheVariants as ops;
 ghost use Rattle.zk_requests.specs.Requests.{alone, op_of, op_on, parts_on, opens, is_open, header_of, asked_on, within_limit, meaning_of};
 
 use crate::Overlay;

@@ -1,7 +1,7 @@
 ghost use Rattle.std.specs.Prelude.{◌≡◌, None, Some, true, IfOk, length, is_some, option_map};
 ghost use Rattle.std.specs.FinMap as finite;
 ghost use Rattle.std.specs.Option.{option_copied};
-ghost use Rattle.zk_txn.specs.Nodes.{with_child, without_child};
+ghost use Rattle.zk_table.specs.Nodes.{with_child, without_child};
 ghost use Rattle.zk_table.specs.Multis.{apply_part};
 ghost use Rattle.zk_table.specs.Operations.{create, create_fault, delete, delete_fault, set_data, without};
 ghost use Rattle.zk_table.specs.States.{children_of, parent_changed};
@@ -27,7 +27,7 @@ pub struct Overlay<'a> {
 impl<'a> Model for Overlay<'a> {
     ghost use Rattle.std.specs.Coded.{coded_list, coded_ℕ};
     ghost use Rattle.std.specs.FinMap as finite;
-    ghost use Rattle.zk_txn.specs.contracts.node.Node as node;
+    ghost use Rattle.zk_table.specs.contracts.node.Node as node;
     ghost use Rattle.zk_table.specs.States.{NodeMap};
     ghost use Rattle.zk_requests.specs.Overlays.{nodes_over, IsCounted};
 

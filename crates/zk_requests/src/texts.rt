@@ -2,7 +2,7 @@
 
 ghost use Rattle.std.specs.Prelude.{◌≡◌, IfOk};
 ghost use Rattle.zk_acl.specs.Access.{fix};
-ghost use Rattle.zk_txn.specs.Codes.{invalid_acl};
+ghost use Rattle.zk_table.specs.Codes.{invalid_acl};
 ghost use Rattle.zk_requests.specs.Refusals.{Gives, demand, or_refused};
 ghost use Rattle.zk_requests.specs.Requests.{path_in, text_above, is_legible, is_first_path};
 

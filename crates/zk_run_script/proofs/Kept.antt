@@ -6,7 +6,7 @@ use Rattle.zab_model.specs.Runs.{kept, stable_of, history_list, history_of}
 use Rattle.zab_model.specs.ProcessStates.{ProcessState}
 use Rattle.zab_model.specs.Worlds.{World, server_at}
 use Rattle.zk_requests.specs.declared.call.Call.{Call}
-use Rattle.zk_txn.specs.declared.txn.Txn.{Txn}
+use Rattle.zk_table.specs.declared.txn.Txn.{Txn}
 
 told_by : (o : Option ProcessState) (txns : List Txn) → Some txns ≡ option_map (λ stable. txns_of stable.history) (kept o) → txns ≡ txns_of (history_list o)
 told_by None txns is = absurd cc

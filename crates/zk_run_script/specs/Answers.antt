@@ -18,7 +18,7 @@ use Rattle.zk_format.specs.Listings.{line_of}
 use Rattle.zk_format.specs.Reports.{result_line}
 use Rattle.zk_format.specs.Spelling.{sixteen_digits, id_digits, quoted}
 use Rattle.zk_table.specs.States.{State}
-use Rattle.zk_txn.specs.declared.txn.Txn.{Txn}
+use Rattle.zk_table.specs.declared.txn.Txn.{Txn}
 use Rattle.zk_watch.specs.declared.watch.Fired.{Fired}
 
 -- ---- the answer to an event

@@ -17,7 +17,7 @@ use Rattle.zk_model.specs.Counting.{counted, IsAnswered}
 use Rattle.zk_model.specs.Ensembles.{Told, fresh, replica_at}
 use Rattle.zk_model.specs.Runs.{after}
 use Rattle.zk_listing.specs.Reports.{line}
-use Rattle.zk_txn.specs.Codes.{bad_arguments}
+use Rattle.zk_table.specs.Codes.{bad_arguments}
 
 -- a new ensemble with one server for each weight
 abbrev pub started : List ℕ → EnsembleView

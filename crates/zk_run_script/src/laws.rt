@@ -8,14 +8,14 @@ ghost use Rattle.zk_format.specs.Listings.{AreListedAcls, IsListedAcl, IsListedC
 ghost use Rattle.zk_request_syntax.specs.RequestLines.{IsDigestId, SpellsCreate, SpellsIds, SpellsPart, SpellsRequest, SpellsRead as SpellsLook, flags_of};
 ghost use Rattle.zk_run_script.specs.Commands.{SpellsEvent, SpellsSubmit};
 ghost use Rattle.zk_run_script.specs.Lines.{are_digests, are_flags, create_text, event_text, has_line, has_part_line, has_request_line, ids_text, is_counted, is_digest, is_ephemeral, is_sequential, lookup_text, may_watch, part_text, request_text, submit_text};
-ghost use Rattle.zk_txn.specs.Replies.{path_read};
+ghost use Rattle.zk_table.specs.Replies.{path_read};
 
 use zab_model::Event as WorldEvent;
 use zk_acl::{Acl, Acls, Id, Ids, Text};
 use zk_model::Event;
 use zk_path::Path;
 use zk_requests::{Call, Part, Request};
-use zk_txn::{Content, ReadCall};
+use zk_table::{Content, ReadCall};
 
 pub(crate) fn event_is_spelled(event: &Event)
     ensures { has_line event.now ≡ true → SpellsEvent event.now (event_text event.now) }

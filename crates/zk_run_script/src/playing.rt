@@ -7,7 +7,7 @@ ghost use Rattle.zk_request_syntax.specs.ReplyLines.{refusal_text};
 ghost use Rattle.zk_run_script.specs.Answers.{listing_report};
 ghost use Rattle.zk_run_script.specs.Playing.{Obeys, report_text};
 ghost use Rattle.zk_listing.specs.Reports.{line};
-ghost use Rattle.zk_txn.specs.Codes.{bad_arguments};
+ghost use Rattle.zk_table.specs.Codes.{bad_arguments};
 
 use crate::command::{Command, Report};
 use crate::reports::{push_answers, push_counted_tree, push_events, push_listing, push_syncs};

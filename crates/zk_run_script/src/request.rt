@@ -13,7 +13,7 @@ use zk_acl::{Acls, Text};
 use zk_format::{push_acl, push_content};
 use zk_path::NoMemory;
 use zk_requests::{Part, Request};
-use zk_txn::Content;
+use zk_table::Content;
 
 /// Whether a run script has a line with the request.
 pub(crate) fn has_request_line(request: &Request) -> bool

@@ -5,7 +5,7 @@ ghost use Rattle.std.specs.Prelude.{◌≡◌};
 use std::marker::Model;
 use zk_acl::Acls;
 use zk_path::Path;
-use zk_txn::Content;
+use zk_table::Content;
 
 /// A session and its timeout in milliseconds.
 #[derive(Debug, Drop)]

@@ -10,7 +10,7 @@ use bytes::BufMut;
 use zk_acl::{Acl, Acls};
 use zk_path::NoMemory;
 use zk_snapshot::{Access, Claim, Lease};
-use zk_txn::Content;
+use zk_table::Content;
 
 /// "ZKSN".
 const MARK: i32 = 0x5a4b534e;

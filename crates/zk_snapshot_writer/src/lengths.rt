@@ -8,7 +8,7 @@ ghost use Rattle.zk_snapshot.specs.Snapshots.{IsLease, IsAccess, IsMoments, IsVe
 use zk_acl::{Acl, Acls};
 use zk_path::Path;
 use zk_snapshot::{Access, Contents, Kept, Lease, Moments, Stored, Versions};
-use zk_txn::Content;
+use zk_table::Content;
 
 /// The largest length: that of a signed 32-bit number.
 const MOST: usize = 0x7fff_ffff;

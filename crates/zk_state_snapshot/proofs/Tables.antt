@@ -12,7 +12,7 @@ use Rattle.zk_state_snapshot.specs.StateSnapshots.{Placed, placed}
 use Rattle.zk_table.specs.States.{NodeMap, children_of}
 use Rattle.zk_tree.specs.Entries.{entries_of, lent}
 use Rattle.zk_tree.specs.declared.entry.Entry.{Entry}
-use Rattle.zk_txn.specs.declared.node.Node.{Node}
+use Rattle.zk_table.specs.declared.node.Node.{Node}
 
 -- ---- two lists
 

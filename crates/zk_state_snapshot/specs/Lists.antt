@@ -5,7 +5,7 @@ use Rattle.std.specs.Option.{unwrap_or}
 use Rattle.zk_acl.specs.Access.{same_acl}
 use Rattle.zk_acl.specs.declared.acl.Acl.{Acl}
 use Rattle.zk_snapshot.specs.declared.snapshot.Access.{Access}
-use Rattle.zk_txn.specs.Nodes.{open_to_all}
+use Rattle.zk_table.specs.Nodes.{open_to_all}
 
 -- the same entries, in the same order
 unfoldable pub same_list : List Acl → List Acl → Bool

@@ -14,7 +14,7 @@ use Rattle.zk_snapshot.specs.declared.snapshot.Stored.{Stored}
 use Rattle.zk_state_snapshot.specs.Lists.{number_of, with_lists}
 use Rattle.zk_table.specs.States.{State}
 use Rattle.zk_tree.specs.declared.entry.Entry.{Entry}
-use Rattle.zk_txn.specs.declared.node.Node.{Node}
+use Rattle.zk_table.specs.declared.node.Node.{Node}
 
 -- a node with its path
 abbrev pub Placed : Type 0

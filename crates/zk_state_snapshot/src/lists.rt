@@ -3,7 +3,7 @@
 ghost use Rattle.std.specs.Prelude.{◌≡◌, List};
 ghost use Rattle.zk_acl.specs.Access.{same_acl};
 ghost use Rattle.zk_state_snapshot.specs.Lists.{is_open, same_list};
-ghost use Rattle.zk_txn.specs.Nodes.{open_to_all};
+ghost use Rattle.zk_table.specs.Nodes.{open_to_all};
 
 use zk_acl::Acl;
 

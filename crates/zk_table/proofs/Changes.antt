@@ -3,7 +3,7 @@ use Rattle.std.proofs.Common.{◌≡◌, ℕ, List, get_or, set, Some, None, Ok,
 use Rattle.std.proofs.lemmas.Cmp.{nat_list_cmp_total}
 use Rattle.std.specs.FinMap.{IsAntisymmetric, slice_cmp-IsAntisymmetric, nat_cmp-IsAntisymmetric, entries, from_sorted, is_sorted, get}
 use Rattle.std.specs.FinMap as finite
-use Rattle.zk_txn.specs.declared.node.Node.{Node}
+use Rattle.zk_table.specs.declared.node.Node.{Node}
 use Rattle.zk_table.specs.Places.{position_of}
 use Rattle.zk_table.specs.States.{NodeMap, path_cmp, changed, changed_found}
 use Rattle.zk_table.proofs.Sorted.{entries_of_kept, found_at_place, missing_at_place, entries_set}

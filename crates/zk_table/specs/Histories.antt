@@ -1,7 +1,7 @@
 -- Histories: lists of transactions, applied in order.
 use Rattle.std.specs.Prelude.{List, [], ◌∷◌}
-use Rattle.zk_txn.specs.declared.result.TxnResult.{TxnResult}
-use Rattle.zk_txn.specs.declared.txn.Txn.{Txn}
+use Rattle.zk_table.specs.declared.result.TxnResult.{TxnResult}
+use Rattle.zk_table.specs.declared.txn.Txn.{Txn}
 use Rattle.zk_table.specs.States.{State, start_state}
 use Rattle.zk_table.specs.Steps.{step}
 

@@ -1,4 +1,9 @@
 pub use Rattle.zk_path.specs.Paths
+pub mod Answers
+pub mod Codes
+pub mod Nodes
+pub mod Parts
+pub mod Replies
 pub mod Histories
 pub mod Multis
 pub mod Operations

@@ -5,14 +5,14 @@
 use Rattle.std.specs.Prelude.{ℤ, pos, List, [], ◌∷◌, None, if◌then◌else◌}
 use Rattle.std.specs.List.{list_any}
 use Rattle.std.specs.Ordering.{int_eq}
-use Rattle.zk_txn.specs.declared.result.PartResult.{PartResult}
-use Rattle.zk_txn.specs.declared.result.TxnResult.{TxnResult}
-use Rattle.zk_txn.specs.declared.sub.Sub.{Sub}
-use Rattle.zk_txn.specs.declared.sub.Sub.TheVariants.{Create, Delete, SetData, Check, Error}
-use Rattle.zk_txn.specs.declared.txn.Txn.{Txn}
-use Rattle.zk_txn.specs.Codes.{runtime_inconsistency}
-use Rattle.zk_txn.specs.Parts.{is_error, path_of, code_of}
-use Rattle.zk_txn.specs.Answers.{plain_answer}
+use Rattle.zk_table.specs.declared.result.PartResult.{PartResult}
+use Rattle.zk_table.specs.declared.result.TxnResult.{TxnResult}
+use Rattle.zk_table.specs.declared.sub.Sub.{Sub}
+use Rattle.zk_table.specs.declared.sub.Sub.TheVariants.{Create, Delete, SetData, Check, Error}
+use Rattle.zk_table.specs.declared.txn.Txn.{Txn}
+use Rattle.zk_table.specs.Codes.{runtime_inconsistency}
+use Rattle.zk_table.specs.Parts.{is_error, path_of, code_of}
+use Rattle.zk_table.specs.Answers.{plain_answer}
 use Rattle.zk_table.specs.Operations.{Done, done_unless, create, delete, set_data, told}
 use Rattle.zk_table.specs.States.{NodeMap, State}
 

@@ -7,12 +7,12 @@ use Rattle.std.specs.FinMap.{get, insert, remove, contains_key}
 use Rattle.zk_acl.specs.declared.acl.Acl.{Acl}
 use Rattle.zk_acl.specs.declared.stat.Stat.{Stat}
 use Rattle.zk_path.specs.Paths.{parent_of}
-use Rattle.zk_txn.specs.declared.node.Node.{Node}
-use Rattle.zk_txn.specs.declared.result.PartResult.{PartResult}
-use Rattle.zk_txn.specs.declared.result.TxnResult.{TxnResult}
-use Rattle.zk_txn.specs.declared.txn.Txn.{Txn}
-use Rattle.zk_txn.specs.Codes.{bad_arguments, no_node, no_children_for_ephemerals, node_exists, not_empty}
-use Rattle.zk_txn.specs.Nodes.{created, with_child, without_child, written, guarded}
+use Rattle.zk_table.specs.declared.node.Node.{Node}
+use Rattle.zk_table.specs.declared.result.PartResult.{PartResult}
+use Rattle.zk_table.specs.declared.result.TxnResult.{TxnResult}
+use Rattle.zk_table.specs.declared.txn.Txn.{Txn}
+use Rattle.zk_table.specs.Codes.{bad_arguments, no_node, no_children_for_ephemerals, node_exists, not_empty}
+use Rattle.zk_table.specs.Nodes.{created, with_child, without_child, written, guarded}
 use Rattle.zk_table.specs.States.{NodeMap, SessionMap, State, children_of, stat_at, changed, parent_changed}
 
 -- ---- one operation on the nodes, alone or as a part of a multi

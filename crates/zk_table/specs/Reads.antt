@@ -5,13 +5,13 @@ use Rattle.std.specs.FinMap.{get}
 use Rattle.zk_acl.specs.declared.acl.Id.{Id}
 use Rattle.zk_acl.specs.declared.stat.Stat.{Stat}
 use Rattle.zk_path.specs.Paths.{name_of}
-use Rattle.zk_txn.specs.declared.node.Node.{Node}
-use Rattle.zk_txn.specs.declared.read.ReadCall.{ReadCall}
-use Rattle.zk_txn.specs.declared.read.ReadCall.TheVariants.{GetData, Exists, GetChildren, GetAcl}
-use Rattle.zk_txn.specs.declared.read.ReadReply.{ReadReply}
-use Rattle.zk_txn.specs.declared.read.ReadReply.TheVariants.{Content, Found, Children, AclIs, Refused}
-use Rattle.zk_txn.specs.Codes.{no_node}
-use Rattle.zk_txn.specs.Replies.{path_read, if_readable}
+use Rattle.zk_table.specs.declared.node.Node.{Node}
+use Rattle.zk_table.specs.declared.read.ReadCall.{ReadCall}
+use Rattle.zk_table.specs.declared.read.ReadCall.TheVariants.{GetData, Exists, GetChildren, GetAcl}
+use Rattle.zk_table.specs.declared.read.ReadReply.{ReadReply}
+use Rattle.zk_table.specs.declared.read.ReadReply.TheVariants.{Content, Found, Children, AclIs, Refused}
+use Rattle.zk_table.specs.Codes.{no_node}
+use Rattle.zk_table.specs.Replies.{path_read, if_readable}
 use Rattle.zk_table.specs.States.{NodeMap, State, children_of, stat_of}
 
 -- the last names of a path's children, in order

@@ -10,8 +10,8 @@ use Rattle.std.specs.FinMap.{FinMap, entries, keys, get, insert, empty}
 use Rattle.std.specs.FinMap as finite
 use Rattle.zk_acl.specs.declared.stat.Stat.{Stat}
 use Rattle.zk_path.specs.Paths.{parent_of}
-use Rattle.zk_txn.specs.declared.node.Node.{Node}
-use Rattle.zk_txn.specs.Nodes.{first_node, stat_with}
+use Rattle.zk_table.specs.declared.node.Node.{Node}
+use Rattle.zk_table.specs.Nodes.{first_node, stat_with}
 
 -- texts are ordered by their bytes
 abbrev pub path_cmp : List ℕ → List ℕ → Ordering

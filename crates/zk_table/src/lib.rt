@@ -3,14 +3,37 @@
 //!
 //! ZooKeeper Programmer's Guide, "The ZooKeeper Data Model"; `zookeeper.jute`, module
 //! `org.apache.zookeeper.txn`.
+//!
+//! Part of `zk_table`, split off for the prover's time alone.
+//!
+//! Transactions and their results, nodes, and reads: the types that records, listings and tables
+//! share.
+//!
+//! ZooKeeper Programmer's Guide, "The ZooKeeper Data Model"; `zookeeper.jute`, module
+//! `org.apache.zookeeper.txn`.
 #![tactic(auto)]
 
+pub mod codes;
+mod content;
 mod multi;
+mod names;
+mod node;
 mod nodes;
 mod operations;
 mod plain;
+mod read;
 mod reading;
+mod result;
 mod sessions;
+mod sub;
+mod txn;
 
+pub use content::Content;
 pub use multi::{answers_unapplied, first_refusal, hold_error};
+pub use names::Names;
+pub use node::Node;
 pub use plain::Plain;
+pub use read::{ReadCall, ReadReply};
+pub use result::{PartResult, PartResults, TxnResult};
+pub use sub::{Sub, Subs};
+pub use txn::{Op, Txn};

@@ -2,15 +2,15 @@
 
 ghost use Rattle.std.specs.Prelude.{◌≡◌, OnOk, IfOk, pos, if◌then◌else◌};
 ghost use Rattle.std.specs.List.{list_any};
-ghost use Rattle.zk_txn.specs.Codes.{runtime_inconsistency};
-ghost use Rattle.zk_txn.specs.Parts.{is_error};
+ghost use Rattle.zk_table.specs.Codes.{runtime_inconsistency};
+ghost use Rattle.zk_table.specs.Parts.{is_error};
 ghost use Rattle.zk_table.specs.Multis.{apply_part, nodes_after, answers_of, answers_unapplied, first_refusal};
 
+use crate::codes::RUNTIME_INCONSISTENCY;
 use crate::nodes::Nodes;
+use crate::{PartResult, Sub, Txn};
 use std::alloc::Global;
 use zk_path::NoMemory;
-use zk_txn::codes::RUNTIME_INCONSISTENCY;
-use zk_txn::{PartResult, Sub, Txn};
 
 impl Nodes {
     /// Applies the parts in order. After [`NoMemory`] some of them may be applied.

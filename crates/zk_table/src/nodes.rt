@@ -1,16 +1,16 @@
 ghost use Rattle.std.specs.Prelude.{◌≡◌, ◌<◌, ◌≤◌, length, MatchResult, IfOk, OnOk, OnErr};
 ghost use Rattle.std.specs.FinMap as finite;
 ghost use Rattle.std.specs.Option.{option_copied};
-ghost use Rattle.zk_txn.specs.Nodes.{first_node, with_child, without_child, written, guarded};
+ghost use Rattle.zk_table.specs.Nodes.{first_node, with_child, without_child, written, guarded};
 ghost use Rattle.zk_table.specs.Places.{position_of};
 ghost use Rattle.zk_table.specs.States.{path_cmp, is_child_of, children_of, owned_by, changed};
 
+use crate::{Content, Node, Txn};
 use std::alloc::Global;
 use std::cmp::Ordering;
 use std::marker::Model;
 use zk_acl::Acls;
 use zk_path::{NoMemory, Path};
-use zk_txn::{Content, Node, Txn};
 
 /// Nodes by path: a list sorted by path.
 #[derive(Debug, Drop)]
@@ -22,7 +22,7 @@ impl Model for Nodes {
     ghost use Rattle.std.specs.Prelude.{List, ℕ, IsTrue};
     ghost use Rattle.std.specs.Coded.{coded_list, coded_ℕ};
     ghost use Rattle.std.specs.FinMap as finite;
-    ghost use Rattle.zk_txn.specs.contracts.node.Node as node;
+    ghost use Rattle.zk_table.specs.contracts.node.Node as node;
     ghost use Rattle.zk_table.specs.States.{NodeMap, path_cmp};
 
     ghost Value = { NodeMap };

@@ -1,15 +1,15 @@
 //! The effect of each operation on the nodes, alone or as a part of a multi.
 
 ghost use Rattle.std.specs.Prelude.{◌≡◌, IfOk, OnErr, OnOk};
-ghost use Rattle.zk_txn.specs.Nodes.{with_child, without_child};
+ghost use Rattle.zk_table.specs.Nodes.{with_child, without_child};
 ghost use Rattle.zk_table.specs.States.{parent_changed, stat_at, stat_of};
 ghost use Rattle.zk_table.specs.Operations.{create, create_fault, delete, delete_fault, missing_fault, set_data, set_acl, without, without_all};
 
+use crate::codes::{BAD_ARGUMENTS, NO_CHILDREN_FOR_EPHEMERALS, NO_NODE, NODE_EXISTS, NOT_EMPTY};
 use crate::nodes::Nodes;
+use crate::{Content, Node, PartResult, Txn};
 use zk_acl::{Acls, Stat};
 use zk_path::{NoMemory, Path};
-use zk_txn::codes::{BAD_ARGUMENTS, NO_CHILDREN_FOR_EPHEMERALS, NO_NODE, NODE_EXISTS, NOT_EMPTY};
-use zk_txn::{Content, Node, PartResult, Txn};
 
 impl Nodes {
     /// Creates a node. After [`NoMemory`] nothing is changed.

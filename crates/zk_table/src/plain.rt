@@ -1,5 +1,5 @@
 ghost use Rattle.std.specs.Prelude.{◌≡◌, ℤ, [], IfOk, IsOk, OnErr, OnOk};
-ghost use Rattle.zk_txn.specs.declared.txn.Op.TheVariants as ops;
+ghost use Rattle.zk_table.specs.declared.txn.Op.TheVariants as ops;
 ghost use Rattle.std.specs.FinMap as finite;
 ghost use Rattle.zk_table.specs.States.{start_state, stat_of};
 ghost use Rattle.zk_table.specs.Multis.{multi};
@@ -10,11 +10,11 @@ ghost use Rattle.zk_table.specs.Steps.{open_session, close_session, step};
 use crate::multi::{answers_unapplied, first_refusal, hold_error};
 use crate::nodes::Nodes;
 use crate::sessions::Sessions;
+use crate::{Node, Op, PartResult, PartResults, ReadCall, ReadReply, Sub, Txn, TxnResult};
 use std::alloc::Global;
 use std::marker::Model;
 use zk_acl::{Id, Stat};
 use zk_path::{NoMemory, Path};
-use zk_txn::{Node, Op, PartResult, PartResults, ReadCall, ReadReply, Sub, Txn, TxnResult};
 
 /// The reference implementation of the table: a list of nodes and a list of sessions.
 #[derive(Debug)]
@@ -35,7 +35,7 @@ impl Drop for Plain {
 }
 
 impl Model for Plain {
-    ghost use Rattle.zk_txn.specs.contracts.node.Node as node;
+    ghost use Rattle.zk_table.specs.contracts.node.Node as node;
     ghost use Rattle.zk_table.specs.States.{State, state_code};
 
     ghost Value = { State };

@@ -1,15 +1,15 @@
 //! Replies to reads.
 
 ghost use Rattle.std.specs.Prelude.{◌≡◌, IfOk};
-ghost use Rattle.zk_txn.specs.declared.read.ReadReply.TheVariants as replies;
-ghost use Rattle.zk_txn.specs.Replies.{if_readable};
+ghost use Rattle.zk_table.specs.declared.read.ReadReply.TheVariants as replies;
+ghost use Rattle.zk_table.specs.Replies.{if_readable};
 ghost use Rattle.zk_table.specs.Reads.{names_below, reply_from};
 
+use crate::codes::{NO_AUTH, NO_NODE};
 use crate::nodes::{Nodes, is_child_of};
+use crate::{Names, Node, ReadCall, ReadReply};
 use zk_acl::{Id, Stat, Text};
 use zk_path::{NoMemory, Path};
-use zk_txn::codes::{NO_AUTH, NO_NODE};
-use zk_txn::{Names, Node, ReadCall, ReadReply};
 
 impl Nodes {
     pub(crate) fn read(&self, call: &ReadCall, auths: &[Id]) -> Result<ReadReply, NoMemory>

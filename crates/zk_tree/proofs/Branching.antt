@@ -7,7 +7,7 @@ use Rattle.std.specs.FinMap.{find}
 use Rattle.std.specs.Option.{option_map}
 use Rattle.std.specs.Ordering.{eq_by_cmp}
 use Rattle.zk_path.specs.Paths.{parent_of}
-use Rattle.zk_txn.specs.declared.node.Node.{Node}
+use Rattle.zk_table.specs.declared.node.Node.{Node}
 use Rattle.zk_table.specs.States.{path_cmp, is_child_of, is_parent, children_of}
 use Rattle.zk_tree.specs.declared.slots.Slot.{Slot}
 use Rattle.zk_tree.specs.Branches.{SlotMap, IsBranching, AreKept, nodes_of, new_slot, with_child, without_child, with_node, slot_changed, slot_changed_found}

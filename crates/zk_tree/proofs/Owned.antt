@@ -8,7 +8,7 @@ use Rattle.std.specs.List.{list_any}
 use Rattle.std.specs.Option.{option_map}
 use Rattle.std.specs.Ordering.{eq_by_cmp, int_cmp, int_eq}
 use Rattle.zk_path.specs.Paths.{parent_of}
-use Rattle.zk_txn.specs.declared.node.Node.{Node}
+use Rattle.zk_table.specs.declared.node.Node.{Node}
 use Rattle.zk_table.specs.States.{NodeMap, path_cmp, is_child_of, children_of}
 use Rattle.zk_tree.specs.Owners.{set_at, set_found, with_owned, with_set, without_owned, is_noted, is_owner, IsOwned}
 use Rattle.zk_tree.specs.Trees.{IsTree, owner_at}

@@ -4,8 +4,8 @@ use Rattle.std.proofs.lemmas.Cmp.{nat_list_cmp_total}
 use Rattle.std.specs.FinMap as finite
 use Rattle.std.specs.Option.{option_map}
 use Rattle.zk_path.specs.Paths.{parent_of}
-use Rattle.zk_txn.specs.declared.node.Node.{Node}
-use Rattle.zk_txn.specs.Nodes.{first_node}
+use Rattle.zk_table.specs.declared.node.Node.{Node}
+use Rattle.zk_table.specs.Nodes.{first_node}
 use Rattle.zk_table.specs.States.{NodeMap, path_cmp}
 use Rattle.zk_tree.specs.Trees.{owner_at}
 use Rattle.zk_tree.proofs.Kept.{contains_key-insert, get-insert_itself}

@@ -2,7 +2,7 @@
 use Rattle.std.specs.Prelude.{◌≡◌, ℕ, List, true, ◌&&◌, Option, Some, None, map, option_map}
 use Rattle.std.specs.FinMap as finite
 use Rattle.zk_path.specs.Paths.{parent_of}
-use Rattle.zk_txn.specs.declared.node.Node.{Node}
+use Rattle.zk_table.specs.declared.node.Node.{Node}
 use Rattle.zk_table.specs.States.{NodeMap, path_cmp, is_child_of}
 use Rattle.zk_tree.specs.declared.slots.Slot.{Slot}
 use Rattle.zk_tree.specs.Views.{PathKeys}

@@ -1,7 +1,7 @@
 -- All nodes of a tree at once: ZooKeeper Programmer's Guide, "The ZooKeeper Data Model".
 use Rattle.std.specs.Prelude.{ℕ, List, length, map}
 use Rattle.std.specs.FinMap as finite
-use Rattle.zk_txn.specs.declared.node.Node.{Node}
+use Rattle.zk_table.specs.declared.node.Node.{Node}
 use Rattle.zk_table.specs.States.{NodeMap, children_of}
 use Rattle.zk_tree.specs.declared.entry.Entry.{Entry}
 

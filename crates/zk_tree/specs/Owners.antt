@@ -3,7 +3,7 @@ use Rattle.std.specs.Prelude.{◌≡◌, ◌≢◌, ℕ, ℤ, pos, List, Bool, f
 use Rattle.std.proofs.Common.{not}
 use Rattle.std.specs.FinMap as finite
 use Rattle.std.specs.Ordering.{int_eq}
-use Rattle.zk_txn.specs.declared.node.Node.{Node}
+use Rattle.zk_table.specs.declared.node.Node.{Node}
 use Rattle.zk_table.specs.States.{NodeMap}
 use Rattle.zk_tree.specs.Trees.{IsTree}
 use Rattle.zk_tree.specs.Views.{PathKeys, OwnerMap}

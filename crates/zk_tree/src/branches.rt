@@ -29,7 +29,7 @@ impl Drop for Branches {
 impl Model for Branches {
     ghost use Rattle.std.specs.Coded.{coded_list, coded_ℕ};
     ghost use Rattle.std.specs.FinMap as finite;
-    ghost use Rattle.zk_txn.specs.contracts.node.Node as node;
+    ghost use Rattle.zk_table.specs.contracts.node.Node as node;
     ghost use Rattle.zk_table.specs.States.{NodeMap};
     ghost use Rattle.zk_tree.specs.Branches.{nodes_of, IsBranching};
 

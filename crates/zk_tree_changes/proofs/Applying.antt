@@ -11,7 +11,7 @@ use Rattle.zk_tree_changes.specs.declared.sign.Sign.{Sign}
 use Rattle.zk_tree_changes.specs.declared.sign.Sign.TheVariants.{Removed, Added, Before, After}
 use Rattle.zk_incidents.specs.Within.{is_within}
 use Rattle.zk_table.specs.States.{NodeMap}
-use Rattle.zk_txn.specs.declared.node.Node.{Node}
+use Rattle.zk_table.specs.declared.node.Node.{Node}
 
 -- ---- lines
 

@@ -5,7 +5,7 @@ use Rattle.zk_tree_changes.specs.Scripts.{node_of}
 use Rattle.zk_table.specs.States.{NodeMap, children_of}
 use Rattle.zk_tree.specs.Entries.{entries_of, lent}
 use Rattle.zk_tree.specs.declared.entry.Entry.{Entry}
-use Rattle.zk_txn.specs.declared.node.Node.{Node}
+use Rattle.zk_table.specs.declared.node.Node.{Node}
 
 abbrev first_of : List ℕ × (Node × ℕ) → List ℕ × Node
 first_of l = (l.0, l.1.0)

@@ -18,7 +18,7 @@ use Rattle.zk_tree_changes.specs.declared.stamps.Stamp.{Stamp}
 use Rattle.zk_incidents.specs.Within.{is_within}
 use Rattle.zk_path.specs.declared.memory.NoMemory.{NoMemory}
 use Rattle.zk_table.specs.States.{NodeMap, path_cmp}
-use Rattle.zk_txn.specs.declared.node.Node.{Node}
+use Rattle.zk_table.specs.declared.node.Node.{Node}
 
 -- ---- which paths there are
 

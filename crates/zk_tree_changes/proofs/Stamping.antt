@@ -7,7 +7,7 @@ use Rattle.zk_tree_changes.specs.declared.stamps.Stamp.{Stamp}
 use Rattle.zk_table.specs.States.{NodeMap, children_of, path_cmp}
 use Rattle.zk_tree.specs.Entries.{entries_of, lent}
 use Rattle.zk_tree.specs.declared.entry.Entry.{Entry}
-use Rattle.zk_txn.specs.declared.node.Node.{Node}
+use Rattle.zk_table.specs.declared.node.Node.{Node}
 
 pub stamped_more : (stamps : Stamped) (stamp : Stamp) (front more : List (List ℕ)) → stamped stamps stamp (front ++ more) ≡ stamped (stamped stamps stamp front) stamp more
 stamped_more stamps stamp [] more = refl

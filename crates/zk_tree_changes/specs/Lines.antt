@@ -5,7 +5,7 @@ use Rattle.std.specs.Ordering.{int_eq}
 use Rattle.std.specs.Str.{bytes_eq}
 use Rattle.zk_format.specs.Spelling.{id_digits, quoted}
 use Rattle.zk_tree_changes.specs.Words.{acl_word, content_word, word_of}
-use Rattle.zk_txn.specs.declared.node.Node.{Node}
+use Rattle.zk_table.specs.declared.node.Node.{Node}
 
 -- a comment: the path as in a report, and what is left out
 unfoldable pub note : List ℕ → List ℕ → List ℕ

@@ -7,7 +7,7 @@ use Rattle.zk_incidents.specs.Within.{is_within}
 use Rattle.zk_tree_changes.specs.Lines.{node_lines}
 use Rattle.zk_table.specs.States.{NodeMap, State}
 use Rattle.zk_tree.specs.declared.entry.Entry.{Entry}
-use Rattle.zk_txn.specs.declared.node.Node.{Node}
+use Rattle.zk_table.specs.declared.node.Node.{Node}
 
 unfoldable pub title : List ℕ → List ℕ
 title root = codes "# Node " ++ quoted root

@@ -7,8 +7,7 @@ use std::alloc::Global;
 use zk_incidents::Owners;
 use zk_newer_records::NewerRecord;
 use zk_path::{NoMemory, Path};
-use zk_table::hold_error;
-use zk_txn::{Op, Sub};
+use zk_table::{Op, Sub, hold_error};
 
 /// The paths of the nodes that a record creates or deletes.
 pub(crate) fn moved<'a>(

@@ -9,7 +9,7 @@ use crate::line::{push_create, push_create_null, push_note, push_set, push_set_a
 use crate::word::{content_word, word_of};
 use zk_format::push_id;
 use zk_path::NoMemory;
-use zk_txn::{Content, Node};
+use zk_table::{Content, Node};
 
 /// What is left out.
 const CONTENT: &str = "no word has its content, which is left out";

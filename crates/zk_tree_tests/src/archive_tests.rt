@@ -5,7 +5,7 @@ use crate::jute_tests::{FIRST, MULTI, SECOND};
 use std::alloc::Global;
 use zk_jute::{Archive, Span, read_txn, size};
 use zk_records::Journal;
-use zk_txn::Txn;
+use zk_table::Txn;
 
 /// How many transactions are appended.
 const COUNT: u32 = 5000;

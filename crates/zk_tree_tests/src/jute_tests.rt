@@ -8,7 +8,7 @@ use zk_acl::Acls;
 use zk_jute::JuteFault::{self, Boolean, Kind, Length, Short, Trailing};
 use zk_jute::{read_txn, read_txn_sharing, size, write_txn};
 use zk_path::NoMemory;
-use zk_txn::Txn;
+use zk_table::Txn;
 
 /// The first record of the first log: a session is opened.
 pub(crate) static FIRST: [u8; 36] = [

@@ -5,7 +5,7 @@ use zk_listing::{
     read_long, read_path, read_quoted,
 };
 use zk_path::{NoMemory, Path};
-use zk_txn::Txn;
+use zk_table::Txn;
 
 // The cost of a test's proof grows steeply with its exits: a test only asserts, and helpers do what
 // can fail.

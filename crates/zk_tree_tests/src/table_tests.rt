@@ -1,4 +1,4 @@
-//! Tests of `zk_table` and `zk_txn`: the plain table, and calls that no command of `zk` makes. The
+//! Tests of `zk_table`: the plain table, and calls that no command of `zk` makes. The
 //! effects and results of transactions are tested in checks/golden/table.golden, by the table that
 //! `zk` runs.
 

@@ -3,8 +3,8 @@
 
 use std::alloc::Global;
 use zk_path::{NoMemory, Path};
+use zk_table::Node;
 use zk_tree::{Refused, Tree};
-use zk_txn::Node;
 
 /// What is checked of the start state at a path.
 #[derive(Clone, Copy)]

@@ -9,11 +9,11 @@ use Rattle.zk_directory.specs.Joints.{is_proved, joints_of}
 use Rattle.zk_directory.specs.declared.joint.Joint.{Joint}
 use Rattle.zk_newer_records.specs.NewerRecords.{IsNewer}
 use Rattle.zk_newer_records.specs.declared.newer_record.NewerRecord.{NewerRecord}
-use Rattle.zk_txn.specs.Parts.{path_of as part_path}
-use Rattle.zk_txn.specs.declared.sub.Sub.{Sub}
-use Rattle.zk_txn.specs.declared.txn.Op.{Op}
-use Rattle.zk_txn.specs.declared.txn.Op.TheVariants as ops
-use Rattle.zk_txn.specs.declared.txn.Txn.{Txn}
+use Rattle.zk_table.specs.Parts.{path_of as part_path}
+use Rattle.zk_table.specs.declared.sub.Sub.{Sub}
+use Rattle.zk_table.specs.declared.txn.Op.{Op}
+use Rattle.zk_table.specs.declared.txn.Op.TheVariants as ops
+use Rattle.zk_table.specs.declared.txn.Txn.{Txn}
 use Rattle.zk_verification.specs.declared.findings.Doubt.{Doubt}
 use Rattle.zk_verification.specs.declared.mark.Mark.{Mark}
 use Rattle.zk_verification.specs.declared.mark.Mark.TheVariants as marks

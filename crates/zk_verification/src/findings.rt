@@ -4,7 +4,7 @@ ghost use Rattle.std.specs.List.{list_any};
 ghost use Rattle.std.specs.Option.{option_copied};
 ghost use Rattle.zk_directory.specs.Chains.{history_of, is_zxid, told};
 ghost use Rattle.zk_directory.specs.Joints.{is_proved, joints_of};
-ghost use Rattle.zk_txn.specs.Parts.{path_of as part_path};
+ghost use Rattle.zk_table.specs.Parts.{path_of as part_path};
 ghost use Rattle.zk_verification.specs.Findings.{AreFactsAt, AreFactsOf, AddsTree, AreFound, cause_of, covers, doubt_after, doubt_by, doubt_of, earlier_doubt, explains, facts_of, first_doubt, first_path, has_zxid, is_above, is_cause, is_open, joint_mark, known_before, path_of, proves};
 
 use crate::mark::{Facts, Mark, Mismatch};
@@ -12,7 +12,7 @@ use std::alloc::Global;
 use zk_directory::{Chain, Joint, LogEntry};
 use zk_newer_records::{NewerFault, read_newer};
 use zk_path::{NoMemory, Path};
-use zk_txn::{Op, Sub, Txn};
+use zk_table::{Op, Sub, Txn};
 
 /// The first record whose digest is not that of its tree.
 #[derive(Clone, Copy, Debug, PartialEq, Eq)]

@@ -3,7 +3,7 @@ use Rattle.std.proofs.Common.{◌≡◌, ◌∙◌, ◌⊎◌, inl, inr, ℕ, �
 use Rattle.std.proofs.Math.ListN.{drop_of_length-le}
 use Rattle.std.proofs.Math.Seq.{drop-append_seam}
 use Rattle.std.proofs.lemmas.List.{append-nil, append_assoc, length-append}
-use Rattle.zk_txn.specs.declared.txn.Txn.{Txn}
+use Rattle.zk_table.specs.declared.txn.Txn.{Txn}
 use Rattle.zk_views.specs.Catching.{HasCaughtUp, MayCatchUp}
 use Rattle.zk_views.specs.Views.{IsPrefix, LiesBetween, Publishing}
 use Rattle.zk_views.proofs.Prefixes.{prefix_same, prefix_trans}

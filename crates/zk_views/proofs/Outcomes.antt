@@ -1,7 +1,7 @@
 -- What is known at either outcome of a call.
 use Rattle.std.proofs.Common.{◌≡◌, ℤ, ◌≤ℤ◌, List, Result, Ok, Err, IfErr, OnOk, OnErr, sym, ap, ◌∙◌, subst}
 use Rattle.std.proofs.lemmas.Result.{IfErr-weaker}
-use Rattle.zk_txn.specs.declared.txn.Txn.{Txn}
+use Rattle.zk_table.specs.declared.txn.Txn.{Txn}
 use Rattle.zk_table.specs.Histories.{tree_of}
 use Rattle.zk_views.specs.declared.fault.ViewFault.{ViewFault}
 use Rattle.zk_views.specs.declared.fault.ViewFault.TheVariants.{Behind, NoMemory, Gone}

@@ -1,7 +1,7 @@
 -- Lists that begin with others.
 use Rattle.std.proofs.Common.{◌≡◌, ℕ, List, [], ◌∷◌, ◌++◌, drop, take, fold, refl, sym, ap, ◌∙◌}
 use Rattle.std.proofs.lemmas.List.{append-nil, append_assoc, take-append-drop}
-use Rattle.zk_txn.specs.declared.txn.Txn.{Txn}
+use Rattle.zk_table.specs.declared.txn.Txn.{Txn}
 use Rattle.zk_views.specs.Views.{IsPrefix, LiesBetween}
 
 pub prefix_same : (txns : List Txn) → IsPrefix txns txns

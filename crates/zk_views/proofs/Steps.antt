@@ -4,7 +4,7 @@ use mathlib.Core.Option.{some, some-ne-none}
 use lib.ListN.{get_elem?}
 use Rattle.atomic_table.proofs.Lists.{at_set, at_snoc}
 use Rattle.left_right.specs.Register.{Admits, TurnsAt}
-use Rattle.zk_txn.specs.declared.txn.Txn.{Txn}
+use Rattle.zk_table.specs.declared.txn.Txn.{Txn}
 use Rattle.zk_views.specs.Views.{IsPrefix, BeginsWithAll, Publishes, Enters}
 use Rattle.zk_views.proofs.Prefixes.{prefix_same, prefix_append, prefix_trans}
 

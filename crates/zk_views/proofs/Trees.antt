@@ -1,7 +1,7 @@
 -- The tree of a list that is one transaction longer.
 use Rattle.std.proofs.Common.{◌≡◌, false, List, [], ◌∷◌, ◌++◌, refl, sym, ap, ◌∙◌}
 use Rattle.zk_machine.specs.Machines.{MachineView}
-use Rattle.zk_txn.specs.declared.txn.Txn.{Txn}
+use Rattle.zk_table.specs.declared.txn.Txn.{Txn}
 use Rattle.zk_table.specs.Histories.{state_after, tree_of}
 use Rattle.zk_table.specs.States.{State, start_state}
 use Rattle.zk_table.specs.Steps.{step}

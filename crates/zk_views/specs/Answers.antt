@@ -1,8 +1,8 @@
 -- A client's reply from a published list.
 use Rattle.std.specs.Prelude.{◌≡◌, ℤ, ◌<ℤ◌, ◌≤ℤ◌, List}
 use Rattle.zk_acl.specs.declared.acl.Id.{Id}
-use Rattle.zk_txn.specs.declared.read.ReadCall.{ReadCall}
-use Rattle.zk_txn.specs.declared.txn.Txn.{Txn}
+use Rattle.zk_table.specs.declared.read.ReadCall.{ReadCall}
+use Rattle.zk_table.specs.declared.txn.Txn.{Txn}
 use Rattle.zk_table.specs.Histories.{tree_of}
 use Rattle.zk_table.specs.Reads.{reply_to}
 use Rattle.zk_views.specs.declared.fault.ViewFault.{ViewFault}

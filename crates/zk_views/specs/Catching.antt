@@ -2,7 +2,7 @@
 use Rattle.std.specs.Prelude.{◌≡◌, ◌⊎◌, ℕ, Bool, false, List, length, replicate}
 use Rattle.atomic_table.specs.Seated.{TableId}
 use Rattle.zk_views.specs.declared.published_view.PublishedView.{PublishedView}
-use Rattle.zk_txn.specs.declared.txn.Txn.{Txn}
+use Rattle.zk_table.specs.declared.txn.Txn.{Txn}
 use Rattle.zk_views.specs.Views.{IsPrefix, Publishing, Entering, unpublished, unentered}
 
 -- of what the view was offered and what the server has delivered, one is a prefix of the other

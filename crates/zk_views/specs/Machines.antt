@@ -2,7 +2,7 @@
 use Rattle.std.specs.Prelude.{◌≡◌, ℤ, false, List, Option, IfSome}
 use Rattle.zk_machine.specs.Machines.{MachineView}
 use Rattle.zk_table.specs.Histories.{tree_of}
-use Rattle.zk_txn.specs.declared.txn.Txn.{Txn}
+use Rattle.zk_table.specs.declared.txn.Txn.{Txn}
 
 -- a machine that has not failed, in the state of the list
 pub record IsMachineOf (txns : List Txn) (machine : MachineView) : Type 0 where

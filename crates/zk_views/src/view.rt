@@ -30,7 +30,7 @@ pub struct View {
 /// Contracts see the list.
 impl Model for View {
     ghost use Rattle.std.specs.Prelude.{◌≡◌, List};
-    ghost use Rattle.zk_txn.specs.declared.txn.Txn.{Txn};
+    ghost use Rattle.zk_table.specs.declared.txn.Txn.{Txn};
     ghost use Rattle.zk_views.specs.Machines.{IsKeptBeside};
 
     ghost Value = { List Txn };

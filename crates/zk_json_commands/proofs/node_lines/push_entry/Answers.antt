@@ -3,7 +3,7 @@ use Rattle.std.proofs.lemmas.Result.{on_ok_weaker}
 use Rattle.std.specs.String.{string_bytes}
 use Rattle.zk_acl.specs.declared.stat.Stat.{Stat}
 use Rattle.zk_json.specs.Nodes.{AppendsNodeLine}
-use Rattle.zk_txn.specs.Nodes.{stat_with}
+use Rattle.zk_table.specs.Nodes.{stat_with}
 use Rattle.zk_json_commands.proofs.node_lines.push_entry.Goals as goal
 
 pub returns : goal.returns

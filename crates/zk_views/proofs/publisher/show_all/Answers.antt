@@ -1,6 +1,6 @@
 use Rattle.std.proofs.Common.{List, drop, ◌∙◌}
 use Rattle.std.proofs.lemmas.Result.{MatchResult-weaker}
-use Rattle.zk_txn.specs.declared.txn.Txn.{Txn}
+use Rattle.zk_table.specs.declared.txn.Txn.{Txn}
 use Rattle.zk_views.proofs.Prefixes.{appended, goes_on}
 use Rattle.zk_views.proofs.Steps.{publishes}
 use Rattle.zk_views.proofs.publisher.show_all.Goals as goal

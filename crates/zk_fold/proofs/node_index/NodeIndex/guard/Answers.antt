@@ -1,5 +1,5 @@
 use Rattle.std.proofs.Common.{◌≡◌, refl, w32, to_z, of_z, rules, sym, ap, subst, ◌∙◌}
-use Rattle.zk_txn.specs.Nodes.{guarded}
+use Rattle.zk_table.specs.Nodes.{guarded}
 use Rattle.zk_table.specs.States.{changed}
 use Rattle.zk_fold.specs.Slots.{nodes_at, place_changed, with_node}
 use Rattle.zk_fold.proofs.Counting.{nodes_written}

@@ -1,5 +1,5 @@
 use Rattle.std.proofs.Common.{◌≡◌, w32, to_z, of_z, rules, ap, ◌∙◌}
-use Rattle.zk_txn.specs.Nodes.{guarded}
+use Rattle.zk_table.specs.Nodes.{guarded}
 use Rattle.zk_table.specs.States.{changed, stat_at}
 use Rattle.zk_fold.proofs.Deeds.{set_nodes}
 use Rattle.zk_fold.proofs.node_index.NodeIndex.set_acl.Goals as goal

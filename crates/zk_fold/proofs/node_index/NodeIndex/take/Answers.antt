@@ -2,7 +2,7 @@ use Rattle.std.proofs.Common.{◌≡◌, ◌<◌, Some, true, is_some, length, w
 use Rattle.std.proofs.lemmas.Bool.{false≢true}
 use Rattle.std.specs.FinMap as finite
 use Rattle.std.specs.Option.{ForSome}
-use Rattle.zk_txn.specs.Nodes as nodes
+use Rattle.zk_table.specs.Nodes as nodes
 use Rattle.zk_table.specs.States.{children_of, parent_changed}
 use Rattle.zk_tree.specs.Owners.{without_owned}
 use Rattle.zk_tree.specs.Views.{OwnerMap}

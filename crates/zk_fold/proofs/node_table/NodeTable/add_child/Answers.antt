@@ -2,7 +2,7 @@ use Rattle.std.proofs.Common.{◌≡◌, ◌+◌, Some, None, rules, w32, w64, t
 use Rattle.std.proofs.lemmas.Cmp.{nat_list_cmp_total}
 use Rattle.std.specs.FinMap as finite
 use Rattle.std.specs.Option.{option_copied_mut}
-use Rattle.zk_txn.specs.Nodes as nodes
+use Rattle.zk_table.specs.Nodes as nodes
 use Rattle.zk_tree.proofs.Kept.{get-map_of, map_inserted, insert_same, path_cmp-IsAntisymmetric}
 use Rattle.zk_fold.specs.Slots.{with_child, is_fit}
 use Rattle.zk_fold.proofs.Counting.{changed_place}

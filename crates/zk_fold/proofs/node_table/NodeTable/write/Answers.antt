@@ -1,7 +1,7 @@
 use Rattle.std.proofs.Common.{◌≡◌, Some, None, rules, w32, to_z, of_z, ap, sym, ◌∙◌}
 use Rattle.std.specs.FinMap as finite
 use Rattle.std.specs.Option.{option_copied_mut}
-use Rattle.zk_txn.specs.Nodes.{written}
+use Rattle.zk_table.specs.Nodes.{written}
 use Rattle.zk_tree.specs.Views.{map_of}
 use Rattle.zk_tree.proofs.Kept.{get-map_of, map_inserted}
 use Rattle.zk_fold.specs.Slots.{with_node}

@@ -1,6 +1,6 @@
 use Rattle.std.proofs.Common.{◌≡◌, ◌++◌, refl, sym, ap, ◌∙◌, w32, to_z, of_z, rules}
 use Rattle.std.proofs.lemmas.List.{append-nil, at_drop_all}
-use Rattle.zk_txn.specs.Answers.{plain_answer}
+use Rattle.zk_table.specs.Answers.{plain_answer}
 use Rattle.zk_table.specs.Multis.{answers_of, first_refusal}
 use Rattle.zk_machine.specs.Changes.{part_changes}
 use Rattle.zk_machine.specs.Undoing.{nodes_before}

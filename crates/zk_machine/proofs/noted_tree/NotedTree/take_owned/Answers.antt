@@ -1,5 +1,5 @@
 use Rattle.std.proofs.Common.{◌≡◌, refl, sym, ap, ◌∙◌, subst, List, ℕ, w64, to_z, of_z, rules}
-use Rattle.zk_txn.specs.Nodes.{without_child}
+use Rattle.zk_table.specs.Nodes.{without_child}
 use Rattle.zk_table.specs.States.{owned_by, parent_changed}
 use Rattle.zk_machine.proofs.Owned.{AreOwned, all_owned, without_next, owned_next, owned_there, owned_below, owned_childless}
 use Rattle.zk_machine.proofs.noted_tree.NotedTree.take_owned.Goals as goal

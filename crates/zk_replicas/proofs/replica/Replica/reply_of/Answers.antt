@@ -6,8 +6,8 @@ use Rattle.zk_model.specs.declared.event.Question.{Question}
 use Rattle.zk_model.specs.Ensembles.{reply_of}
 use Rattle.zk_table.specs.Reads.{reply_to}
 use Rattle.zk_table.specs.States.{start_state}
-use Rattle.zk_txn.specs.Codes.{session_expired}
-use Rattle.zk_txn.specs.declared.read.ReadReply.TheVariants.{Refused}
+use Rattle.zk_table.specs.Codes.{session_expired}
+use Rattle.zk_table.specs.declared.read.ReadReply.TheVariants.{Refused}
 use Rattle.zk_replicas.specs.Views.{tree_by}
 use Rattle.zk_replicas.proofs.replica.Replica.reply_of.Goals as goal
 

@@ -3,7 +3,7 @@ use Rattle.std.proofs.lemmas.Int.{to_z-of_z}
 use Rattle.std.proofs.lemmas.Result.{IfOk-weaker}
 use Rattle.std.specs.FinMap as finite
 use Rattle.std.specs.Option.{option_map}
-use Rattle.zk_txn.specs.Nodes.{with_child}
+use Rattle.zk_table.specs.Nodes.{with_child}
 use Rattle.zk_requests.specs.Overlays.{count_of}
 use Rattle.zk_requests.proofs.Recounts.{recounted_with, changed_with}
 use Rattle.zk_requests.proofs.overlay.Overlay.with_node.Goals as goal

@@ -3,7 +3,7 @@ use Rattle.std.proofs.lemmas.Int.{to_z-of_z}
 use Rattle.std.proofs.lemmas.Result.{IfOk-weaker}
 use Rattle.std.specs.FinMap as finite
 use Rattle.std.specs.Option.{option_map}
-use Rattle.zk_txn.specs.Nodes.{without_child}
+use Rattle.zk_table.specs.Nodes.{without_child}
 use Rattle.zk_requests.proofs.Recounts.{recounted_without, changed_without}
 use Rattle.zk_requests.proofs.overlay.Overlay.without_node.Goals as goal
 

@@ -1,7 +1,7 @@
 use Rattle.std.proofs.Common.{◌≡◌, set, ap, ◌∙◌, w64}
 use Rattle.std.proofs.lemmas.Int.{to_z-of_z}
 use Rattle.std.specs.FinMap.{entries}
-use Rattle.zk_txn.specs.Nodes.{without_child}
+use Rattle.zk_table.specs.Nodes.{without_child}
 use Rattle.zk_table.specs.States.{path_cmp, changed}
 use Rattle.zk_table.proofs.Sorted.{placed, sorted_from_entries, kept_from_entries}
 use Rattle.zk_table.proofs.Changes.{entries_changed, unchanged_missing}

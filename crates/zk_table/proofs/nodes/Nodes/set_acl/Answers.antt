@@ -1,7 +1,7 @@
 use Rattle.std.proofs.Common.{◌≡◌, ℕ, List, Option, pos, Some, sym, ap, ap₂, ◌∙◌, w32, of_z, to_z}
 use Rattle.std.proofs.lemmas.Int.{to_z-of_z}
 use Rattle.zk_acl.specs.declared.stat.Stat.{Stat}
-use Rattle.zk_txn.specs.Nodes.{guarded}
+use Rattle.zk_table.specs.Nodes.{guarded}
 use Rattle.zk_table.specs.Operations.{Done, done_unless}
 use Rattle.zk_table.specs.States.{NodeMap, changed, stat_at}
 use Rattle.zk_table.proofs.nodes.Nodes.set_acl.Goals as goal

@@ -1,5 +1,5 @@
 use Rattle.std.proofs.Common.{◌≡◌, List, ◌++◌, take, sym, ◌∙◌, subst}
-use Rattle.zk_txn.specs.declared.txn.Txn.{Txn}
+use Rattle.zk_table.specs.declared.txn.Txn.{Txn}
 use Rattle.zk_views.specs.Views.{LiesBetween}
 use Rattle.zk_views.proofs.Outcomes.{on_err}
 use Rattle.zk_views.proofs.Prefixes.{between}

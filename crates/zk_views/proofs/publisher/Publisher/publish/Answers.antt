@@ -1,5 +1,5 @@
 use Rattle.std.proofs.Common.{List, ◌++◌, sym, subst}
-use Rattle.zk_txn.specs.declared.txn.Txn.{Txn}
+use Rattle.zk_table.specs.declared.txn.Txn.{Txn}
 use Rattle.zk_views.specs.Views.{IsPrefix, Publishing}
 use Rattle.zk_views.proofs.Outcomes.{begins_either}
 use Rattle.zk_views.proofs.Prefixes.{prefix_append, prefix_same, prefix_trans}
