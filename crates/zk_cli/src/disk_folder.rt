@@ -4,10 +4,10 @@ use std::alloc::{AllocError, Global};
 use std::io::{Read, Seek, SeekFrom};
 use std::{fs, io};
 use zk_directory::{FileName, read_file_name};
-use zk_directory_files::{
-    Folder, FolderFault, HistoryFault, name_among, push_log_name, push_snapshot_name, server_files,
+use zk_directory_state::{
+    Folder, FolderFault, HistoryFault, logs_in, name_among, push_log_name, push_snapshot_name,
+    server_files,
 };
-use zk_directory_state::logs_in;
 use zk_listings::GrowingLogs;
 
 /// The name of the directory that servers create in a data directory.

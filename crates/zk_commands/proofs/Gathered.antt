@@ -14,8 +14,8 @@ use Rattle.zk_directory.specs.declared.chain.Turn.TheVariants.{Take, Skip, Stop}
 use Rattle.zk_directory_state.specs.Attempts.{history_fault}
 use Rattle.zk_directory_state.specs.Records.{first_reading}
 use Rattle.zk_directory_state.specs.Logs.{AreGiven, bytes_of}
-use Rattle.zk_directory_files.specs.declared.fault.HistoryFault.{HistoryFault}
-use Rattle.zk_directory_files.specs.declared.fault.HistoryFault.TheVariants as history_faults
+use Rattle.zk_directory_state.specs.declared.fault.HistoryFault.{HistoryFault}
+use Rattle.zk_directory_state.specs.declared.fault.HistoryFault.TheVariants as history_faults
 use Rattle.zk_log.specs.declared.loaded.Ending.{Ending}
 use Rattle.zk_directory.specs.LogFiles.{IsLogFile}
 use Rattle.zk_directory.specs.declared.file.FileEntry.{FileEntry}

@@ -5,8 +5,8 @@ use Rattle.zk_directory_state.specs.Logs.{IsUnread}
 use Rattle.zk_directory_state.specs.declared.history.Shown.{Shown}
 use Rattle.zk_directory_state.specs.declared.upto.Upto.{Upto}
 use Rattle.zk_directory_state.specs.declared.upto.Upto.TheVariants.{Last, Zxid}
-use Rattle.zk_directory_files.specs.Names.{log_zxid}
-use Rattle.zk_directory_files.specs.declared.fault.HistoryFault.{HistoryFault}
+use Rattle.zk_directory_state.specs.Names.{log_zxid}
+use Rattle.zk_directory_state.specs.declared.fault.HistoryFault.{HistoryFault}
 use Rattle.zk_table.specs.declared.txn.Txn.{Txn}
 use Rattle.zk_commands.specs.Later.{FindsLaterIn, LaterIn}
 use Rattle.zk_commands.specs.Starts.{Continues, Directory, FindsShown, FindsStart, FromEarlier, HoldsAt, StartsWith, before}

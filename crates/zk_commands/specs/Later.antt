@@ -7,8 +7,8 @@ use Rattle.zk_directory.specs.declared.chain.Chain.{Chain}
 use Rattle.zk_directory_state.specs.Attempts.{history_fault}
 use Rattle.zk_directory_state.specs.Records.{first_reading}
 use Rattle.zk_directory_state.specs.Logs.{AreGiven, IsUnread, bytes_of, logs_from}
-use Rattle.zk_directory_files.specs.declared.fault.HistoryFault.{HistoryFault}
-use Rattle.zk_directory_files.specs.declared.fault.HistoryFault.TheVariants as faults
+use Rattle.zk_directory_state.specs.declared.fault.HistoryFault.{HistoryFault}
+use Rattle.zk_directory_state.specs.declared.fault.HistoryFault.TheVariants as faults
 use Rattle.zk_directory.specs.LogFiles.{IsLogFile}
 use Rattle.zk_directory.specs.declared.file.FileEntry.{FileEntry}
 use Rattle.zk_directory.specs.declared.file.LogFile.{LogFile}

@@ -2,8 +2,8 @@
 use Rattle.std.specs.Prelude.{◌≡◌, ◌⊎◌, ℕ, List, Bool, Option, None, Result, Ok, Err}
 use Rattle.zk_commands.specs.Holding.{Sits}
 use Rattle.zk_debug.specs.Debugging.{started}
-use Rattle.zk_directory_files.specs.Outcomes.{Rejects}
-use Rattle.zk_directory_files.specs.declared.fault.HistoryFault.{HistoryFault}
+use Rattle.zk_directory_state.specs.Outcomes.{Rejects}
+use Rattle.zk_directory_state.specs.declared.fault.HistoryFault.{HistoryFault}
 use Rattle.zk_log.specs.declared.source.Source.{Source}
 use Rattle.zk_log_commands.specs.Debugs.{ReadsScript}
 use Rattle.zk_log_commands.specs.Telling.{GivesUp}

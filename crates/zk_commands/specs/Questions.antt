@@ -15,8 +15,8 @@ use Rattle.zk_cli_args.specs.declared.top.TopJob.{TopJob}
 use Rattle.zk_commands.specs.Starts.{Directory}
 use Rattle.zk_commands.specs.declared.question.Question.{Question}
 use Rattle.zk_commands.specs.declared.question.Question.TheVariants as questions
-use Rattle.zk_directory_files.specs.Outcomes.{TellsFiles}
-use Rattle.zk_directory_state.specs.Outcomes.{TellsShown}
+use Rattle.zk_directory_state.specs.Outcomes.{TellsFiles}
+use Rattle.zk_directory_state.specs.Showing.{TellsShown}
 use Rattle.zk_directory_state.specs.declared.upto.Upto.{Upto}
 use Rattle.zk_directory_state.specs.declared.upto.Upto.TheVariants as uptos
 use Rattle.zk_incidents.specs.HistoryReports as histories

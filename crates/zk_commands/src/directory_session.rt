@@ -10,8 +10,7 @@ use crate::start::{Start, start_of};
 use std::alloc::Global;
 use std::io::{Read, Write};
 use zk_debug::Debugger;
-use zk_directory_files::{Folder, tell_fault};
-use zk_directory_state::Upto;
+use zk_directory_state::{Folder, Upto, tell_fault};
 use zk_log::{Sink, Source};
 use zk_path::NoMemory;
 

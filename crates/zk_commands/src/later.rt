@@ -4,9 +4,9 @@ ghost use Rattle.zk_commands.specs.Later.{AppendsEntries, AppendsFile, AppendsLo
 
 use std::alloc::Global;
 use zk_directory::{Chain, FileEntry, LogFile, Turn, first_log, read_log_file};
-use zk_directory_files::{Folder, HistoryFault};
 use zk_directory_state::{
-    DirectoryFault, RestoreFault, check_end, history_fault, read_logs, slices_of, take_entry,
+    DirectoryFault, Folder, HistoryFault, RestoreFault, check_end, history_fault, read_logs,
+    slices_of, take_entry,
 };
 use zk_path::NoMemory;
 use zk_table::Txn;

@@ -4,8 +4,7 @@ ghost use Rattle.zk_commands.specs.Starts.{Directory, FindsShown, FindsStart, Fr
 
 use crate::later::later_in;
 use std::alloc::Global;
-use zk_directory_files::{Folder, HistoryFault};
-use zk_directory_state::{Origin, Shown, Upto, logs_in, shown_of};
+use zk_directory_state::{Folder, HistoryFault, Origin, Shown, Upto, logs_in, shown_of};
 use zk_log::Txns;
 use zk_machine::Machine;
 

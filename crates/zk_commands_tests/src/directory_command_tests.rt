@@ -3,10 +3,9 @@ use crate::files::{
     LISTLESS_SNAPSHOT, LOG_1, LOG_6, LOG_8, LOG_WITH_DIGEST, LOG_WITH_OTHER, SNAPSHOT,
 };
 use std::alloc::Global;
-use zk_directory_files::{Folder, FolderFault, HistoryFault};
 use zk_directory_state::{
-    DirectoryFault, RestoreFault, Upto, history_fault, logs_in, read_logs, show, shown_of,
-    slices_of,
+    DirectoryFault, Folder, FolderFault, HistoryFault, RestoreFault, Upto, history_fault, logs_in,
+    read_logs, show, shown_of, slices_of,
 };
 use zk_listings::{Form, list_directory};
 use zk_log::{DripOut, Ending, Sink};

@@ -1,6 +1,6 @@
 //! Logs in memory that grow.
 use std::alloc::Global;
-use zk_directory_files::HistoryFault;
+use zk_directory_state::HistoryFault;
 use zk_listings::GrowingLogs;
 
 /// A log: the zxid in its name, and its bytes so far.

@@ -5,9 +5,9 @@ use Rattle.zk_comparison.specs.Notices.{AppendsNotices}
 use Rattle.zk_comparison.specs.Reports.{AreLogsOf, AreNoticesOf, Broken, Empty, FindsComparison, FindsLoaded, FindsSurvey, IsComparison, Keeps, Source, Unread, fault_of}
 use Rattle.zk_comparison.specs.declared.comparison.Report.{Report}
 use Rattle.zk_comparison.specs.declared.finding.Directory.TheVariants.{First, Second}
-use Rattle.zk_directory_files.specs.Names.{log_zxid, snapshot_zxid}
-use Rattle.zk_directory_files.specs.declared.fault.HistoryFault.{HistoryFault}
-use Rattle.zk_directory_files.specs.declared.fault.HistoryFault.TheVariants as faults
+use Rattle.zk_directory_state.specs.Names.{log_zxid, snapshot_zxid}
+use Rattle.zk_directory_state.specs.declared.fault.HistoryFault.{HistoryFault}
+use Rattle.zk_directory_state.specs.declared.fault.HistoryFault.TheVariants as faults
 use Rattle.zk_directory_state.specs.Histories.{AreIn}
 use Rattle.zk_directory_state.specs.Logs.{IsUnread}
 use Rattle.zk_verification.specs.Surveys.{AreSurveyed, Surveyed, start_survey, surveyed_by}

@@ -3,7 +3,7 @@
 use Rattle.std.specs.Prelude.{◌≡◌, ℕ, List, [], ◌++◌, codes}
 use Rattle.zk_comparison.specs.Lines.{AreLines, directory_word}
 use Rattle.zk_comparison.specs.declared.finding.Directory.{Directory}
-use Rattle.zk_directory_files.specs.FaultLines.{fault_text}
+use Rattle.zk_directory_state.specs.FaultLines.{fault_text}
 use Rattle.zk_verification.specs.Reports.{IsRangeText}
 use Rattle.zk_verification.specs.declared.mark.Mark.{Mark}
 use Rattle.zk_verification.specs.declared.mark.Mark.TheVariants as marks

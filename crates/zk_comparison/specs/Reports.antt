@@ -9,10 +9,10 @@ use Rattle.zk_comparison.specs.declared.comparison.Report.{Report}
 use Rattle.zk_comparison.specs.declared.finding.Directory.TheVariants.{First, Second}
 use Rattle.zk_comparison.specs.declared.finding.Finding.{Finding}
 use Rattle.zk_directory.specs.Chains.{Told}
-use Rattle.zk_directory_files.specs.Names.{log_zxid}
-use Rattle.zk_directory_files.specs.Outcomes.{Rejects}
-use Rattle.zk_directory_files.specs.declared.fault.HistoryFault.{HistoryFault}
-use Rattle.zk_directory_files.specs.declared.fault.HistoryFault.TheVariants as faults
+use Rattle.zk_directory_state.specs.Names.{log_zxid}
+use Rattle.zk_directory_state.specs.Outcomes.{Rejects}
+use Rattle.zk_directory_state.specs.declared.fault.HistoryFault.{HistoryFault}
+use Rattle.zk_directory_state.specs.declared.fault.HistoryFault.TheVariants as faults
 use Rattle.zk_directory_state.specs.Histories.{AreIn, HoldsNone}
 use Rattle.zk_directory_state.specs.Logs.{IsUnread}
 use Rattle.zk_directory_state.specs.Notices.{OutputsWith}

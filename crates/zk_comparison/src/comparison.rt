@@ -17,8 +17,9 @@ use crate::objects::findings_objects;
 use std::alloc::Global;
 use std::io::Write;
 use zk_directory::LogEntry;
-use zk_directory_files::{Folder, HistoryFault, tell_fault};
-use zk_directory_state::{logs_in, put_with_notices, snapshots_in};
+use zk_directory_state::{
+    Folder, HistoryFault, logs_in, put_with_notices, snapshots_in, tell_fault,
+};
 use zk_log::Sink;
 use zk_path::NoMemory;
 use zk_verification::{LogBytes, Mark, Survey, load_logs, survey_logs};

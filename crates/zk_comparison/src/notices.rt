@@ -2,11 +2,11 @@
 ghost use Rattle.std.specs.Prelude.{◌≡◌, ◌++◌, IfOk, OnOk, codes};
 ghost use Rattle.std.specs.String.{string_bytes};
 ghost use Rattle.zk_comparison.specs.Notices.{AppendsNotice, AppendsNotices, front_of};
-ghost use Rattle.zk_directory_files.specs.FaultLines.{fault_text};
+ghost use Rattle.zk_directory_state.specs.FaultLines.{fault_text};
 ghost use Rattle.zk_verification.specs.declared.mark.Mark.TheVariants as marks;
 
 use crate::finding::Directory;
-use zk_directory_files::{HistoryFault, fault_line};
+use zk_directory_state::{HistoryFault, fault_line};
 use zk_path::NoMemory;
 use zk_verification::{Mark, Moment, push_range};
 
@@ -82,7 +82,7 @@ fn push_broken_of(text: &mut String, directory: Directory) -> Result<(), NoMemor
 }
 
 /// The words of a fault, and a newline.
-#[tactic(auto, unfolding(zk_directory_files::specs::FaultLines::fault_line))]
+#[tactic(auto, unfolding(zk_directory_state::specs::FaultLines::fault_line))]
 fn fault_words(text: &String, fault: &HistoryFault) -> Result<String, NoMemory>
     ensures { IfOk result (λ words. string_bytes words ≡ fault_text fault.now ++ codes "\n") }
 {

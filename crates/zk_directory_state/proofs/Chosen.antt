@@ -12,9 +12,9 @@ use Rattle.zk_directory_state.specs.declared.history.Early.{Early}
 use Rattle.zk_directory_state.specs.declared.history.Next.TheVariants.{Done, More}
 use Rattle.zk_directory_state.specs.declared.history.PassedOver.{PassedOver}
 use Rattle.zk_directory_state.specs.declared.history.Shown.{Shown}
-use Rattle.zk_directory_files.specs.Folders.{IsGiven}
-use Rattle.zk_directory_files.specs.Names.{log_name}
-use Rattle.zk_directory_files.specs.declared.fault.HistoryFault.{HistoryFault}
+use Rattle.zk_directory_state.specs.Folders.{IsGiven}
+use Rattle.zk_directory_state.specs.Names.{log_name}
+use Rattle.zk_directory_state.specs.declared.fault.HistoryFault.{HistoryFault}
 use Rattle.zk_directory.specs.LogFiles.{IsLogFile}
 use Rattle.zk_directory.specs.declared.file.FileEntry.{FileEntry}
 use Rattle.zk_directory.specs.declared.file.LogFile.{LogFile}

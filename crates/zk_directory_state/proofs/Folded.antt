@@ -13,12 +13,12 @@ use Rattle.zk_directory.specs.declared.chain.Turn.{Turn}
 use Rattle.zk_directory.specs.declared.chain.Turn.TheVariants.{Take, Skip, Stop}
 use Rattle.zk_directory_state.specs.Attempts.{fault_by, history_fault, log_at}
 use Rattle.zk_directory_state.specs.Histories.{AreIn}
-use Rattle.zk_directory_files.specs.Names.{log_zxid, snapshot_zxid}
+use Rattle.zk_directory_state.specs.Names.{log_zxid, snapshot_zxid}
 use Rattle.zk_directory_state.specs.Evidence.{IsStart}
 use Rattle.zk_directory_state.specs.declared.evidence.Start.{Start}
 use Rattle.zk_directory_state.specs.Logs.{AreGiven, bytes_of}
-use Rattle.zk_directory_files.specs.declared.fault.HistoryFault.{HistoryFault}
-use Rattle.zk_directory_files.specs.declared.fault.HistoryFault.TheVariants as history_faults
+use Rattle.zk_directory_state.specs.declared.fault.HistoryFault.{HistoryFault}
+use Rattle.zk_directory_state.specs.declared.fault.HistoryFault.TheVariants as history_faults
 use Rattle.zk_directory.specs.LogFiles.{IsLogFile}
 use Rattle.zk_directory.specs.declared.file.FileEntry.{FileEntry}
 use Rattle.zk_directory.specs.declared.file.LogFile.{LogFile}

@@ -15,10 +15,10 @@ use Rattle.zk_directory_state.specs.declared.history.Early.{Early}
 use Rattle.zk_directory_state.specs.declared.history.Shown.{Shown}
 use Rattle.zk_directory_state.specs.declared.upto.Upto.{Upto}
 use Rattle.zk_directory_state.specs.declared.upto.Upto.TheVariants.{Last, Zxid, Time}
-use Rattle.zk_directory_files.specs.Names.{log_zxid, snapshot_zxid}
-use Rattle.zk_directory_files.specs.declared.fault.HistoryFault.{HistoryFault}
-use Rattle.zk_directory_files.specs.declared.fault.HistoryFault.TheVariants as faults
-use Rattle.zk_directory_files.specs.declared.fault.PassedFault.{PassedFault}
+use Rattle.zk_directory_state.specs.Names.{log_zxid, snapshot_zxid}
+use Rattle.zk_directory_state.specs.declared.fault.HistoryFault.{HistoryFault}
+use Rattle.zk_directory_state.specs.declared.fault.HistoryFault.TheVariants as faults
+use Rattle.zk_directory_state.specs.declared.fault.PassedFault.{PassedFault}
 use Rattle.zk_jute.specs.declared.fault.JuteFault.{JuteFault}
 use Rattle.zk_directory_state.specs.declared.restored_directory.Restored.{Restored}
 use Rattle.zk_directory_state.specs.declared.restore_fault.DirectoryFault.{DirectoryFault}

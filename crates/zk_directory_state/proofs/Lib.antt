@@ -1,3 +1,5 @@
+pub mod Lines
+pub mod Told
 pub mod Tallying
 pub mod Files
 pub mod Joined

@@ -2,9 +2,9 @@
 use Rattle.std.proofs.Common.{◌≡◌, ◌⊎◌, inl, inr, ℕ, ℤ, ◌+◌, ◌<◌, Bool, true, false, not, ◌&&◌, cond, List, [], ◌∷◌, ◌++◌, length, map, Option, Some, None, Result, Ok, Err, String, sym, ap, ◌∙◌, subst}
 use Rattle.std.specs.Borrow.{Bor}
 use Rattle.std.specs.Global.{Global}
-use Rattle.zk_directory_files.specs.Names.{log_zxid, snapshot_zxid}
-use Rattle.zk_directory_files.specs.declared.fault.HistoryFault.{HistoryFault}
-use Rattle.zk_directory_files.specs.declared.fault.HistoryFault.TheVariants as history_faults
+use Rattle.zk_directory_state.specs.Names.{log_zxid, snapshot_zxid}
+use Rattle.zk_directory_state.specs.declared.fault.HistoryFault.{HistoryFault}
+use Rattle.zk_directory_state.specs.declared.fault.HistoryFault.TheVariants as history_faults
 use Rattle.zk_directory_state.specs.Attempts.{log_at}
 use Rattle.zk_directory_state.specs.Histories.{AreIn}
 use Rattle.zk_directory_state.specs.Logs.{AreGiven, bytes_of}

@@ -8,12 +8,12 @@ use Rattle.zk_replay.specs.declared.fault.BaseFault.TheVariants as base_faults
 use Rattle.zk_directory_state.specs.Logs.{AreGiven, IsUnread, bytes_of, logs_from}
 use Rattle.zk_directory_state.specs.declared.attempt.Attempt.{Attempt}
 use Rattle.zk_directory_state.specs.declared.attempt.Attempt.TheVariants.{Serves, Passed, Early}
-use Rattle.zk_directory_files.specs.Folders.{IsGiven}
-use Rattle.zk_directory_files.specs.Names.{snapshot_name}
-use Rattle.zk_directory_files.specs.declared.fault.HistoryFault.{HistoryFault}
-use Rattle.zk_directory_files.specs.declared.fault.HistoryFault.TheVariants as faults
-use Rattle.zk_directory_files.specs.declared.fault.PassedFault.{PassedFault}
-use Rattle.zk_directory_files.specs.declared.fault.PassedFault.TheVariants as passed
+use Rattle.zk_directory_state.specs.Folders.{IsGiven}
+use Rattle.zk_directory_state.specs.Names.{snapshot_name}
+use Rattle.zk_directory_state.specs.declared.fault.HistoryFault.{HistoryFault}
+use Rattle.zk_directory_state.specs.declared.fault.HistoryFault.TheVariants as faults
+use Rattle.zk_directory_state.specs.declared.fault.PassedFault.{PassedFault}
+use Rattle.zk_directory_state.specs.declared.fault.PassedFault.TheVariants as passed
 use Rattle.zk_jute.specs.declared.fault.JuteFault.{JuteFault}
 use Rattle.zk_directory_state.specs.Directories.{IsRestored}
 use Rattle.zk_directory_state.specs.Windows.{IsWindowEnd}

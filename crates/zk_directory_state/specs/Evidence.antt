@@ -8,8 +8,8 @@ use Rattle.zk_directory.specs.LogFiles.{IsLogFile}
 use Rattle.zk_directory.specs.declared.file.FileEntry.{FileEntry}
 use Rattle.zk_directory.specs.declared.file.LogFile.{LogFile}
 use Rattle.zk_directory.specs.declared.joint.Joint.{Joint}
-use Rattle.zk_directory_files.specs.declared.fault.HistoryFault.{HistoryFault}
-use Rattle.zk_directory_files.specs.declared.fault.HistoryFault.TheVariants as faults
+use Rattle.zk_directory_state.specs.declared.fault.HistoryFault.{HistoryFault}
+use Rattle.zk_directory_state.specs.declared.fault.HistoryFault.TheVariants as faults
 use Rattle.zk_directory_state.specs.Attempts.{log_at, zxid_or_none}
 use Rattle.zk_directory_state.specs.declared.evidence.Start.{Start}
 use Rattle.zk_directory_state.specs.declared.history.Shown.{Shown}

@@ -21,11 +21,11 @@ use Rattle.zk_directory_state.specs.declared.history.PassedOver.{PassedOver}
 use Rattle.zk_directory_state.specs.declared.history.Shown.{Shown}
 use Rattle.zk_directory_state.specs.declared.upto.Upto.{Upto}
 use Rattle.zk_directory_state.specs.declared.upto.Upto.TheVariants.{Last, Zxid, Time}
-use Rattle.zk_directory_files.specs.Folders.{IsGiven}
-use Rattle.zk_directory_files.specs.Names.{AreZxidsBy, log_name, log_zxid, snapshot_zxid}
-use Rattle.zk_directory_files.specs.declared.fault.HistoryFault.{HistoryFault}
-use Rattle.zk_directory_files.specs.declared.fault.HistoryFault.TheVariants as faults
-use Rattle.zk_directory_files.specs.declared.fault.PassedFault.{PassedFault}
+use Rattle.zk_directory_state.specs.Folders.{IsGiven}
+use Rattle.zk_directory_state.specs.Names.{AreZxidsBy, log_name, log_zxid, snapshot_zxid}
+use Rattle.zk_directory_state.specs.declared.fault.HistoryFault.{HistoryFault}
+use Rattle.zk_directory_state.specs.declared.fault.HistoryFault.TheVariants as faults
+use Rattle.zk_directory_state.specs.declared.fault.PassedFault.{PassedFault}
 use Rattle.zk_directory.specs.LogFiles.{IsLogFile}
 use Rattle.zk_directory.specs.declared.file.FileEntry.{FileEntry}
 use Rattle.zk_directory.specs.declared.file.LogFile.{LogFile}

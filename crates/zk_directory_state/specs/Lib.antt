@@ -1,4 +1,10 @@
 -- What the contracts of this crate cite.
+pub mod Files
+pub mod Folders
+pub mod Names
+pub mod FaultLines
+pub mod Outcomes
+pub mod ServerFiles
 pub mod Counts
 pub mod Directories
 pub mod Ends
@@ -13,6 +19,6 @@ pub mod Ranges
 pub mod Spans
 pub mod Logs
 pub mod Notices
-pub mod Outcomes
+pub mod Showing
 pub mod Reports
 pub mod Records

@@ -3,10 +3,10 @@ use Rattle.std.specs.Prelude.{ℕ, ℤ, List, [], ◌∷◌, drop, Option, Vec}
 use Rattle.std.specs.Borrow.{Bor}
 use Rattle.std.specs.Global.{Global}
 use Rattle.zk_directory.specs.Orders.{first_log}
-use Rattle.zk_directory_files.specs.Folders.{IsGiven}
-use Rattle.zk_directory_files.specs.Names.{log_name}
-use Rattle.zk_directory_files.specs.declared.fault.HistoryFault.{HistoryFault}
-use Rattle.zk_directory_files.specs.declared.fault.HistoryFault.TheVariants as faults
+use Rattle.zk_directory_state.specs.Folders.{IsGiven}
+use Rattle.zk_directory_state.specs.Names.{log_name}
+use Rattle.zk_directory_state.specs.declared.fault.HistoryFault.{HistoryFault}
+use Rattle.zk_directory_state.specs.declared.fault.HistoryFault.TheVariants as faults
 
 -- the bytes of the logs of these zxids
 abbrev pub AreGiven : (List ℕ → Option (List ℕ)) → List ℤ → List (List ℕ) → Type 0

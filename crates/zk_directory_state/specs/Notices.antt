@@ -7,8 +7,8 @@ use Rattle.zk_directory.specs.declared.joint.Joint.{Joint}
 use Rattle.zk_directory_state.specs.Attempts.{zxid_or_none}
 use Rattle.zk_directory_state.specs.Evidence.{unproved}
 use Rattle.zk_directory_state.specs.Reports.{other_line}
-use Rattle.zk_directory_files.specs.Outcomes.{Rejects}
-use Rattle.zk_directory_files.specs.declared.fault.HistoryFault.{HistoryFault}
+use Rattle.zk_directory_state.specs.Outcomes.{Rejects}
+use Rattle.zk_directory_state.specs.declared.fault.HistoryFault.{HistoryFault}
 use Rattle.zk_directory_state.specs.declared.notices.Noticed.{Noticed}
 use Rattle.zk_directory_state.specs.declared.restored_directory.Restored.{Restored}
 use Rattle.zk_directory_state.specs.declared.upto.Upto.{Upto}

@@ -11,9 +11,9 @@ use Rattle.zk_directory_state.specs.Evidence.{IsStart}
 use Rattle.zk_directory_state.specs.Histories.{AreIn, HoldsNone}
 use Rattle.zk_directory_state.specs.Logs.{AreGiven, IsUnread, bytes_of}
 use Rattle.zk_directory_state.specs.Spans.{IsNotice, is_whole, range_fault, span_of}
-use Rattle.zk_directory_files.specs.Names.{log_zxid, snapshot_zxid}
-use Rattle.zk_directory_files.specs.declared.fault.HistoryFault.{HistoryFault}
-use Rattle.zk_directory_files.specs.declared.fault.HistoryFault.TheVariants as faults
+use Rattle.zk_directory_state.specs.Names.{log_zxid, snapshot_zxid}
+use Rattle.zk_directory_state.specs.declared.fault.HistoryFault.{HistoryFault}
+use Rattle.zk_directory_state.specs.declared.fault.HistoryFault.TheVariants as faults
 use Rattle.zk_directory.specs.LogFiles.{IsLogFile}
 use Rattle.zk_directory.specs.declared.file.FileEntry.{FileEntry}
 use Rattle.zk_directory.specs.declared.file.LogFile.{LogFile}

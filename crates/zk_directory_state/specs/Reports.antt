@@ -7,9 +7,9 @@ use Rattle.zk_replay.specs.declared.count.DigestCount.{DigestCount}
 use Rattle.zk_directory_state.specs.declared.history.Broken.{Broken}
 use Rattle.zk_directory_state.specs.declared.history.Origin.{Origin}
 use Rattle.zk_directory_state.specs.declared.history.Shown.{Shown}
-use Rattle.zk_directory_files.specs.Files.{exact_text}
-use Rattle.zk_directory_files.specs.Names.{snapshot_name}
-use Rattle.zk_directory_files.specs.FaultLines.{passed_word}
+use Rattle.zk_directory_state.specs.Files.{exact_text}
+use Rattle.zk_directory_state.specs.Names.{snapshot_name}
+use Rattle.zk_directory_state.specs.FaultLines.{passed_word}
 use Rattle.zk_format.specs.Spelling.{id_digits}
 use Rattle.zk_log.specs.declared.loaded.Ending.{Ending}
 use Rattle.zk_log_commands.specs.Showing.{end_line}

@@ -3,8 +3,8 @@
 use Rattle.std.specs.Prelude.{◌≡◌, ℕ, ℤ, Bool, true, false, not, ◌&&◌, ◌||◌, int_lt, List, [], ◌∷◌, ◌++◌, Option, Some, None, Result, Ok, Err, String, codes, if◌then◌else◌}
 use Rattle.std.specs.Global.{Global}
 use Rattle.std.specs.String.{string_bytes}
-use Rattle.zk_directory_files.specs.declared.fault.HistoryFault.{HistoryFault}
-use Rattle.zk_directory_files.specs.declared.fault.HistoryFault.TheVariants as faults
+use Rattle.zk_directory_state.specs.declared.fault.HistoryFault.{HistoryFault}
+use Rattle.zk_directory_state.specs.declared.fault.HistoryFault.TheVariants as faults
 use Rattle.zk_directory_state.specs.Evidence.{is_first}
 use Rattle.zk_directory_state.specs.Histories.{blank_fault}
 use Rattle.zk_directory_state.specs.declared.evidence.Start.{Start}

@@ -5,10 +5,12 @@ ghost use Rattle.zk_directory_state.specs.Logs.{logs_from};
 
 use crate::fault_causes::{broken_by, history_fault, passed_fault};
 use crate::logs::{read_logs, read_snapshot_file, slices_of};
-use crate::{Base, DirectoryFault, RestoreFault, Restored, restore, window_end};
+use crate::{
+    Base, DirectoryFault, Folder, HistoryFault, PassedFault, RestoreFault, Restored, restore,
+    window_end,
+};
 use std::alloc::Global;
 use zk_directory::first_log;
-use zk_directory_files::{Folder, HistoryFault, PassedFault};
 use zk_replay::{BaseFault, Exact, exact_from};
 use zk_snapshot::{Snapshot, read_snapshot};
 

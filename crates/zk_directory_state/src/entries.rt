@@ -3,11 +3,10 @@ ghost use Rattle.std.specs.Prelude.{◌≡◌};
 ghost use Rattle.zk_directory_state.specs.Records.{FindsEntries};
 
 use crate::evidence::start_of;
-use crate::history_fault;
 use crate::records::{fold_logs, start_zxid};
+use crate::{HistoryFault, history_fault};
 use std::alloc::Global;
 use zk_directory::{Chain, LogEntry};
-use zk_directory_files::HistoryFault;
 use zk_newer_records::NewerRecord;
 use zk_path::NoMemory;
 use zk_record_folds::RecordFold;

@@ -5,13 +5,12 @@ ghost use Rattle.zk_directory.specs.Continuing.{epoch_of};
 ghost use Rattle.zk_directory_state.specs.Attempts.{zxid_or_none};
 ghost use Rattle.zk_directory_state.specs.Evidence.{IsStart, beyond, end_fault, gap_fault, goes_on, is_beyond, is_first, is_later, is_new, last_joint, proved, unproved};
 
-use crate::Restored;
 use crate::fault_causes::log_at;
 use crate::history::Shown;
 use crate::upto::Upto;
+use crate::{HistoryFault, Restored};
 use std::alloc::Global;
 use zk_directory::{Joint, continues, read_log_file, starts_history};
-use zk_directory_files::HistoryFault;
 use zk_path::NoMemory;
 
 /// The number of zxids in an epoch.

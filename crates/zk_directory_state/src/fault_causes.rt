@@ -2,8 +2,7 @@
 ghost use Rattle.std.specs.Prelude.{◌≡◌};
 ghost use Rattle.zk_directory_state.specs.Attempts.{broken_by, history_fault, log_at, passed_fault};
 
-use crate::{DirectoryFault, RestoreFault};
-use zk_directory_files::{HistoryFault, PassedFault};
+use crate::{DirectoryFault, HistoryFault, PassedFault, RestoreFault};
 use zk_replay::BaseFault;
 use zk_snapshot::SnapshotFault;
 

@@ -5,9 +5,8 @@ use crate::history::has_no_files;
 use crate::range::Range;
 use crate::records::fold_listed;
 use crate::span::{Spanned, notice_on};
-use crate::{logs_in, read_logs, slices_of, snapshots_in};
+use crate::{Folder, HistoryFault, logs_in, read_logs, slices_of, snapshots_in};
 use std::alloc::Global;
-use zk_directory_files::{Folder, HistoryFault};
 use zk_record_folds::RecordFold;
 
 /// A fold that has taken the records of a directory.

@@ -7,9 +7,10 @@ use crate::evidence::{Start, is_first, is_new, proved, start_of};
 use crate::fault_causes::history_fault;
 use crate::logs::{logs_in, read_logs, slices_of, snapshots_in};
 use crate::upto::{Upto, zxid_of};
-use crate::{Base, DirectoryFault, RestoreFault, Restored, restore};
+use crate::{
+    Base, DirectoryFault, Folder, HistoryFault, PassedFault, RestoreFault, Restored, restore,
+};
 use std::alloc::Global;
-use zk_directory_files::{Folder, HistoryFault, PassedFault};
 use zk_path::NoMemory;
 use zk_replay::Exact;
 

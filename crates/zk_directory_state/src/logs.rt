@@ -3,14 +3,14 @@ ghost use Rattle.std.specs.Prelude.{◌≡◌, ◌++◌, ◌∷◌, [], IfOk, If
 ghost use Rattle.std.specs.String.{string_bytes};
 ghost use Rattle.zk_directory_state.specs.Histories.{AreIn};
 ghost use Rattle.zk_directory_state.specs.Logs.{AreGiven, IsUnread, bytes_of, items_of};
-ghost use Rattle.zk_directory_files.specs.Folders.{IsGiven};
-ghost use Rattle.zk_directory_files.specs.Names.{log_name, log_zxid, snapshot_name, snapshot_zxid};
+ghost use Rattle.zk_directory_state.specs.Folders.{IsGiven};
+ghost use Rattle.zk_directory_state.specs.Names.{log_name, log_zxid, snapshot_name, snapshot_zxid};
 
-use std::alloc::Global;
-use zk_directory::FileName;
-use zk_directory_files::{
+use crate::{
     Folder, FolderFault, HistoryFault, log_zxids, push_log_name, push_snapshot_name, snapshot_zxids,
 };
+use std::alloc::Global;
+use zk_directory::FileName;
 use zk_path::NoMemory;
 
 fn names_of<F: Folder>(alloc: Global, folder: &F) -> Result<Vec<String>, HistoryFault>

@@ -6,14 +6,13 @@ ghost use Rattle.zk_directory_state.specs.Notices.{OutputsNoticed, OutputsWith, 
 ghost use Rattle.zk_format.specs.Spelling.{id_digits};
 ghost use Rattle.zk_records.specs.Sinks.{write_failures_of};
 
-use crate::Restored;
 use crate::evidence::{unproved, zxid_or_none};
 use crate::report::push_other;
 use crate::upto::Upto;
+use crate::{HistoryFault, Restored, tell_fault};
 use std::alloc::Global;
 use std::io::Write;
 use zk_directory::Joint;
-use zk_directory_files::{HistoryFault, tell_fault};
 use zk_format::push_id;
 use zk_log::Sink;
 use zk_log_commands::tell;

@@ -3,10 +3,9 @@ ghost use Rattle.std.specs.Prelude.{◌≡◌, ◌∷◌, [], None, IfOk};
 ghost use Rattle.zk_directory_state.specs.Records.{FoldsEntries, FoldsFile, FoldsListed, FoldsLog, FoldsLogs, start_zxid};
 
 use crate::evidence::{Start, start_of};
-use crate::{DirectoryFault, RestoreFault, check_end, history_fault, take_entry};
+use crate::{DirectoryFault, HistoryFault, RestoreFault, check_end, history_fault, take_entry};
 use std::alloc::Global;
 use zk_directory::{Chain, FileEntry, LogFile, Turn, read_log_file};
-use zk_directory_files::HistoryFault;
 use zk_record_folds::RecordFold;
 
 /// Folds the record of the next entry, unless an earlier log has it.

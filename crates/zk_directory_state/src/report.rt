@@ -3,12 +3,12 @@ ghost use Rattle.std.specs.Prelude.{◌≡◌, ◌++◌, IfOk, OnOk};
 ghost use Rattle.std.specs.List.{flat_map};
 ghost use Rattle.std.specs.String.{string_bytes};
 ghost use Rattle.zk_directory_state.specs.Reports.{digest_lines, ending_line, equal_line, origin_line, other_line, passed_line, report_of};
-ghost use Rattle.zk_directory_files.specs.Files.{exact_text};
+ghost use Rattle.zk_directory_state.specs.Files.{exact_text};
 ghost use Rattle.zk_listing.specs.Reports.{entry_line, tree_report};
 
 use crate::history::{Broken, Origin, Shown};
+use crate::{passed_word, push_snapshot_name};
 use std::alloc::Global;
-use zk_directory_files::{passed_word, push_snapshot_name};
 use zk_fold::Fold;
 use zk_format::push_id;
 use zk_listing::{push_entry_line, push_head_of};

@@ -2,7 +2,7 @@
 ghost use Rattle.std.specs.Prelude.{◌≡◌, ◌-◌, ◌<◌, ◌^◌, IfOk};
 ghost use Rattle.std.specs.String.{string_bytes};
 ghost use Rattle.zk_directory_state.specs.Notices.{notices_of};
-ghost use Rattle.zk_directory_state.specs.Outcomes.{TellsShown};
+ghost use Rattle.zk_directory_state.specs.Showing.{TellsShown};
 ghost use Rattle.zk_directory_state.specs.Reports.{report_of};
 ghost use Rattle.zk_records.specs.Sinks.{write_failures_of};
 
@@ -10,9 +10,9 @@ use crate::history::{Shown, shown_of};
 use crate::notices::{Noticed, notices_text, put_with_notices};
 use crate::report::report_text;
 use crate::upto::Upto;
+use crate::{Folder, tell_fault};
 use std::alloc::Global;
 use std::io::Write;
-use zk_directory_files::{Folder, tell_fault};
 use zk_log::Sink;
 use zk_path::NoMemory;
 

@@ -4,11 +4,11 @@ ghost use Rattle.std.specs.String.{string_bytes};
 ghost use Rattle.zk_directory_state.specs.Spans.{Extends, IsNotice, IsRangeLine, Notices, begins_before, comes_after, ends_before, is_after, is_before, is_part, is_whole, moment_of, outside_fault, range_fault, range_line, span_after, unlogged_fault};
 ghost use Rattle.zk_json.specs.Times.{IsTimeText};
 
+use crate::HistoryFault;
 use crate::evidence::{Start, is_first};
 use crate::history::blank_fault;
 use crate::range::{Bound, Range};
 use std::alloc::Global;
-use zk_directory_files::HistoryFault;
 use zk_format::push_id;
 use zk_json::push_time;
 use zk_newer_records::NewerRecord;

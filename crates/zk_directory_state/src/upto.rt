@@ -5,9 +5,9 @@ ghost use Rattle.zk_directory_state.specs.Logs.{IsUnread};
 
 use crate::evidence::start_of;
 use crate::logs::{read_log, read_logs, slices_of};
+use crate::{Folder, HistoryFault};
 use std::alloc::Global;
 use zk_directory::{FileEntry, read_log_file};
-use zk_directory_files::{Folder, HistoryFault};
 
 /// Up to which transaction a directory is shown.
 #[derive(Clone, Copy, Debug, PartialEq, Eq)]

@@ -2,9 +2,9 @@
 -- first snapshot. A node that the logs create later is owned by a session that is still open.
 use Rattle.std.specs.Prelude.{◌≡◌, ◌⊎◌, ℕ, ℤ, pos, List, [], ◌∷◌, Option, Some, None, Result, Ok, Err, if◌then◌else◌}
 use Rattle.std.specs.Ordering.{int_eq}
-use Rattle.zk_directory_files.specs.Folders.{IsGiven}
-use Rattle.zk_directory_files.specs.Names.{snapshot_name, snapshot_zxid}
-use Rattle.zk_directory_files.specs.declared.fault.HistoryFault.{HistoryFault}
+use Rattle.zk_directory_state.specs.Folders.{IsGiven}
+use Rattle.zk_directory_state.specs.Names.{snapshot_name, snapshot_zxid}
+use Rattle.zk_directory_state.specs.declared.fault.HistoryFault.{HistoryFault}
 use Rattle.zk_directory_state.specs.Histories.{AreIn}
 use Rattle.zk_directory_state.specs.Logs.{IsUnread}
 use Rattle.zk_incidents.specs.Owners.{Owned, with_owner}

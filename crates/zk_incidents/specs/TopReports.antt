@@ -5,7 +5,7 @@ use Rattle.zk_directory_state.specs.Notices.{OutputsNoticed}
 use Rattle.zk_directory_state.specs.Records.{Answers, HaveNoAnswer}
 use Rattle.zk_directory_state.specs.declared.notices.Noticed.{Noticed}
 use Rattle.zk_directory_state.specs.declared.range.Range.{Range}
-use Rattle.zk_directory_files.specs.declared.fault.HistoryFault.{HistoryFault}
+use Rattle.zk_directory_state.specs.declared.fault.HistoryFault.{HistoryFault}
 use Rattle.zk_incidents.specs.Tops.{top_text}
 use Rattle.zk_incidents.specs.declared.top_fold.Key.{Key}
 use Rattle.zk_newer_records.specs.declared.newer_record.NewerRecord.{NewerRecord}

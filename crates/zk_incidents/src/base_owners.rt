@@ -1,7 +1,7 @@
 //! The owners of ephemeral nodes before the first transaction of a directory's logs.
 ghost use Rattle.std.specs.Prelude.{◌≡◌, [], IfErr, IfOk, OnOk};
-ghost use Rattle.zk_directory_files.specs.Folders.{IsGiven};
-ghost use Rattle.zk_directory_files.specs.Names.{snapshot_name};
+ghost use Rattle.zk_directory_state.specs.Folders.{IsGiven};
+ghost use Rattle.zk_directory_state.specs.Names.{snapshot_name};
 ghost use Rattle.zk_directory_state.specs.Logs.{IsUnread};
 ghost use Rattle.zk_incidents.specs.FirstOwners.{Finds, FindsFirst, FindsOwners, OwnsBy, owned_in, with_stored};
 ghost use Rattle.zk_snapshot.specs.Reading.{all_of};
@@ -9,8 +9,7 @@ ghost use Rattle.zk_snapshot.specs.Reading.{all_of};
 use crate::owners::Owners;
 use std::alloc::Global;
 use zk_directory::FileName;
-use zk_directory_files::{Folder, FolderFault, HistoryFault, push_snapshot_name};
-use zk_directory_state::snapshots_in;
+use zk_directory_state::{Folder, FolderFault, HistoryFault, push_snapshot_name, snapshots_in};
 use zk_path::NoMemory;
 use zk_replay::shown_owner;
 use zk_snapshot::{SnapshotFault, Stored, read_snapshot};

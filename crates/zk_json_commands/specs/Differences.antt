@@ -10,7 +10,7 @@ use Rattle.zk_tree_changes.specs.declared.stamps.Stamp.{Stamp}
 use Rattle.zk_directory_state.specs.Notices.{OutputsNoticed}
 use Rattle.zk_directory_state.specs.declared.notices.Noticed.{Noticed}
 use Rattle.zk_directory_state.specs.declared.upto.Upto.{Upto}
-use Rattle.zk_directory_files.specs.declared.fault.HistoryFault.{HistoryFault}
+use Rattle.zk_directory_state.specs.declared.fault.HistoryFault.{HistoryFault}
 use Rattle.zk_json.specs.Changes.{IsChangeLine}
 use Rattle.zk_json.specs.declared.changes.LastChange.{LastChange}
 use Rattle.zk_json_commands.specs.Lines.{AppendsLines, AreLines}

@@ -5,7 +5,7 @@ use Rattle.zk_directory_state.specs.Notices.{OutputsNoticed}
 use Rattle.zk_directory_state.specs.Ranges.{unbounded}
 use Rattle.zk_directory_state.specs.Records.{Answers, HaveNoAnswer}
 use Rattle.zk_directory_state.specs.declared.notices.Noticed.{Noticed}
-use Rattle.zk_directory_files.specs.declared.fault.HistoryFault.{HistoryFault}
+use Rattle.zk_directory_state.specs.declared.fault.HistoryFault.{HistoryFault}
 use Rattle.zk_incidents.specs.FirstOwners.{AreFirstOwners}
 use Rattle.zk_incidents.specs.Histories.{is_expiry, op_word, seen}
 use Rattle.zk_incidents.specs.Owners.{Owned, owned_after}

@@ -6,10 +6,10 @@ use Rattle.std.specs.String.{string_bytes}
 use Rattle.std.specs.Fmt.{signed_decimal}
 use Rattle.std.specs.Int.{w64, cast_signed}
 use Rattle.json.specs.Json.{Json, boolean, null, number, string}
-use Rattle.zk_directory_files.specs.FaultLines.{passed_word}
-use Rattle.zk_directory_files.specs.Names.{snapshot_name}
-use Rattle.zk_directory_files.specs.declared.fault.HistoryFault.{HistoryFault}
-use Rattle.zk_directory_files.specs.declared.fault.HistoryFault.TheVariants as faults
+use Rattle.zk_directory_state.specs.FaultLines.{passed_word}
+use Rattle.zk_directory_state.specs.Names.{snapshot_name}
+use Rattle.zk_directory_state.specs.declared.fault.HistoryFault.{HistoryFault}
+use Rattle.zk_directory_state.specs.declared.fault.HistoryFault.TheVariants as faults
 use Rattle.zk_directory_state.specs.Histories.{Holds}
 use Rattle.zk_directory_state.specs.Notices.{OutputsNoticed, notices_of}
 use Rattle.zk_directory_state.specs.declared.notices.Noticed.{Noticed}

@@ -5,7 +5,7 @@ use Rattle.std.specs.String.{string_bytes}
 use Rattle.zk_directory_state.specs.Notices.{OutputsNoticed}
 use Rattle.zk_directory_state.specs.Records.{Answers, HaveNoAnswer}
 use Rattle.zk_directory_state.specs.declared.notices.Noticed.{Noticed}
-use Rattle.zk_directory_files.specs.declared.fault.HistoryFault.{HistoryFault}
+use Rattle.zk_directory_state.specs.declared.fault.HistoryFault.{HistoryFault}
 use Rattle.zk_incidents.specs.Counts.{Counted, counted_all, ranked_all, rows_of}
 use Rattle.zk_incidents.specs.Tops.{all_keys, first_rows}
 use Rattle.zk_directory_state.specs.declared.range.Range.{Range}

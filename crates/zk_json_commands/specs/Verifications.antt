@@ -6,10 +6,10 @@ use Rattle.std.specs.String.{string_bytes}
 use Rattle.json.specs.Json.{Json, boolean, null, number, string}
 use Rattle.zk_replay.specs.declared.exact.Exact.{Exact}
 use Rattle.zk_replay.specs.declared.count.DigestCount.{DigestCount}
-use Rattle.zk_directory_files.specs.Names.{log_name, snapshot_name}
-use Rattle.zk_directory_files.specs.FaultLines.{fault_text}
-use Rattle.zk_directory_files.specs.Outcomes.{Rejects}
-use Rattle.zk_directory_files.specs.declared.fault.HistoryFault.{HistoryFault}
+use Rattle.zk_directory_state.specs.Names.{log_name, snapshot_name}
+use Rattle.zk_directory_state.specs.FaultLines.{fault_text}
+use Rattle.zk_directory_state.specs.Outcomes.{Rejects}
+use Rattle.zk_directory_state.specs.declared.fault.HistoryFault.{HistoryFault}
 use Rattle.zk_directory.specs.declared.joint.Joint.{Joint}
 use Rattle.zk_json.specs.Json.{Fields, IsLineOf, id_of, object_of}
 use Rattle.zk_json.specs.Times.{IsTimeText}

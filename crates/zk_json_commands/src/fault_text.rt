@@ -1,12 +1,12 @@
 //! The words of a fault and of a help, without what is around them in a line.
 ghost use Rattle.std.specs.Prelude.{◌≡◌, ◌++◌, IfOk, codes, option_map};
 ghost use Rattle.std.specs.String.{string_bytes};
-ghost use Rattle.zk_directory_files.specs.FaultLines.{fault_text};
+ghost use Rattle.zk_directory_state.specs.FaultLines.{fault_text};
 ghost use Rattle.zk_json_commands.specs.Verifications.{CutsFront, CutsLine};
 ghost use Rattle.zk_verification.specs.Helps.{help_line};
 
 use std::alloc::Global;
-use zk_directory_files::{HistoryFault, fault_line};
+use zk_directory_state::{HistoryFault, fault_line};
 use zk_path::NoMemory;
 use zk_verification::{Kind, help_line};
 
@@ -25,7 +25,7 @@ fn before_newline(text: &str) -> Option<&str>
 }
 
 /// The words of a fault: its name, the file that it is about, and its numbers.
-#[tactic(auto, unfolding(zk_directory_files::specs::FaultLines::fault_line))]
+#[tactic(auto, unfolding(zk_directory_state::specs::FaultLines::fault_line))]
 pub(crate) fn fault_words(alloc: Global, fault: &HistoryFault) -> Result<String, NoMemory>
     ensures { IfOk result (λ words. string_bytes words ≡ fault_text fault.now) }
 {

@@ -6,8 +6,9 @@ ghost use Rattle.zk_records.specs.Sinks.{write_failures_of};
 use crate::history_lines::HistoryLines;
 use std::alloc::Global;
 use std::io::Write;
-use zk_directory_files::{Folder, HistoryFault};
-use zk_directory_state::{FoldedDirectory, Noticed, Range, fold_directory, put_noticed};
+use zk_directory_state::{
+    FoldedDirectory, Folder, HistoryFault, Noticed, Range, fold_directory, put_noticed,
+};
 use zk_incidents::{Scope, first_owners};
 use zk_log::Sink;
 use zk_path::NoMemory;

@@ -2,7 +2,7 @@
 ghost use Rattle.std.specs.Prelude.{◌≡◌, IfOk, OnOk, Some};
 ghost use Rattle.std.specs.String.{string_bytes};
 ghost use Rattle.json.specs.Json.{string};
-ghost use Rattle.zk_directory_files.specs.Names.{log_name};
+ghost use Rattle.zk_directory_state.specs.Names.{log_name};
 ghost use Rattle.zk_json.specs.Json.{AppendsLineOf, object_of};
 ghost use Rattle.zk_json.specs.Objects.{value_of};
 ghost use Rattle.zk_json.specs.Times.{IsTimeText};

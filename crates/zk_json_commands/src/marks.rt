@@ -1,8 +1,8 @@
 //! The line of a mark.
 ghost use Rattle.std.specs.Prelude.{OnOk, IfOk, ◌≡◌};
 ghost use Rattle.std.specs.String.{string_bytes};
-ghost use Rattle.zk_directory_files.specs.FaultLines.{fault_text};
-ghost use Rattle.zk_directory_files.specs.Names.{log_name, snapshot_name};
+ghost use Rattle.zk_directory_state.specs.FaultLines.{fault_text};
+ghost use Rattle.zk_directory_state.specs.Names.{log_name, snapshot_name};
 ghost use Rattle.zk_json.specs.Json.{AppendsLineOf, object_of};
 ghost use Rattle.zk_json.specs.Objects.{value_of};
 ghost use Rattle.zk_json_commands.specs.Verifications.{AppendsMark, base_of, end_of, first_of, id_or_null, joint_fields, last_of, log_fields, states_fields, stopped_fields, torn_of, wrong_fields};
@@ -11,7 +11,7 @@ use crate::fault_text::fault_words;
 use crate::lost_lines::{push_gap, push_lost, push_mismatch};
 use std::alloc::Global;
 use zk_directory::Joint;
-use zk_directory_files::{HistoryFault, push_log_name, push_snapshot_name};
+use zk_directory_state::{HistoryFault, push_log_name, push_snapshot_name};
 use zk_json::{Value, push_object_line};
 use zk_log::Ending;
 use zk_path::NoMemory;

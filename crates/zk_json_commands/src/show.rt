@@ -6,8 +6,9 @@ ghost use Rattle.zk_records.specs.Sinks.{write_failures_of};
 use crate::state_lines::state_lines;
 use std::alloc::Global;
 use std::io::Write;
-use zk_directory_files::{Folder, HistoryFault};
-use zk_directory_state::{Noticed, Upto, notices_text, put_noticed, shown_of};
+use zk_directory_state::{
+    Folder, HistoryFault, Noticed, Upto, notices_text, put_noticed, shown_of,
+};
 use zk_log::Sink;
 use zk_path::NoMemory;
 

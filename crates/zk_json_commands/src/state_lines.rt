@@ -11,8 +11,7 @@ ghost use Rattle.zk_json_commands.specs.States.{AppendsPassed, AppendsTree, AreS
 use crate::marks::{end_of, id_or_null, name_of_snapshot, torn_of};
 use crate::node_lines::push_entries;
 use std::alloc::Global;
-use zk_directory_files::passed_word;
-use zk_directory_state::{Broken, Origin, Shown};
+use zk_directory_state::{Broken, Origin, Shown, passed_word};
 use zk_fold::Fold;
 use zk_json::{Value, push_object_line};
 use zk_log::Ending;

@@ -6,8 +6,9 @@ ghost use Rattle.zk_records.specs.Sinks.{write_failures_of};
 use crate::row_lines::row_lines;
 use std::alloc::Global;
 use std::io::Write;
-use zk_directory_files::{Folder, HistoryFault};
-use zk_directory_state::{FoldedDirectory, Noticed, Range, fold_directory, put_noticed};
+use zk_directory_state::{
+    FoldedDirectory, Folder, HistoryFault, Noticed, Range, fold_directory, put_noticed,
+};
 use zk_incidents::{Key, Top, first_rows};
 use zk_log::Sink;
 use zk_path::NoMemory;

@@ -6,7 +6,7 @@ ghost use Rattle.zk_records.specs.Sinks.{write_failures_of};
 use crate::report::report_lines;
 use std::alloc::Global;
 use std::io::Write;
-use zk_directory_files::{Folder, put_text, tell_fault};
+use zk_directory_state::{Folder, put_text, tell_fault};
 use zk_log::Sink;
 use zk_path::NoMemory;
 use zk_verification::{Mark, count_wrong, marks_of};

@@ -5,7 +5,7 @@ use Rattle.zk_directory_state.specs.Notices.{OutputsNoticed}
 use Rattle.zk_directory_state.specs.Ranges.{unbounded}
 use Rattle.zk_directory_state.specs.Records.{Answers, HaveNoAnswer}
 use Rattle.zk_directory_state.specs.declared.notices.Noticed.{Noticed}
-use Rattle.zk_directory_files.specs.declared.fault.HistoryFault.{HistoryFault}
+use Rattle.zk_directory_state.specs.declared.fault.HistoryFault.{HistoryFault}
 use Rattle.zk_cli_args.specs.declared.form.Form.{Form}
 use Rattle.zk_json_commands.specs.Logs.{TellsLoaded}
 use Rattle.zk_log.specs.declared.source.Source.{Source}

@@ -7,8 +7,9 @@ use crate::Form;
 use crate::lines::RecordLines;
 use std::alloc::Global;
 use std::io::Write;
-use zk_directory_files::{Folder, HistoryFault};
-use zk_directory_state::{FoldedDirectory, Noticed, Range, fold_directory, put_noticed};
+use zk_directory_state::{
+    FoldedDirectory, Folder, HistoryFault, Noticed, Range, fold_directory, put_noticed,
+};
 use zk_log::Sink;
 use zk_path::NoMemory;
 

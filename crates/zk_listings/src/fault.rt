@@ -5,7 +5,7 @@ ghost use Rattle.zk_listings.specs.declared.fault.FollowFault.TheVariants as fau
 use std::alloc::AllocError;
 use thiserror::Error;
 use zk_directory::LogFileFault;
-use zk_directory_files::HistoryFault;
+use zk_directory_state::HistoryFault;
 use zk_log::WriteFault;
 use zk_path::NoMemory;
 

@@ -10,7 +10,7 @@ ghost use Rattle.zk_listings.specs.Lines.{AreTxnLines};
 use crate::{Form, push_txn_lines};
 use std::alloc::Global;
 use std::io::{Read, Write};
-use zk_directory_files::put_text;
+use zk_directory_state::put_text;
 use zk_log::{LogFault, Sink, Source, load};
 use zk_log_commands::{TURNS, tell_log_fault};
 use zk_path::NoMemory;

@@ -2,7 +2,7 @@
 ghost use Rattle.std.specs.Prelude.{ℕ, ℤ, List, IfOk, pos, ⊤};
 
 use std::alloc::Global;
-use zk_directory_files::HistoryFault;
+use zk_directory_state::HistoryFault;
 
 /// The logs of a directory that a server writes.
 pub trait GrowingLogs {

@@ -12,7 +12,7 @@ use std::io::Write;
 use std::sync::Wait;
 use std::thread;
 use std::time::{Clock, Duration};
-use zk_directory_files::{HistoryFault, tell_fault};
+use zk_directory_state::{HistoryFault, tell_fault};
 use zk_log::Sink;
 use zk_log_commands::tell;
 use zk_path::NoMemory;

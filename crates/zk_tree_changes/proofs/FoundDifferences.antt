@@ -10,7 +10,7 @@ use Rattle.zk_directory_state.specs.Notices.{notices_of}
 use Rattle.zk_directory_state.specs.declared.history.Shown.{Shown}
 use Rattle.zk_directory_state.specs.declared.notices.Noticed.{Noticed}
 use Rattle.zk_directory_state.specs.declared.upto.Upto.{Upto}
-use Rattle.zk_directory_files.specs.declared.fault.HistoryFault.{HistoryFault}
+use Rattle.zk_directory_state.specs.declared.fault.HistoryFault.{HistoryFault}
 use Rattle.zk_machine.specs.Machines.{MachineView}
 use Rattle.zk_tree_changes.specs.DifferenceReports.{AreCompared, AreNotCompared, FindsCompared, FindsDifference, FindsMoment, FollowsLogged, notices_of_both, track_between}
 use Rattle.zk_tree_changes.specs.declared.compared.Compared.{Compared}

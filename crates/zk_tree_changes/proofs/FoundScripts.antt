@@ -5,7 +5,7 @@ use Rattle.std.specs.String.{string_bytes}
 use Rattle.zk_directory_state.specs.Histories.{Holds}
 use Rattle.zk_directory_state.specs.declared.history.Shown.{Shown}
 use Rattle.zk_directory_state.specs.declared.upto.Upto.{Upto}
-use Rattle.zk_directory_files.specs.declared.fault.HistoryFault.{HistoryFault}
+use Rattle.zk_directory_state.specs.declared.fault.HistoryFault.{HistoryFault}
 use Rattle.zk_directory_state.specs.Notices.{notices_of}
 use Rattle.zk_tree_changes.specs.ScriptReports.{FindsScript, IsScriptIn}
 use Rattle.zk_tree_changes.specs.declared.tree_script.Script.{Script}

@@ -15,8 +15,8 @@ use Rattle.zk_directory_state.specs.Notices.{OutputsNoticed, notices_of}
 use Rattle.zk_directory_state.specs.declared.history.Shown.{Shown}
 use Rattle.zk_directory_state.specs.declared.notices.Noticed.{Noticed}
 use Rattle.zk_directory_state.specs.declared.upto.Upto.{Upto}
-use Rattle.zk_directory_files.specs.Names.{log_zxid}
-use Rattle.zk_directory_files.specs.declared.fault.HistoryFault.{HistoryFault}
+use Rattle.zk_directory_state.specs.Names.{log_zxid}
+use Rattle.zk_directory_state.specs.declared.fault.HistoryFault.{HistoryFault}
 use Rattle.zk_directory.specs.declared.file.LogFile.{LogFile}
 use Rattle.zk_newer_records.specs.declared.newer_record.NewerRecord.{NewerRecord}
 use Rattle.zk_path.specs.declared.memory.NoMemory.{NoMemory}

@@ -8,8 +8,8 @@ use Rattle.zk_directory_state.specs.Logs.{IsUnread}
 use Rattle.zk_directory_state.specs.Notices.{OutputsWith, notices_of}
 use Rattle.zk_directory_state.specs.declared.history.Shown.{Shown}
 use Rattle.zk_directory_state.specs.declared.upto.Upto.{Upto}
-use Rattle.zk_directory_files.specs.Outcomes.{Rejects, TellsLine}
-use Rattle.zk_directory_files.specs.declared.fault.HistoryFault.{HistoryFault}
+use Rattle.zk_directory_state.specs.Outcomes.{Rejects, TellsLine}
+use Rattle.zk_directory_state.specs.declared.fault.HistoryFault.{HistoryFault}
 use Rattle.zk_format.specs.Spelling.{quoted}
 use Rattle.zk_log_commands.specs.Writing.{LeavesSink}
 use Rattle.zk_path.specs.declared.memory.NoMemory.{NoMemory}

@@ -6,8 +6,7 @@ ghost use Rattle.zk_tree_changes.specs.DifferenceReports.{FindsCompared, FindsMo
 use crate::LastChanges;
 use crate::logged::follow_logged;
 use std::alloc::Global;
-use zk_directory_files::{Folder, HistoryFault};
-use zk_directory_state::{Upto, notices_text, shown_of};
+use zk_directory_state::{Folder, HistoryFault, Upto, notices_text, shown_of};
 use zk_machine::Machine;
 use zk_path::NoMemory;
 use zk_tree::Tree;

@@ -7,8 +7,7 @@ ghost use Rattle.zk_directory_state.specs.Logs.{IsUnread};
 use crate::LastChanges;
 use std::alloc::Global;
 use zk_directory::{FileEntry, read_log_file};
-use zk_directory_files::{Folder, HistoryFault};
-use zk_directory_state::{logs_in, read_logs, slices_of};
+use zk_directory_state::{Folder, HistoryFault, logs_in, read_logs, slices_of};
 use zk_path::NoMemory;
 
 /// Follows the records of a folder's logs.

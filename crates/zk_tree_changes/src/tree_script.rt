@@ -7,8 +7,9 @@ ghost use Rattle.zk_tree_changes.specs.ScriptReports.{FindsScript, IsScriptIn, O
 use crate::push_script;
 use std::alloc::Global;
 use std::io::Write;
-use zk_directory_files::{Folder, HistoryFault, tell_fault};
-use zk_directory_state::{Shown, Upto, notices_text, put_with_notices, shown_of};
+use zk_directory_state::{
+    Folder, HistoryFault, Shown, Upto, notices_text, put_with_notices, shown_of, tell_fault,
+};
 use zk_format::push_quoted;
 use zk_log::Sink;
 use zk_log_commands::tell;

@@ -11,9 +11,9 @@ use Rattle.zk_replay.specs.declared.fault.BaseFault.{BaseFault}
 use Rattle.zk_replay.specs.declared.fault.BaseFault.TheVariants as base_faults
 use Rattle.zk_directory.specs.Orders.{first_log}
 use Rattle.zk_directory_state.specs.Attempts.{FindsExact, IsExact, broken_by, history_fault, passed_fault}
-use Rattle.zk_directory_files.specs.declared.fault.HistoryFault.{HistoryFault}
-use Rattle.zk_directory_files.specs.declared.fault.HistoryFault.TheVariants as faults
-use Rattle.zk_directory_files.specs.declared.fault.PassedFault.{PassedFault}
+use Rattle.zk_directory_state.specs.declared.fault.HistoryFault.{HistoryFault}
+use Rattle.zk_directory_state.specs.declared.fault.HistoryFault.TheVariants as faults
+use Rattle.zk_directory_state.specs.declared.fault.PassedFault.{PassedFault}
 use Rattle.zk_jute.specs.declared.fault.JuteFault.{JuteFault}
 use Rattle.zk_path.specs.declared.memory.NoMemory.{NoMemory}
 use Rattle.zk_directory_state.specs.Directories.{IsRestored}

@@ -1,8 +1,8 @@
 -- What helps, by kinds of what can be wrong: a line for each kind that there is.
 use Rattle.std.specs.Prelude.{ℕ, Bool, true, false, ◌&&◌, List, [], ◌∷◌, codes}
 use Rattle.std.specs.List.{list_any}
-use Rattle.zk_directory_files.specs.declared.fault.HistoryFault.{HistoryFault}
-use Rattle.zk_directory_files.specs.declared.fault.HistoryFault.TheVariants as faults
+use Rattle.zk_directory_state.specs.declared.fault.HistoryFault.{HistoryFault}
+use Rattle.zk_directory_state.specs.declared.fault.HistoryFault.TheVariants as faults
 use Rattle.zk_verification.specs.declared.help.Kind.{Kind}
 use Rattle.zk_verification.specs.declared.help.Kind.TheVariants.{Snapshot, Log, Lost, Purged, Gap, Differs, Window, Unreadable, Digests}
 use Rattle.zk_verification.specs.declared.mark.Mark.{Mark}

@@ -1,8 +1,8 @@
 -- What `zk verify` writes.
 use Rattle.std.specs.Prelude.{◌≡◌, ℕ, nat_lt, List, Option, Result, Ok, Err, Vec, if◌then◌else◌}
 use Rattle.std.specs.Global.{Global}
-use Rattle.zk_directory_files.specs.Outcomes.{Rejects}
-use Rattle.zk_directory_files.specs.declared.fault.HistoryFault.{HistoryFault}
+use Rattle.zk_directory_state.specs.Outcomes.{Rejects}
+use Rattle.zk_directory_state.specs.declared.fault.HistoryFault.{HistoryFault}
 use Rattle.zk_log_commands.specs.Telling.{Outputs}
 use Rattle.zk_log_commands.specs.Writing.{LeavesSink}
 use Rattle.zk_path.specs.declared.memory.NoMemory.{NoMemory}

@@ -4,9 +4,9 @@ use Rattle.std.specs.Fmt.{decimal}
 use Rattle.std.specs.List.{flat_map}
 use Rattle.zk_replay.specs.declared.exact.Exact.{Exact}
 use Rattle.zk_replay.specs.declared.count.DigestCount.{DigestCount}
-use Rattle.zk_directory_files.specs.Files.{exact_text}
-use Rattle.zk_directory_files.specs.Names.{log_name, snapshot_name}
-use Rattle.zk_directory_files.specs.FaultLines.{fault_line}
+use Rattle.zk_directory_state.specs.Files.{exact_text}
+use Rattle.zk_directory_state.specs.Names.{log_name, snapshot_name}
+use Rattle.zk_directory_state.specs.FaultLines.{fault_line}
 use Rattle.zk_directory.specs.declared.file.LogFileFault.{LogFileFault}
 use Rattle.zk_directory.specs.declared.file.LogFileFault.TheVariants as log_faults
 use Rattle.zk_directory.specs.declared.joint.Joint.{Joint}

@@ -9,8 +9,8 @@ use Rattle.zk_directory.specs.declared.chain.ChainFault.TheVariants as chains
 use Rattle.zk_directory.specs.declared.chain.Turn.{Turn}
 use Rattle.zk_directory.specs.declared.chain.Turn.TheVariants.{Take, Skip, Stop}
 use Rattle.zk_directory.specs.declared.names.FileName.TheVariants as names
-use Rattle.zk_directory_files.specs.declared.fault.HistoryFault.{HistoryFault}
-use Rattle.zk_directory_files.specs.declared.fault.HistoryFault.TheVariants as faults
+use Rattle.zk_directory_state.specs.declared.fault.HistoryFault.{HistoryFault}
+use Rattle.zk_directory_state.specs.declared.fault.HistoryFault.TheVariants as faults
 use Rattle.zk_log.specs.declared.loaded.Ending.{Ending}
 use Rattle.zk_directory.specs.IntactLogs.{IsIntactLog}
 use Rattle.zk_directory.specs.declared.file.FileEntry.{FileEntry}

@@ -6,10 +6,10 @@ use Rattle.std.specs.Global.{Global}
 use Rattle.zk_directory.specs.declared.names.FileName.TheVariants as names
 use Rattle.zk_directory_state.specs.Histories.{AreIn, HoldsNone}
 use Rattle.zk_directory_state.specs.Logs.{IsUnread, bytes_of}
-use Rattle.zk_directory_files.specs.Folders.{IsGiven}
-use Rattle.zk_directory_files.specs.Names.{log_name, log_zxid, snapshot_name, snapshot_zxid}
-use Rattle.zk_directory_files.specs.declared.fault.HistoryFault.{HistoryFault}
-use Rattle.zk_directory_files.specs.declared.fault.HistoryFault.TheVariants as faults
+use Rattle.zk_directory_state.specs.Folders.{IsGiven}
+use Rattle.zk_directory_state.specs.Names.{log_name, log_zxid, snapshot_name, snapshot_zxid}
+use Rattle.zk_directory_state.specs.declared.fault.HistoryFault.{HistoryFault}
+use Rattle.zk_directory_state.specs.declared.fault.HistoryFault.TheVariants as faults
 use Rattle.zk_verification.specs.Findings.{AreFound}
 use Rattle.zk_verification.specs.Following.{FollowsBytes, IsFollowedEmpty, settled}
 use Rattle.zk_verification.specs.Surveys.{AreSurveyed, Surveyed, start_survey}

@@ -10,8 +10,7 @@ use crate::following::{follow_empty, follow_snapshot, settled};
 use crate::{LogBytes, Mark, Survey, survey_logs};
 use std::alloc::Global;
 use zk_directory::FileName;
-use zk_directory_files::{Folder, HistoryFault};
-use zk_directory_state::{logs_in, snapshots_in};
+use zk_directory_state::{Folder, HistoryFault, logs_in, snapshots_in};
 use zk_path::NoMemory;
 
 /// What the snapshot of this zxid leads to.

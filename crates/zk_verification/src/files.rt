@@ -1,13 +1,13 @@
 //! The files of a directory, each of which may be unreadable.
 ghost use Rattle.std.specs.Prelude.{◌≡◌, IfOk, IfSome, map};
 ghost use Rattle.zk_directory_state.specs.Logs.{bytes_of};
-ghost use Rattle.zk_directory_files.specs.Folders.{IsGiven};
-ghost use Rattle.zk_directory_files.specs.Names.{log_name, snapshot_name};
+ghost use Rattle.zk_directory_state.specs.Folders.{IsGiven};
+ghost use Rattle.zk_directory_state.specs.Names.{log_name, snapshot_name};
 ghost use Rattle.zk_verification.specs.Verifications.{AreLoaded, IsLoaded, log_bytes};
 
 use crate::LogBytes;
 use std::alloc::Global;
-use zk_directory_files::{Folder, FolderFault, push_log_name, push_snapshot_name};
+use zk_directory_state::{Folder, FolderFault, push_log_name, push_snapshot_name};
 use zk_path::NoMemory;
 
 /// The bytes of a file; `None` if it cannot be read.

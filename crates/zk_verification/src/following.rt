@@ -9,8 +9,9 @@ use crate::breaks::{Break, earlier, greater, reach_of};
 use crate::survey::is_differing;
 use std::alloc::Global;
 use zk_directory::first_log;
-use zk_directory_files::{HistoryFault, PassedFault};
-use zk_directory_state::{Base, DirectoryFault, Restored, history_fault, restore, window_end};
+use zk_directory_state::{
+    Base, DirectoryFault, HistoryFault, PassedFault, Restored, history_fault, restore, window_end,
+};
 use zk_path::NoMemory;
 use zk_replay::{BaseFault, Exact, exact_from};
 use zk_snapshot::{Snapshot, SnapshotFault, read_snapshot};

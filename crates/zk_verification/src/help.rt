@@ -3,7 +3,7 @@ ghost use Rattle.std.specs.Prelude.{◌≡◌};
 ghost use Rattle.zk_verification.specs.Helps.{has_kind, help_line, is_kind, is_of, kind_of};
 
 use crate::mark::Mark;
-use zk_directory_files::HistoryFault;
+use zk_directory_state::HistoryFault;
 
 /// The kinds of what can be wrong, by what helps.
 #[derive(Clone, Copy, Debug, PartialEq, Eq)]

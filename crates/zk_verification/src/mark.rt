@@ -3,7 +3,7 @@ ghost use Rattle.std.specs.Prelude.{◌≡◌};
 ghost use Rattle.zk_verification.specs.Marks.{is_wrong, log_mark, moment_of, span_of};
 
 use zk_directory::{FileEntry, Joint, LogFile, LogFileFault};
-use zk_directory_files::HistoryFault;
+use zk_directory_state::HistoryFault;
 use zk_log::Ending;
 use zk_path::Path;
 use zk_replay::{DigestCount, Exact};

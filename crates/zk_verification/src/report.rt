@@ -2,8 +2,8 @@
 ghost use Rattle.std.specs.Prelude.{◌≡◌, ◌++◌, IfOk, OnOk};
 ghost use Rattle.std.specs.List.{flat_map};
 ghost use Rattle.std.specs.String.{string_bytes};
-ghost use Rattle.zk_directory_files.specs.FaultLines.{fault_line};
-ghost use Rattle.zk_directory_files.specs.Files.{exact_text};
+ghost use Rattle.zk_directory_state.specs.FaultLines.{fault_line};
+ghost use Rattle.zk_directory_state.specs.Files.{exact_text};
 ghost use Rattle.zk_verification.specs.Marks.{wrong_in};
 ghost use Rattle.zk_verification.specs.Reports.{AppendsMark, AppendsMarks, IsReport, base_text, ending_text, help_text, log_text, other_text, span_text, states_text, stopped_text, verdict_text};
 
@@ -11,7 +11,7 @@ use crate::help::{KINDS, Kind, has_kind, help_line};
 use crate::mark::Mark;
 use crate::report_lines::{push_gap, push_joint, push_lost, push_mismatch};
 use std::alloc::Global;
-use zk_directory_files::{HistoryFault, fault_line, push_log_name, push_snapshot_name};
+use zk_directory_state::{HistoryFault, fault_line, push_log_name, push_snapshot_name};
 use zk_format::push_id;
 use zk_log::Ending;
 use zk_path::NoMemory;

@@ -8,7 +8,7 @@ ghost use Rattle.zk_verification.specs.declared.mark.Mark.TheVariants as marks;
 use crate::mark::{Damage, Facts, Mismatch, Moment};
 use std::alloc::Global;
 use zk_directory::{Joint, LogFileFault};
-use zk_directory_files::push_log_name;
+use zk_directory_state::push_log_name;
 use zk_format::{push_id, push_quoted};
 use zk_json::push_time;
 use zk_log::Ending;

@@ -12,7 +12,7 @@ use zk_directory::{
     Chain, ChainFault, FileEntry, FileName, IntactLog, LogEntry, LogFileFault, Resumption, Turn,
     read_intact_log,
 };
-use zk_directory_files::HistoryFault;
+use zk_directory_state::HistoryFault;
 use zk_log::Ending;
 use zk_path::NoMemory;
 

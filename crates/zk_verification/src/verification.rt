@@ -7,7 +7,7 @@ use crate::checking::marks_of;
 use crate::{Mark, count_wrong, report_text};
 use std::alloc::Global;
 use std::io::Write;
-use zk_directory_files::{Folder, put_text, tell_fault};
+use zk_directory_state::{Folder, put_text, tell_fault};
 use zk_log::Sink;
 use zk_path::NoMemory;
 

@@ -1,7 +1,7 @@
 use Rattle.std.proofs.Common.{Err, inl, inr, sym, subst}
 use Rattle.std.proofs.lemmas.Result.{err_from_is_err_and}
 use Rattle.zk_comparison.specs.Reports.{FindsComparison, source_of}
-use Rattle.zk_directory_files.specs.declared.fault.HistoryFault.{HistoryFault}
+use Rattle.zk_directory_state.specs.declared.fault.HistoryFault.{HistoryFault}
 use Rattle.zk_comparison.proofs.comparison.compare_directories.Goals as goal
 
 pub returns-in_err-ours : goal.returns-in_err-ours

@@ -3,7 +3,7 @@ use Rattle.std.proofs.lemmas.Result.{err_from_is_err_and}
 use Rattle.zk_directory_state.proofs.Chosen.{failed, fails_without, passed_on, served}
 use Rattle.zk_directory_state.specs.Histories.{ChoosesOf, Folders, TriesNext}
 use Rattle.zk_directory_state.specs.declared.history.Next.{Next}
-use Rattle.zk_directory_files.specs.declared.fault.HistoryFault.{HistoryFault}
+use Rattle.zk_directory_state.specs.declared.fault.HistoryFault.{HistoryFault}
 use Rattle.zk_directory_state.proofs.history.shown_from.Goals as goal
 
 pub returns-in_err-shown : goal.returns-in_err-shown

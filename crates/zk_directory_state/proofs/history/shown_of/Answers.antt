@@ -2,7 +2,7 @@ use Rattle.std.proofs.Common.{◌≡◌, ◌+◌, ◌==◌, ◌∙◌, false, �
 use Rattle.std.proofs.lemmas.Result.{err_from_is_err_and}
 use Rattle.zk_directory_state.proofs.Held.{chosen_at, holds, upto_fails}
 use Rattle.zk_directory_state.specs.Histories.{FindsUpto, Holds, IsUpto, candidates}
-use Rattle.zk_directory_files.specs.declared.fault.HistoryFault.{HistoryFault}
+use Rattle.zk_directory_state.specs.declared.fault.HistoryFault.{HistoryFault}
 use Rattle.zk_directory_state.proofs.history.shown_of.Goals as goal
 
 pub returns-in_err-zxid : goal.returns-in_err-zxid

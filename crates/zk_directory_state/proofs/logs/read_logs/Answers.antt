@@ -1,8 +1,8 @@
 use Rattle.std.proofs.Common.{pos, get_or, rules, map, w64, to_z, of_z}
 use Rattle.zk_directory_state.proofs.Chosen.{given_on}
 use Rattle.zk_directory_state.specs.Logs.{items_of}
-use Rattle.zk_directory_files.specs.Folders.{IsGiven}
-use Rattle.zk_directory_files.specs.Names.{log_name}
+use Rattle.zk_directory_state.specs.Folders.{IsGiven}
+use Rattle.zk_directory_state.specs.Names.{log_name}
 use Rattle.zk_directory_state.proofs.logs.read_logs.Goals as goal
 
 pub loop-zxid-preserved : goal.loop-zxid-preserved

@@ -1,6 +1,6 @@
 use Rattle.std.proofs.Common.{Err, sym, subst}
 use Rattle.std.proofs.lemmas.Result.{err_from_is_err_and}
-use Rattle.zk_directory_files.specs.declared.fault.HistoryFault.{HistoryFault}
+use Rattle.zk_directory_state.specs.declared.fault.HistoryFault.{HistoryFault}
 use Rattle.zk_tree_changes.proofs.FoundDifferences.{compared, no_new}
 use Rattle.zk_tree_changes.specs.DifferenceReports.{FindsCompared}
 use Rattle.zk_tree_changes.proofs.compared.compare.Goals as goal
