@@ -30,8 +30,8 @@ use Rattle.zk_directory_state.specs.Joins.{Reading, TakesEntry, decided, decisio
 use Rattle.zk_directory_state.specs.declared.restore_fault.DirectoryFault.{DirectoryFault}
 use Rattle.zk_directory_state.specs.declared.restore_fault.RestoreFault.{RestoreFault}
 use Rattle.zk_directory_state.specs.declared.restore_fault.RestoreFault.TheVariants as faults
-use Rattle.zk_record_folds.proofs.Followed.{more_follow, one_follows}
-use Rattle.zk_record_folds.specs.Folds.{AllFollow}
+use Rattle.zk_newer_records.proofs.Followed.{more_follow, one_follows}
+use Rattle.zk_newer_records.specs.Folds.{AllFollow}
 use Rattle.zk_directory_state.specs.Records.{AreEntriesIn, AreLogsIn, BreakIn, FailsBy, FindsEntries, FoldsEntries, FoldsFile, FoldsListed, FoldsLog, FoldsLogs, HaveNoRecords, IsBroken, chain_reading, first_reading, start_zxid}
 
 -- ---- reading does not stop at the end of the logs

@@ -18,7 +18,7 @@ use Rattle.zk_directory_state.specs.declared.span.Spanned.{Spanned}
 use Rattle.zk_directory_state.proofs.Folded.{given_in, no_empty}
 use Rattle.zk_json.specs.Times.{AppendsTime, IsTimeText}
 use Rattle.zk_newer_records.specs.declared.newer_record.NewerRecord.{NewerRecord}
-use Rattle.zk_record_folds.specs.Folds.{AllFollow}
+use Rattle.zk_newer_records.specs.Folds.{AllFollow}
 
 -- ---- the line
 

@@ -18,7 +18,7 @@ use Rattle.zk_directory.specs.LogFiles.{IsLogFile}
 use Rattle.zk_directory.specs.declared.file.FileEntry.{FileEntry}
 use Rattle.zk_directory.specs.declared.file.LogFile.{LogFile}
 use Rattle.zk_newer_records.specs.declared.newer_record.NewerRecord.{NewerRecord}
-use Rattle.zk_record_folds.specs.Folds.{AllFollow}
+use Rattle.zk_newer_records.specs.Folds.{AllFollow}
 use Rattle.zk_directory_state.specs.Directories.{AreLogFiles, read_files}
 use Rattle.zk_directory_state.specs.Joins.{Reading, read_entries, read_file}
 use Rattle.zk_directory_state.specs.declared.evidence.Start.{Start}

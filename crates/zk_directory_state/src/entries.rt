@@ -7,9 +7,8 @@ use crate::records::{fold_logs, start_zxid};
 use crate::{HistoryFault, history_fault};
 use std::alloc::Global;
 use zk_directory::{Chain, LogEntry};
-use zk_newer_records::NewerRecord;
+use zk_newer_records::{NewerRecord, RecordFold};
 use zk_path::NoMemory;
-use zk_record_folds::RecordFold;
 
 /// Drops each record.
 #[derive(Clone, Copy, Debug)]

@@ -7,7 +7,7 @@ use crate::records::fold_listed;
 use crate::span::{Spanned, notice_on};
 use crate::{Folder, HistoryFault, logs_in, read_logs, slices_of, snapshots_in};
 use std::alloc::Global;
-use zk_record_folds::RecordFold;
+use zk_newer_records::RecordFold;
 
 /// A fold that has taken the records of a directory.
 #[derive(Drop)]

@@ -6,7 +6,7 @@ use crate::evidence::{Start, start_of};
 use crate::{DirectoryFault, HistoryFault, RestoreFault, check_end, history_fault, take_entry};
 use std::alloc::Global;
 use zk_directory::{Chain, FileEntry, LogFile, Turn, read_log_file};
-use zk_record_folds::RecordFold;
+use zk_newer_records::RecordFold;
 
 /// Folds the record of the next entry, unless an earlier log has it.
 #[tactic(auto, using(crate::proofs::Folded::upto_stays, crate::proofs::Folded::taken_folded, crate::proofs::Folded::skipped_folded, crate::proofs::Folded::stopped_folded, crate::proofs::Folded::rejected_folded))]

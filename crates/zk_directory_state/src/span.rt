@@ -11,9 +11,8 @@ use crate::range::{Bound, Range};
 use std::alloc::Global;
 use zk_format::push_id;
 use zk_json::push_time;
-use zk_newer_records::NewerRecord;
+use zk_newer_records::{NewerRecord, RecordFold};
 use zk_path::NoMemory;
-use zk_record_folds::RecordFold;
 
 /// A transaction, and its time, in milliseconds since 1970.
 #[derive(Clone, Copy, Debug, PartialEq, Eq)]

@@ -2,7 +2,7 @@
 use Rattle.std.proofs.Common.{◌≡◌, ℕ, Option, List, [], ◌∷◌, ◌++◌, refl, sym, ap, ◌∙◌, subst, append_assoc, append-nil}
 use Rattle.std.specs.String.{string_bytes}
 use Rattle.zk_newer_records.specs.declared.newer_record.NewerRecord.{NewerRecord}
-use Rattle.zk_record_folds.specs.Folds.{AllFollow}
+use Rattle.zk_newer_records.specs.Folds.{AllFollow}
 use Rattle.zk_incidents.specs.Counts.{Counted, counted_all, counted_one}
 use Rattle.zk_incidents.specs.Histories.{Follows, IsHistoryFrom}
 use Rattle.zk_incidents.specs.Owners.{Owned}

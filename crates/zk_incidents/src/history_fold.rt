@@ -8,9 +8,8 @@ use crate::line::push_line;
 use crate::owners::Owners;
 use crate::scope::Scope;
 use std::alloc::Global;
-use zk_newer_records::NewerRecord;
+use zk_newer_records::{NewerRecord, RecordFold};
 use zk_path::NoMemory;
-use zk_record_folds::RecordFold;
 
 /// The history of a node, and of those below it, so far.
 #[derive(Drop)]

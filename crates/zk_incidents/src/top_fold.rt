@@ -12,9 +12,8 @@ use crate::writes::written;
 use std::alloc::Global;
 use zk_directory_state::Range;
 use zk_format::{push_id, push_quoted};
-use zk_newer_records::NewerRecord;
+use zk_newer_records::{NewerRecord, RecordFold};
 use zk_path::NoMemory;
-use zk_record_folds::RecordFold;
 
 /// What the writes are counted by.
 #[derive(Clone, Copy, Debug, PartialEq, Eq)]

@@ -8,7 +8,7 @@ use Rattle.zk_incidents.specs.Owners.{Owned}
 use Rattle.zk_json.specs.Incidents.{AppendsHistoryLine}
 use Rattle.zk_incidents.specs.declared.scope.Scope.{Scope}
 use Rattle.zk_newer_records.specs.declared.newer_record.NewerRecord.{NewerRecord}
-use Rattle.zk_record_folds.specs.Folds.{AllFollow}
+use Rattle.zk_newer_records.specs.Folds.{AllFollow}
 use Rattle.zk_json_commands.specs.Histories.{AppendsLineBy, AppendsRecordHistory, Follows, IsHistoryFrom}
 use Rattle.zk_json_commands.specs.declared.history_lines.HistoryLines.{HistoryLines}
 

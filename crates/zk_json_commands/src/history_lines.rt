@@ -6,9 +6,8 @@ ghost use Rattle.zk_json_commands.specs.Histories.{AppendsLine, AppendsLineBy, A
 use std::alloc::Global;
 use zk_incidents::{Owners, Scope, covered, is_expiry, op_word};
 use zk_json::push_history_line;
-use zk_newer_records::NewerRecord;
+use zk_newer_records::{NewerRecord, RecordFold};
 use zk_path::NoMemory;
-use zk_record_folds::RecordFold;
 
 /// A line for each transaction so far that created, changed or deleted one of the nodes.
 #[derive(Drop)]

@@ -6,7 +6,7 @@ use Rattle.zk_json_commands.specs.Logs.{OutputsSuch}
 use Rattle.zk_log_commands.specs.Telling.{Outputs}
 use Rattle.zk_newer_records.specs.declared.newer_record.NewerRecord.{NewerRecord}
 use Rattle.zk_path.specs.declared.memory.NoMemory.{NoMemory}
-use Rattle.zk_record_folds.specs.Folds.{AllFollow}
+use Rattle.zk_newer_records.specs.Folds.{AllFollow}
 use Rattle.zk_records.specs.declared.sink.Sink.{Sink}
 use Rattle.zk_table.specs.declared.txn.Txn.{Txn}
 use Rattle.zk_listings.specs.Lines.{AppendsTxnLines, AreTxnLines}

@@ -5,9 +5,8 @@ ghost use Rattle.zk_listings.specs.Listings.{AppendsRecord};
 
 use crate::{Form, push_txn_line};
 use std::alloc::Global;
-use zk_newer_records::NewerRecord;
+use zk_newer_records::{NewerRecord, RecordFold};
 use zk_path::NoMemory;
-use zk_record_folds::RecordFold;
 
 /// A line for each record so far.
 #[derive(Drop)]

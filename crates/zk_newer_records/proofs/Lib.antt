@@ -7,3 +7,4 @@ pub mod OldCreates
 pub mod Standing
 pub mod Turns
 pub mod Whole
+pub mod Followed

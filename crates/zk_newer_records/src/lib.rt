@@ -8,11 +8,15 @@
 //!
 //! A record of 3.4 is one of these records, and represents itself. `docs/FORMATS.md` has the
 //! layouts.
+//!
+//! Folds over the records of logs: what a command keeps while it reads a directory, record by
+//! record.
 #![tactic(auto)]
 
 mod bodies;
 mod changes;
 mod fault;
+mod fold;
 mod kept;
 pub mod kinds;
 mod laws;
@@ -25,6 +29,7 @@ mod reading;
 
 pub use changes::Change;
 pub use fault::NewerFault;
+pub use fold::RecordFold;
 pub use laws::{newer_records_are_of_one, old_records_stand};
 pub use newer_record::{ClosedPaths, Encoding, NewerRecord};
 pub use parts::{NewerPart, PartEncoding, PartEncodings};

@@ -1,7 +1,7 @@
 ghost use Rattle.std.specs.Prelude.{OnOk};
 ghost use Rattle.zk_newer_records.specs.declared.newer_record.NewerRecord.{NewerRecord as Record};
 
-use zk_newer_records::NewerRecord;
+use crate::NewerRecord;
 use zk_path::NoMemory;
 
 /// A fold over the records of logs, in their order.

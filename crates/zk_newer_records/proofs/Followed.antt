@@ -1,7 +1,7 @@
 -- Records that follow others.
 use Rattle.std.proofs.Common.{List, [], ◌∷◌, ◌++◌, refl, subst}
 use Rattle.zk_newer_records.specs.declared.newer_record.NewerRecord.{NewerRecord}
-use Rattle.zk_record_folds.specs.Folds.{AllFollow}
+use Rattle.zk_newer_records.specs.Folds.{AllFollow}
 
 pub one_follows : {S : Type 0} (follows : S → NewerRecord → S → Type 0) (old new : S) (newer : NewerRecord) → follows old newer new → AllFollow follows old (newer ∷ []) new
 one_follows follows old new newer f = (new, f, refl)

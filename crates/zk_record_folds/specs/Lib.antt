@@ -1,2 +1,0 @@
--- What contracts on folds cite.
-pub mod Folds
