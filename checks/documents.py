@@ -13,7 +13,7 @@ import sys
 from pathlib import Path
 
 ROOT = Path(__file__).resolve().parent.parent
-CRATES = {line.partition(":")[0] for line in (ROOT / "crates.txt").read_text(encoding="utf-8").splitlines() if line and line[0] != "#"}
+CRATES = {line.partition(":")[0].split()[0] for line in (ROOT / "crates.txt").read_text(encoding="utf-8").splitlines() if line and line[0] != "#"}
 COLUMNS = 104
 # A crate, or a file, which may be one of the crate before it.
 NAME = re.compile(r"`(?:crates/)?(zk_[a-z0-9_]*[a-z0-9]|zab_[a-z0-9_]*[a-z0-9])?/?((?:(?:src|specs|proofs)/)?[\w/]+\.(?:rt|antt))?`")
@@ -23,7 +23,8 @@ UNUSED = re.compile(r"[Nn]o\s+command\s+uses\s+it|which\s+no\s+command\s+shows")
 
 def below(crate: str) -> set[str]:
     """The crates that a crate uses, by any number of steps."""
-    needs = {line.partition(":")[0]: line.partition(":")[2].split() for line in (ROOT / "crates.txt").read_text(encoding="utf-8").splitlines()}
+    lines = (ROOT / "crates.txt").read_text(encoding="utf-8").splitlines()
+    needs = {line.split(":")[0].split()[0]: line.partition(":")[2].split() for line in lines if line and line[0] != "#"}
     found, left = set(), [crate]
     while left:
         new = {it for it in needs.get(left.pop(), []) if it in CRATES} - found

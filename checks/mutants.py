@@ -103,7 +103,7 @@ def named(lists, crate):
 def lists_of():
     with open(os.path.join(ROOT, "crates.txt"), encoding="utf-8") as it:
         rows = [line.partition("#")[0].partition(":") for line in it]
-    return {head.strip(): uses.split() for head, _, uses in rows if head.strip()}
+    return {head.split()[0]: uses.split() for head, _, uses in rows if head.strip()}
 
 
 def root_of(crate):

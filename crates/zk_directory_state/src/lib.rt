@@ -1,13 +1,10 @@
-//! The state that a data directory holds, and the command `zk show` of one, over any folders and any
-//! writers.
+//! What a ZooKeeper data directory holds: the device that it is read from, its snapshots and logs in
+//! order, and the state that they prove. The commands `zk files` and `zk show` of a directory are
+//! here, over any folder and any writers, and the lines for directories that are rejected.
 //!
 //! The state is the base of a snapshot, or the empty tree, and the transactions of several logs,
 //! each once. Any fold over the records of the logs sees each once too, and which range of transactions
 //! the logs prove.
-//!
-//! What a ZooKeeper data directory holds: the device that it is read from, its snapshots and logs
-//! in order, and a line for each of them. `zk files` prints these over any folder and any writers;
-//! the lines for data directories that are rejected are here too.
 //!
 //! [`Folder`] is the device; the program reads it from the disk, and tests from memory.
 #![tactic(auto)]

@@ -9,8 +9,7 @@
 //! A record of 3.4 is one of these records, and represents itself. `docs/FORMATS.md` has the
 //! layouts.
 //!
-//! Folds over the records of logs: what a command keeps while it reads a directory, record by
-//! record.
+//! [`RecordFold`] is what a command keeps while it reads a directory, record by record.
 #![tactic(auto)]
 
 mod bodies;

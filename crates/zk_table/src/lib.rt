@@ -1,13 +1,5 @@
-//! The table: what each transaction does to the nodes and sessions, its result, and the replies to
-//! reads. The types of transactions, results, nodes and reads are those of `zk_txn`.
-//!
-//! ZooKeeper Programmer's Guide, "The ZooKeeper Data Model"; `zookeeper.jute`, module
-//! `org.apache.zookeeper.txn`.
-//!
-//! Part of `zk_table`, split off for the prover's time alone.
-//!
-//! Transactions and their results, nodes, and reads: the types that records, listings and tables
-//! share.
+//! Transactions, their results, nodes and reads, and the table: what each transaction does to the
+//! nodes and sessions, its result, and the replies to reads.
 //!
 //! ZooKeeper Programmer's Guide, "The ZooKeeper Data Model"; `zookeeper.jute`, module
 //! `org.apache.zookeeper.txn`.
