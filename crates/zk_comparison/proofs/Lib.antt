@@ -3,3 +3,4 @@ pub mod Judged
 pub mod Listed
 pub mod Written
 pub mod Reported
+pub mod Seen

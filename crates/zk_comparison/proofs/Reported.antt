@@ -2,7 +2,10 @@
 use Rattle.std.proofs.Common.{◌≡◌, ℕ, ℤ, List, [], ◌++◌, length, Some, Result, Ok, Err, inl, inr, refl, ap, ◌∙◌, arith}
 use Rattle.std.specs.String.{string_bytes}
 use Rattle.zk_comparison.specs.Notices.{AppendsNotices}
-use Rattle.zk_comparison.specs.Reports.{AreLogsOf, AreNoticesOf, Broken, Empty, FindsComparison, FindsLoaded, FindsSurvey, IsComparison, Keeps, Source, Unread, fault_of}
+use Rattle.zk_comparison.specs.Reports.{AreLogsOf, AreNoticesOf, Broken, Empty, FindsComparison, FindsLoaded, FindsOfLogs, FindsSurvey, IsComparison, Keeps, Unread, end_in, fault_of}
+use Rattle.zk_comparison.specs.Sources.{Source}
+use Rattle.zk_comparison.specs.Trees.{FindsTrees}
+use Rattle.zk_comparison.specs.declared.trees.Trees.{Trees}
 use Rattle.zk_comparison.specs.declared.comparison.Report.{Report}
 use Rattle.zk_comparison.specs.declared.finding.Directory.TheVariants.{First, Second}
 use Rattle.zk_directory_state.specs.Names.{log_zxid, snapshot_zxid}
@@ -38,8 +41,8 @@ pub second_fails : (first second : List LogBytes) (fault : HistoryFault) → Fin
 second_fails first second faults.NoMemory f = tt
 second_fails first second fault f = inr f
 
-pub both_compared : (first second : List LogBytes) (ours theirs : Survey) (report : Report) → FindsSurvey first (Ok ours) → FindsSurvey second (Ok theirs) → IsComparison (surveyed_by ours) (surveyed_by theirs) report.findings.items (string_bytes report.notices) → FindsLoaded first second (Ok report)
-both_compared first second ours theirs report a b is = record {
+pub both_compared : (first second : List LogBytes) (ours theirs : Survey) (report : Report) → FindsSurvey first (Ok ours) → FindsSurvey second (Ok theirs) → IsComparison (surveyed_by ours) (surveyed_by theirs) report.findings.items (string_bytes report.notices) → report.end ≡ end_in (surveyed_by ours) (surveyed_by theirs) → FindsLoaded first second (Ok report)
+both_compared first second ours theirs report a b is end = record {
   ours = surveyed_by ours;
   theirs = surveyed_by theirs;
   are_ours = a.0;
@@ -47,6 +50,7 @@ both_compared first second ours theirs report a b is = record {
   ours_whole = a.1;
   theirs_whole = b.1;
   is = is;
+  is_end = end;
 }
 
 pub both_noticed : (first second : List Mark) (start mid text : List ℕ) → start ≡ [] → AppendsNotices First first start mid → AppendsNotices Second second mid text → AreNoticesOf first second text
@@ -58,14 +62,29 @@ both_noticed first second start mid text none a b = record {
   is = b.2 ∙ ap (λ l. l ++ b.0) (a.2 ∙ ap (λ l. l ++ a.0) none);
 }
 
-pub compared_in : (first second : Source) (ours theirs : List LogBytes) (result : Result Report HistoryFault) → AreLogsOf first ours → AreLogsOf second theirs → FindsLoaded ours theirs result → FindsComparison first second result
+pub compared_in : (first second : Source) (ours theirs : List LogBytes) (result : Result Report HistoryFault) → AreLogsOf first ours → AreLogsOf second theirs → FindsLoaded ours theirs result → FindsOfLogs first second result
 compared_in first second ours theirs (Ok compared) l m f = record {
   ours = f.ours;
   theirs = f.theirs;
   is_ours = record { loaded = ours; are_logs = l; is_survey = f.are_ours; is_fault = f.ours_whole };
   is_theirs = record { loaded = theirs; are_logs = m; is_survey = f.are_theirs; is_fault = f.theirs_whole };
   is = f.is;
+  is_end = f.is_end;
 }
 compared_in first second ours theirs (Err faults.NoMemory) l m f = inl (Unread tt)
 compared_in first second ours theirs (Err fault) l m (inl e) = inl (Broken e.0 (record { loaded = ours; are_logs = l; is_survey = e.1; is_fault = e.2 }))
 compared_in first second ours theirs (Err fault) l m (inr e) = inr (Broken e.0 (record { loaded = theirs; are_logs = m; is_survey = e.1; is_fault = e.2 }))
+
+-- ---- the trees
+
+-- the logs of both, and the trees at their end
+pub reported : (first second : Source) (compared report : Report) (trees : Trees) → FindsOfLogs first second (Ok compared) → FindsTrees first second compared.end (Ok trees) → report.findings.items ≡ compared.findings.items ++ trees.findings.items → string_bytes report.notices ≡ string_bytes compared.notices ++ string_bytes trees.notices → FindsComparison first second (Ok report)
+reported first second compared report trees l t are noted = record {
+  compared = compared;
+  of_logs = l;
+  said = trees.findings.items;
+  noted = string_bytes trees.notices;
+  are_trees = t;
+  are_findings = are;
+  are_notices = noted;
+}

@@ -87,8 +87,9 @@ findings_of all =
 
 -- ---- whether the directories agree
 
--- a difference, or no transaction that both have
+-- a difference, of transactions or of the trees, or no transaction that both have
 abbrev pub is_disagreement : Finding → Bool
 is_disagreement (findings.Same stretch) = nat_eq stretch.count 0
 is_disagreement (findings.Differences count) = nat_lt 0 count
+is_disagreement (findings.Tree zxid count) = nat_lt 0 count
 is_disagreement finding = false

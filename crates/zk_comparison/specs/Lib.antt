@@ -6,4 +6,6 @@ pub mod Findings
 pub mod Lines
 pub mod Objects
 pub mod Notices
+pub mod Sources
+pub mod Trees
 pub mod Reports

@@ -60,6 +60,19 @@ IsSideText (Some newer) text = (time : List ℕ) × IsTimeText newer.txn.time ti
 unfoldable pub differing_text : ℤ → List ℕ → List ℕ → List ℕ
 differing_text zxid first second = codes "differ " ++ id_digits zxid ++ first ++ second ++ codes "\n"
 
+-- ---- the trees
+
+-- the directory that alone has a node
+abbrev pub holder_word : Option Directory → List ℕ
+holder_word None = codes "both"
+holder_word (Some directory) = directory_word directory
+
+unfoldable pub node_text : List ℕ → List ℕ → List ℕ
+node_text holder path = codes "node " ++ holder ++ codes " " ++ quoted path ++ codes "\n"
+
+unfoldable pub tree_text : ℤ → ℕ → List ℕ
+tree_text zxid count = codes "tree " ++ id_digits zxid ++ codes " " ++ decimal count ++ codes "\n"
+
 -- ---- any finding
 
 unfoldable pub count_text : List ℕ → ℕ → List ℕ
@@ -73,6 +86,8 @@ IsFindingText (findings.Differing zxid first second) text =
     (ours : List ℕ) × (theirs : List ℕ) × IsSideText first ours × IsSideText second theirs × (text ≡ differing_text zxid ours theirs)
 IsFindingText (findings.Differences count) text = text ≡ count_text (codes "differences") count
 IsFindingText (findings.After directory stretch) text = IsStretchText (codes "after " ++ directory_word directory) stretch text
+IsFindingText (findings.Node path directory) text = text ≡ node_text (holder_word directory) path
+IsFindingText (findings.Tree zxid count) text = text ≡ tree_text zxid count
 
 -- ---- calls within
 

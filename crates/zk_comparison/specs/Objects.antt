@@ -5,6 +5,7 @@ use Rattle.std.specs.Global.{Global}
 use Rattle.std.specs.String.{string_bytes}
 use Rattle.json.specs.Json.{Json, null, number, string}
 use Rattle.zk_comparison.specs.Lines.{AreLines, directory_word}
+use Rattle.zk_comparison.specs.declared.finding.Directory.{Directory}
 use Rattle.zk_comparison.specs.declared.finding.Finding.{Finding}
 use Rattle.zk_comparison.specs.declared.finding.Finding.TheVariants as findings
 use Rattle.zk_comparison.specs.declared.finding.Occurrence.{Occurrence}
@@ -84,6 +85,18 @@ IsDifferingLine zxid first second line =
     (time : Json) × (time' : Json) × IsTimeOf (time_in first) time × IsTimeOf (time_in second) time'
     × IsLineOf (object_of (differing_fields zxid (side_with first time) (side_with second time'))) line
 
+-- ---- the trees
+
+abbrev pub holder_of : Option Directory → Json
+holder_of None = null
+holder_of (Some directory) = string (directory_word directory)
+
+abbrev pub node_fields : Json → List ℕ → Fields
+node_fields directory path = (codes "kind", string (codes "node")) ∷ (codes "directory", directory) ∷ (codes "path", string path) ∷ []
+
+abbrev pub tree_fields : ℤ → ℕ → Fields
+tree_fields zxid count = (codes "kind", string (codes "tree")) ∷ (codes "zxid", id_of zxid) ∷ (codes "count", number (decimal count)) ∷ []
+
 -- ---- any finding
 
 abbrev pub count_fields : List ℕ → ℕ → Fields
@@ -96,6 +109,8 @@ IsFindingLine (findings.Lost count) line = IsLineOf (object_of (count_fields (co
 IsFindingLine (findings.Differing zxid first second) line = IsDifferingLine zxid first second line
 IsFindingLine (findings.Differences count) line = IsLineOf (object_of (count_fields (codes "differences") count)) line
 IsFindingLine (findings.After directory stretch) line = IsStretchLine (codes "after") (string (directory_word directory)) stretch line
+IsFindingLine (findings.Node path directory) line = IsLineOf (object_of (node_fields (holder_of directory) path)) line
+IsFindingLine (findings.Tree zxid count) line = IsLineOf (object_of (tree_fields zxid count)) line
 
 -- ---- calls within
 

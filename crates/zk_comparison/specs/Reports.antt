@@ -2,9 +2,11 @@
 use Rattle.std.specs.Prelude.{◌≡◌, ◌⊎◌, ℕ, ℤ, List, [], ◌∷◌, ◌++◌, Option, Some, None, Result, Ok, Err, if◌then◌else◌}
 use Rattle.std.specs.List.{list_any}
 use Rattle.std.specs.String.{string_bytes}
-use Rattle.zk_comparison.specs.Comparisons.{judged_of, losses_of}
+use Rattle.zk_comparison.specs.Comparisons.{judged_of, limits_of, losses_of}
 use Rattle.zk_comparison.specs.Findings.{findings_of, is_disagreement}
 use Rattle.zk_comparison.specs.Notices.{AreNotices}
+use Rattle.zk_comparison.specs.Sources.{Source}
+use Rattle.zk_comparison.specs.Trees.{AreTreesAt}
 use Rattle.zk_comparison.specs.declared.comparison.Report.{Report}
 use Rattle.zk_comparison.specs.declared.finding.Directory.TheVariants.{First, Second}
 use Rattle.zk_comparison.specs.declared.finding.Finding.{Finding}
@@ -25,15 +27,6 @@ use Rattle.zk_verification.specs.declared.log_bytes.LogBytes.{LogBytes}
 use Rattle.zk_verification.specs.declared.mark.Mark.{Mark}
 use Rattle.zk_verification.specs.declared.mark.Mark.TheVariants as marks
 use Rattle.zk_verification.specs.declared.survey.Survey.{Survey}
-
--- the names of a directory's snapshots and of its logs, which may be in another, and the logs' bytes
-pub record Source : Type 0 where
-  pub snapshots : Option (List (List ℕ))
-  pub logs : Option (List (List ℕ))
-  pub bytes_in : List ℕ → Option (List ℕ)
-
-abbrev pub source_of : Option (List (List ℕ)) → Option (List (List ℕ)) → (List ℕ → Option (List ℕ)) → Source
-source_of snapshots logs bytes_in = record { snapshots = snapshots; logs = logs; bytes_in = bytes_in }
 
 -- ---- one directory
 
@@ -99,12 +92,28 @@ pub record IsComparison (first second : Surveyed) (findings : List Finding) (not
   pub are_findings : findings ≡ findings_in first second
   pub are_notices : AreNoticesOf first.marks second.marks notices
 
-pub record IsReport (first second : Source) (findings : List Finding) (notices : List ℕ) : Type 0 where
+-- the last zxid of the range in common
+abbrev pub end_in : Surveyed → Surveyed → Option ℤ
+end_in first second = (limits_of first.history.taken second.history.taken).end
+
+-- what the logs say
+pub record IsOfLogs (first second : Source) (compared : Report) : Type 0 where
   pub ours : Surveyed
   pub theirs : Surveyed
   pub is_ours : IsSurvey first ours None
   pub is_theirs : IsSurvey second theirs None
-  pub is : IsComparison ours theirs findings notices
+  pub is : IsComparison ours theirs compared.findings.items (string_bytes compared.notices)
+  pub is_end : compared.end ≡ end_in ours theirs
+
+-- and then the trees at their end
+pub record IsReport (first second : Source) (findings : List Finding) (notices : List ℕ) : Type 0 where
+  pub compared : Report
+  pub of_logs : IsOfLogs first second compared
+  pub said : List Finding
+  pub noted : List ℕ
+  pub are_trees : AreTreesAt first second compared.end said noted
+  pub are_findings : findings ≡ compared.findings.items ++ said
+  pub are_notices : notices ≡ string_bytes compared.notices ++ noted
 
 abbrev pub FindsComparison : Source → Source → Result Report HistoryFault → Type 0
 FindsComparison first second (Ok compared) = IsReport first second compared.findings.items (string_bytes compared.notices)
@@ -144,16 +153,21 @@ FindsSurvey loaded (Err faults.NoMemory) = Unit {0}
 FindsSurvey loaded (Err fault) = IsFaultIn loaded fault
 
 -- of loaded logs
-pub record ComparesLoaded (first second : List LogBytes) (findings : List Finding) (notices : List ℕ) : Type 0 where
+pub record ComparesLoaded (first second : List LogBytes) (compared : Report) : Type 0 where
   pub ours : Surveyed
   pub theirs : Surveyed
   pub are_ours : AreSurveyed start_survey first ours
   pub are_theirs : AreSurveyed start_survey second theirs
   pub ours_whole : fault_of ours ≡ None
   pub theirs_whole : fault_of theirs ≡ None
-  pub is : IsComparison ours theirs findings notices
+  pub is : IsComparison ours theirs compared.findings.items (string_bytes compared.notices)
+  pub is_end : compared.end ≡ end_in ours theirs
 
 abbrev pub FindsLoaded : List LogBytes → List LogBytes → Result Report HistoryFault → Type 0
-FindsLoaded first second (Ok compared) = ComparesLoaded first second compared.findings.items (string_bytes compared.notices)
+FindsLoaded first second (Ok compared) = ComparesLoaded first second compared
 FindsLoaded first second (Err faults.NoMemory) = Unit {0}
 FindsLoaded first second (Err fault) = IsFaultIn first fault ⊎ IsFaultIn second fault
+
+abbrev pub FindsOfLogs : Source → Source → Result Report HistoryFault → Type 0
+FindsOfLogs first second (Ok compared) = IsOfLogs first second compared
+FindsOfLogs first second (Err fault) = Keeps first fault ⊎ Keeps second fault

@@ -1,19 +1,21 @@
 //! `zk compare`.
-ghost use Rattle.std.specs.Prelude.{◌≡◌, ◌-◌, ◌<◌, ◌^◌, IfErr, IfOk, map};
+ghost use Rattle.std.specs.Prelude.{◌≡◌, ◌-◌, ◌<◌, ◌^◌, ◌++◌, IfErr, IfOk, map};
 ghost use Rattle.std.specs.String.{string_bytes};
 ghost use Rattle.zk_comparison.specs.Lines.{AreLines, IsFindingText};
 ghost use Rattle.zk_comparison.specs.Objects.{IsFindingLine};
-ghost use Rattle.zk_comparison.specs.Reports.{AreLogsOf, AreNoticesOf, FindsComparison, FindsLoaded, FindsSurvey, IsComparison, Keeps, OutputsReport, Puts, TellsComparison, difference_by, fault_by, fault_of, findings_in, second_history, source_of};
+ghost use Rattle.zk_comparison.specs.Reports.{AreLogsOf, AreNoticesOf, FindsComparison, FindsLoaded, FindsOfLogs, FindsSurvey, IsComparison, Keeps, OutputsReport, Puts, TellsComparison, difference_by, end_in, fault_by, fault_of, findings_in, second_history};
+ghost use Rattle.zk_comparison.specs.Sources.{source_of};
 ghost use Rattle.zk_directory.specs.Chains.{told};
 ghost use Rattle.zk_records.specs.Sinks.{write_failures_of};
 ghost use Rattle.zk_verification.specs.Surveys.{surveyed_by};
 
 use crate::finding::{Directory, Finding, disagree, findings_of};
-use crate::judgement::judge;
+use crate::judgement::{judge, limits_of};
 use crate::lines::findings_text;
 use crate::loss::losses_of;
 use crate::notices::push_notices;
 use crate::objects::findings_objects;
+use crate::trees::{Trees, compare_trees_at};
 use std::alloc::Global;
 use std::io::Write;
 use zk_directory::LogEntry;
@@ -29,6 +31,8 @@ use zk_verification::{LogBytes, Mark, Survey, load_logs, survey_logs};
 pub(crate) struct Report {
     pub findings: Vec<Finding>,
     pub notices: String,
+    /// The last zxid of the range in common.
+    pub end: Option<i64>,
 }
 
 /// The logs of a directory. The first folder has the snapshots, and may be the same.
@@ -38,8 +42,8 @@ fn load<S: Folder, L: Folder>(
     snapshots: &S,
     logs: &L,
 ) -> Result<Vec<LogBytes>, HistoryFault>
-    ensures loaded { IfOk result (λ loaded. AreLogsOf (source_of (S.names_in snapshots.now) (L.names_in logs.now) (L.bytes_in logs.now)) loaded.items) }
-    ensures none { IfErr result (λ fault. Keeps (source_of (S.names_in snapshots.now) (L.names_in logs.now) (L.bytes_in logs.now)) fault) }
+    ensures loaded { IfOk result (λ loaded. AreLogsOf (source_of (S.names_in snapshots.now) (S.bytes_in snapshots.now) (L.names_in logs.now) (L.bytes_in logs.now)) loaded.items) }
+    ensures none { IfErr result (λ fault. Keeps (source_of (S.names_in snapshots.now) (S.bytes_in snapshots.now) (L.names_in logs.now) (L.bytes_in logs.now)) fault) }
 {
     let held = snapshots_in(alloc, snapshots)?;
     let logged = logs_in(alloc, logs)?;
@@ -139,11 +143,17 @@ fn compare_surveys(
     first: &Survey<'_>,
     second: &Survey<'_>,
 ) -> Result<Report, NoMemory>
-    ensures { IfOk result (λ compared. IsComparison (surveyed_by first.now) (surveyed_by second.now) compared.findings.items (string_bytes compared.notices)) }
+    ensures is { IfOk result (λ compared. IsComparison (surveyed_by first.now) (surveyed_by second.now) compared.findings.items (string_bytes compared.notices)) }
+    ensures end { IfOk result (λ compared. compared.end ≡ end_in (surveyed_by first.now) (surveyed_by second.now)) }
 {
     let findings = findings_in(alloc, first, second)?;
     let notices = notices_of(alloc, first.marks.as_slice(), second.marks.as_slice())?;
-    Ok(Report { findings, notices })
+    let end = limits_of(first.entries(), second.entries()).end;
+    Ok(Report {
+        findings,
+        notices,
+        end,
+    })
 }
 
 #[tactic(auto, using(crate::proofs::Reported::first_fails, crate::proofs::Reported::second_fails, crate::proofs::Reported::both_compared))]
@@ -159,15 +169,43 @@ fn compare_loaded(
     Ok(compare_surveys(alloc, &ours, &theirs)?)
 }
 
-/// Compares the transactions of two directories. Of each the first folder has the snapshots, and the
-/// second one the logs; they may be the same.
+/// Compares the transactions of two directories.
+#[tactic(auto, using(crate::proofs::Reported::compared_in))]
+fn compare_logs<A: Folder, B: Folder, C: Folder, D: Folder>(
+    alloc: Global,
+    first: &A,
+    first_logs: &B,
+    second: &C,
+    second_logs: &D,
+) -> Result<Report, HistoryFault>
+    ensures { FindsOfLogs (source_of (A.names_in first.now) (A.bytes_in first.now) (B.names_in first_logs.now) (B.bytes_in first_logs.now))
+        (source_of (C.names_in second.now) (C.bytes_in second.now) (D.names_in second_logs.now) (D.bytes_in second_logs.now)) result }
+{
+    let ours = load(alloc, first, first_logs)?;
+    let theirs = load(alloc, second, second_logs)?;
+    compare_loaded(alloc, ours.as_slice(), theirs.as_slice())
+}
+
+/// Adds what is said of the trees.
+fn with_trees(mut compared: Report, mut trees: Trees) -> Result<Report, NoMemory>
+    ensures findings { IfOk result (λ report. report.findings.items ≡ compared.findings.items ++ trees.findings.items) }
+    ensures notices { IfOk result (λ report. string_bytes report.notices ≡ string_bytes compared.notices ++ string_bytes trees.notices) }
+{
+    compared.findings.append(&mut trees.findings)?;
+    compared.notices.push_str(trees.notices.as_str())?;
+    Ok(compared)
+}
+
+/// Compares two directories: their transactions, and their trees after the last one of the range in
+/// common. Of each the first folder has the snapshots, and the second one the logs; they may be the
+/// same.
 ///
 /// Fails with
 /// - [`HistoryFault::Empty`] if a directory has no snapshot and no log;
 /// - [`HistoryFault::NoTransaction`] if its logs have no transaction;
 /// - [`HistoryFault::Differs`] if they hold two histories;
 /// - [`HistoryFault::Read`] if a folder cannot be read.
-#[tactic(auto, using(crate::proofs::Reported::compared_in))]
+#[tactic(auto, using(crate::proofs::Reported::reported))]
 pub(crate) fn compare_directories<A: Folder, B: Folder, C: Folder, D: Folder>(
     alloc: Global,
     first: &A,
@@ -175,12 +213,12 @@ pub(crate) fn compare_directories<A: Folder, B: Folder, C: Folder, D: Folder>(
     second: &C,
     second_logs: &D,
 ) -> Result<Report, HistoryFault>
-    ensures { FindsComparison (source_of (A.names_in first.now) (B.names_in first_logs.now) (B.bytes_in first_logs.now))
-        (source_of (C.names_in second.now) (D.names_in second_logs.now) (D.bytes_in second_logs.now)) result }
+    ensures { FindsComparison (source_of (A.names_in first.now) (A.bytes_in first.now) (B.names_in first_logs.now) (B.bytes_in first_logs.now))
+        (source_of (C.names_in second.now) (C.bytes_in second.now) (D.names_in second_logs.now) (D.bytes_in second_logs.now)) result }
 {
-    let ours = load(alloc, first, first_logs)?;
-    let theirs = load(alloc, second, second_logs)?;
-    compare_loaded(alloc, ours.as_slice(), theirs.as_slice())
+    let compared = compare_logs(alloc, first, first_logs, second, second_logs)?;
+    let trees = compare_trees_at(alloc, first, first_logs, second, second_logs, compared.end)?;
+    Ok(with_trees(compared, trees)?)
 }
 
 /// Writes the text of findings, and the notices. Returns the exit status.
@@ -232,9 +270,10 @@ fn put_objects<O: Write, E: Write>(
     Ok(put_findings(text.as_str(), compared, output, faults))
 }
 
-/// Writes what two directories have in common, where they differ, and which of them begins or ends
-/// first; and notices on what a directory lost. Returns the exit status: 1 if a transaction differs,
-/// or if both have none in common.
+/// Writes what two directories have in common, where they differ, which of them begins or ends first,
+/// and where their trees differ after the last transaction in common; and notices on what a directory
+/// lost. Returns the exit status: 1 if a transaction or a node differs, or if both have no transaction
+/// in common.
 pub fn compare<A: Folder, B: Folder, C: Folder, D: Folder, O: Write, E: Write>(
     alloc: Global,
     first: &A,
@@ -247,8 +286,8 @@ pub fn compare<A: Folder, B: Folder, C: Folder, D: Folder, O: Write, E: Write>(
     requires output { write_failures_of output.old < 2 ^ 64 - 1 }
     requires faults { write_failures_of faults.old < 2 ^ 64 - 1 }
     ensures { TellsComparison (AreLines IsFindingText) O.contents E.contents
-        (source_of (A.names_in first.now) (B.names_in first_logs.now) (B.bytes_in first_logs.now))
-        (source_of (C.names_in second.now) (D.names_in second_logs.now) (D.bytes_in second_logs.now)) output.old output.new faults.old faults.new result }
+        (source_of (A.names_in first.now) (A.bytes_in first.now) (B.names_in first_logs.now) (B.bytes_in first_logs.now))
+        (source_of (C.names_in second.now) (C.bytes_in second.now) (D.names_in second_logs.now) (D.bytes_in second_logs.now)) output.old output.new faults.old faults.new result }
 {
     match compare_directories(alloc, first, first_logs, second, second_logs) {
         Ok(compared) => put_lines(alloc, &compared, output, faults),
@@ -269,8 +308,8 @@ pub fn compare_json<A: Folder, B: Folder, C: Folder, D: Folder, O: Write, E: Wri
     requires output { write_failures_of output.old < 2 ^ 64 - 1 }
     requires faults { write_failures_of faults.old < 2 ^ 64 - 1 }
     ensures { TellsComparison (AreLines IsFindingLine) O.contents E.contents
-        (source_of (A.names_in first.now) (B.names_in first_logs.now) (B.bytes_in first_logs.now))
-        (source_of (C.names_in second.now) (D.names_in second_logs.now) (D.bytes_in second_logs.now)) output.old output.new faults.old faults.new result }
+        (source_of (A.names_in first.now) (A.bytes_in first.now) (B.names_in first_logs.now) (B.bytes_in first_logs.now))
+        (source_of (C.names_in second.now) (C.bytes_in second.now) (D.names_in second_logs.now) (D.bytes_in second_logs.now)) output.old output.new faults.old faults.new result }
 {
     match compare_directories(alloc, first, first_logs, second, second_logs) {
         Ok(compared) => put_objects(alloc, &compared, output, faults),

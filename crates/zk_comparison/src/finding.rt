@@ -14,7 +14,7 @@ use crate::pair::Pair;
 use std::alloc::Global;
 use zk_directory::LogEntry;
 use zk_newer_records::NewerRecord;
-use zk_path::NoMemory;
+use zk_path::{NoMemory, Path};
 
 /// The most differences that have findings of their own.
 pub(crate) const MOST_DIFFERING: usize = 1_000;
@@ -67,6 +67,14 @@ pub(crate) enum Finding {
         directory: Directory,
         stretch: Stretch,
     },
+    /// The trees differ at this path: the directory alone has the node, or both have it if there is
+    /// none.
+    Node {
+        path: Path,
+        directory: Option<Directory>,
+    },
+    /// The number of nodes at which the trees differ, after this transaction.
+    Tree { zxid: i64, count: usize },
 }
 
 impl Finding {
@@ -81,6 +89,8 @@ impl Finding {
             Finding::Differing { .. } => false,
             Finding::Differences(count) => *count > 0,
             Finding::After { .. } => false,
+            Finding::Node { .. } => false,
+            Finding::Tree { count, .. } => *count > 0,
         }
     }
 }

@@ -180,7 +180,7 @@ fn is_kind(kind: Kind, other: Kind) -> bool
     }
 }
 
-fn limits_of(first: &[LogEntry<'_>], second: &[LogEntry<'_>]) -> Limits
+pub(crate) fn limits_of(first: &[LogEntry<'_>], second: &[LogEntry<'_>]) -> Limits
     ensures { result ≡ limits_of (map told first.now) (map told second.now) }
 {
     Limits {

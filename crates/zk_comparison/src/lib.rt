@@ -1,5 +1,5 @@
 //! `zk compare`: what the logs of two servers have in common by meaning, where they differ, and
-//! which of them begins or ends first; as lines or as objects of JSON, over any folders and any
+//! which of them begins or ends first; and where their trees differ. As lines or as objects of JSON, over any folders and any
 //! writers.
 #![tactic(auto)]
 
@@ -12,5 +12,6 @@ mod meaning;
 mod notices;
 mod objects;
 mod pair;
+mod trees;
 
 pub use comparison::{compare, compare_json};

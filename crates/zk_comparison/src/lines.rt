@@ -2,7 +2,7 @@
 ghost use Rattle.std.specs.Prelude.{◌≡◌, ◌++◌, IfOk, OnOk, Some};
 ghost use Rattle.std.specs.Option.{option_copied};
 ghost use Rattle.std.specs.String.{string_bytes};
-ghost use Rattle.zk_comparison.specs.Lines.{AppendsFinding, AppendsFindings, AppendsStretch, AreLines, IsFindingText, IsSideText, IsSpanText, IsTimeBy, count_text, differing_text, path_text, side_text, span_text, stretch_text};
+ghost use Rattle.zk_comparison.specs.Lines.{AppendsFinding, AppendsFindings, AppendsStretch, AreLines, IsFindingText, IsSideText, IsSpanText, IsTimeBy, count_text, differing_text, holder_word, node_text, path_text, side_text, span_text, stretch_text, tree_text};
 ghost use Rattle.zk_comparison.specs.declared.finding.Finding.TheVariants as said;
 
 use crate::finding::{Directory, Finding, Occurrence, Stretch};
@@ -47,7 +47,43 @@ fn push_finding(text: &mut String, finding: &Finding) -> Result<(), NoMemory>
         } => push_differing(text, *zxid, first, second),
         Finding::Differences(count) => push_count(text, "differences", *count),
         Finding::After { directory, stretch } => push_after(text, *directory, *stretch),
+        Finding::Node { path, directory } => push_node(text, path, *directory),
+        Finding::Tree { zxid, count } => push_tree(text, *zxid, *count),
     }
+}
+
+/// Appends the line of a node at which the trees differ.
+#[tactic(auto, unfolding(crate::specs::Lines::node_text))]
+fn push_node(text: &mut String, path: &Path, directory: Option<Directory>) -> Result<(), NoMemory>
+    ensures { OnOk result (string_bytes text.new ≡ string_bytes text.old ++ node_text (holder_word directory) path.now) }
+{
+    text.push_str("node ")?;
+    text.push_str(holder_word(directory))?;
+    text.push_str(" ")?;
+    push_quoted(text, path.text())?;
+    text.push_str("\n")?;
+    Ok(())
+}
+
+fn holder_word(directory: Option<Directory>) -> &'static str
+    ensures { result.now ≡ holder_word directory }
+{
+    match directory {
+        None => "both",
+        Some(Directory::First) => "first",
+        Some(Directory::Second) => "second",
+    }
+}
+
+/// Appends the line of the number of nodes at which the trees differ.
+#[tactic(auto, unfolding(crate::specs::Lines::tree_text))]
+fn push_tree(text: &mut String, zxid: i64, count: usize) -> Result<(), NoMemory>
+    ensures { OnOk result (string_bytes text.new ≡ string_bytes text.old ++ tree_text zxid count) }
+{
+    text.push_str("tree ")?;
+    push_id(text, zxid)?;
+    write!(text, " {count}\n")?;
+    Ok(())
 }
 
 /// Appends the line of transactions before the other directory begins.

@@ -6,6 +6,7 @@ ghost use Rattle.zk_directory_state.specs.FaultLines.{fault_text};
 ghost use Rattle.zk_verification.specs.declared.mark.Mark.TheVariants as marks;
 
 use crate::finding::Directory;
+use std::alloc::Global;
 use zk_directory_state::{HistoryFault, fault_line};
 use zk_path::NoMemory;
 use zk_verification::{Mark, Moment, push_range};
@@ -79,6 +80,29 @@ fn push_broken_of(text: &mut String, directory: Directory) -> Result<(), NoMemor
         Directory::Second => text.push_str("zk: broken second ")?,
     }
     Ok(())
+}
+
+/// The line for a directory whose files prove no state, and why.
+pub(crate) fn tree_notice(
+    alloc: Global,
+    directory: Directory,
+    fault: &HistoryFault,
+) -> Result<String, NoMemory>
+    ensures { IfOk result (λ text. string_bytes text ≡ front_of (codes "tree") directory ++ fault_text fault.now ++ codes "\n") }
+{
+    let mut text = String::from_str(alloc, front_of_tree(directory))?;
+    let words = fault_words(&text, fault)?;
+    text.push_str(words.as_str())?;
+    Ok(text)
+}
+
+fn front_of_tree(directory: Directory) -> &'static str
+    ensures { result.now ≡ front_of (codes "tree") directory }
+{
+    match directory {
+        Directory::First => "zk: tree first ",
+        Directory::Second => "zk: tree second ",
+    }
 }
 
 /// The words of a fault, and a newline.

@@ -4,7 +4,7 @@ ghost use Rattle.std.specs.Option.{option_copied};
 ghost use Rattle.std.specs.String.{string_bytes};
 ghost use Rattle.json.specs.Json.{string};
 ghost use Rattle.zk_comparison.specs.Lines.{AreLines, directory_word};
-ghost use Rattle.zk_comparison.specs.Objects.{AppendsFinding, AppendsFindings, AppendsStretch, IsFindingLine, IsTimeOf, count_fields, differing_fields, first_time, from_of, last_time, path_or_null, side_with, stretch_fields, text_by, time_in, to_of, values_of};
+ghost use Rattle.zk_comparison.specs.Objects.{AppendsFinding, AppendsFindings, AppendsStretch, IsFindingLine, IsTimeOf, count_fields, differing_fields, first_time, from_of, holder_of, last_time, node_fields, path_or_null, side_with, stretch_fields, text_by, time_in, to_of, tree_fields, values_of};
 ghost use Rattle.zk_comparison.specs.declared.finding.Finding.TheVariants as said;
 ghost use Rattle.zk_json.specs.Json.{AppendsLineOf, object_of};
 ghost use Rattle.zk_json.specs.Objects.{value_of};
@@ -55,7 +55,42 @@ fn push_finding(text: &mut String, finding: &Finding) -> Result<(), NoMemory>
         Finding::After { directory, stretch } => {
             push_stretch(text, "after", word_of(*directory), *stretch)
         }
+        Finding::Node { path, directory } => push_node(text, path, holder_of(*directory)),
+        Finding::Tree { zxid, count } => push_tree(text, *zxid, *count),
     }
+}
+
+/// Appends the line of a node at which the trees differ.
+fn push_node(text: &mut String, path: &Path, directory: Value<'_>) -> Result<(), NoMemory>
+    ensures { OnOk result (AppendsLineOf (object_of (node_fields (value_of directory.entry) path.now)) (string_bytes text.old) (string_bytes text.new)) }
+{
+    let fields = [
+        ("kind", Value::Text("node")),
+        ("directory", directory),
+        ("path", Value::Text(path.text())),
+    ];
+    push_object_line(text, &fields)
+}
+
+fn holder_of(directory: Option<Directory>) -> Value<'static>
+    ensures { value_of result ≡ holder_of directory }
+{
+    match directory {
+        None => Value::Null,
+        Some(directory) => word_of(directory),
+    }
+}
+
+/// Appends the line of the number of nodes at which the trees differ.
+fn push_tree(text: &mut String, zxid: i64, count: usize) -> Result<(), NoMemory>
+    ensures { OnOk result (AppendsLineOf (object_of (tree_fields zxid count)) (string_bytes text.old) (string_bytes text.new)) }
+{
+    let fields = [
+        ("kind", Value::Text("tree")),
+        ("zxid", Value::Id(zxid)),
+        ("count", Value::Count(count as u64)),
+    ];
+    push_object_line(text, &fields)
 }
 
 fn word_of(directory: Directory) -> Value<'static>

@@ -1,0 +1,57 @@
+-- The trees of two directories, as far as their files prove them.
+use Rattle.std.proofs.Common.{◌≡◌, ℕ, ℤ, Bool, true, false, List, [], ◌∷◌, ◌++◌, length, map, take, Option, Some, None, Result, Ok, Err, String, refl, sym, ap, ◌∙◌, subst}
+use Rattle.std.specs.FinMap.{get}
+use Rattle.std.specs.Global.{Global}
+use Rattle.std.specs.String.{string_bytes}
+use Rattle.zk_comparison.specs.Sources.{Source}
+use Rattle.zk_comparison.specs.Trees.{FindsSight, FindsTrees, IsSight, IsWhole, Sees, nodes_in, tree_notices, trees_by}
+use Rattle.zk_comparison.specs.declared.finding.Directory.{Directory}
+use Rattle.zk_comparison.specs.declared.finding.Directory.TheVariants.{First, Second}
+use Rattle.zk_comparison.specs.declared.trees.Sight.{Sight}
+use Rattle.zk_comparison.specs.declared.trees.Trees.{Trees}
+use Rattle.zk_directory_state.specs.Notices.{notices_of}
+use Rattle.zk_directory_state.specs.declared.fault.HistoryFault.{HistoryFault}
+use Rattle.zk_directory_state.specs.declared.history.Shown.{Shown}
+use Rattle.zk_directory_state.specs.declared.upto.Upto.TheVariants.{Zxid}
+use Rattle.zk_machine.specs.Machines.{MachineView}
+use Rattle.zk_table.specs.States.{NodeMap}
+use Rattle.zk_tree_changes.proofs.Differing.{no_line}
+use Rattle.zk_tree_changes.proofs.DifferingPaths.{differ_are}
+use Rattle.zk_tree_changes.specs.Differences.{differ_at, differ_by, line_at}
+
+-- ---- one directory
+
+pub seen : (source : Source) (directory : Directory) (zxid : ℤ) (shown : Shown) (sight : Sight) → Sees source zxid (Ok shown) → IsSight directory zxid (Ok shown) sight → FindsSight source directory zxid (Ok sight)
+seen source directory zxid shown sight s is = record { answer = Ok shown; sees = s; is = is }
+
+pub not_seen : (source : Source) (directory : Directory) (zxid : ℤ) (fault : HistoryFault) (sight : Sight) → Sees source zxid (Err fault) → IsSight directory zxid (Err fault) sight → FindsSight source directory zxid (Ok sight)
+not_seen source directory zxid fault sight s is = record { answer = Err fault; sees = s; is = is }
+
+pub state_seen : (directory : Directory) (zxid : ℤ) (shown : Shown) (machine : MachineView) (notices : String Global) → (let begun : MachineView = record { state = shown.restored.table.state; steps = 0; failed = false } in machine ≡ begun) → string_bytes notices ≡ notices_of (Zxid zxid) shown.restored → (let sight : Sight = record { machine = Some machine; notices = notices } in IsSight directory zxid (Ok shown) sight)
+state_seen directory zxid shown machine notices is are = record {
+  are_nodes = ap (λ (m : MachineView). Some m.state.nodes) is;
+  is_whole = ap (λ (m : MachineView). m.failed) is;
+  are_notices = are;
+}
+
+-- ---- both
+
+pub compared_trees : (first second : Source) (zxid : ℤ) (ours theirs : Sight) (trees : Trees) → FindsSight first First zxid (Ok ours) → FindsSight second Second zxid (Ok theirs) → trees.findings.items ≡ trees_by zxid (nodes_in ours.machine) (nodes_in theirs.machine) → string_bytes trees.notices ≡ string_bytes ours.notices ++ string_bytes theirs.notices → FindsTrees first second (Some zxid) (Ok trees)
+compared_trees first second zxid ours theirs trees o t are noted = record {
+  ours = o.answer;
+  theirs = t.answer;
+  sees_ours = o.sees;
+  sees_theirs = t.sees;
+  are = are ∙ ap (λ (n : Option NodeMap). trees_by zxid n (nodes_in theirs.machine)) o.is.are_nodes ∙ ap (trees_by zxid _) t.is.are_nodes;
+  are_notices = noted ∙ ap (λ (l : List ℕ). l ++ string_bytes theirs.notices) o.is.are_notices ∙ ap (λ (l : List ℕ). tree_notices First zxid o.answer ++ l) t.is.are_notices;
+}
+
+-- ---- nodes
+
+by_lines : (a b : Option (List ℕ)) → a ≡ None → b ≡ None → differ_by a b ≡ false
+by_lines a b e f = ap (λ x. differ_by x b) e ∙ ap (differ_by None) f
+
+-- trees do not differ where neither has a node
+pub no_nodes : (first second : NodeMap) (path : List ℕ) → get first path ≡ None → get second path ≡ None → differ_at first second path ≡ true → ⊥
+no_nodes first second path e f is =
+    let none : true ≡ false = sym is ∙ differ_are first second path ∙ by_lines (line_at first path) (line_at second path) (no_line first path e) (no_line second path f) in cc
