@@ -6,24 +6,9 @@ use clap::{Arg, ArgAction, Command};
 use std::alloc::{AllocError, Global};
 
 pub(crate) fn command<'a>(alloc: Global) -> Result<Command<'a>, AllocError> {
-    let reading = with_reading(alloc, program(alloc)?)?;
-    let asking = with_asking(alloc, reading)?;
-    with_running(alloc, asking)
-}
-
-/// Adds the commands that read one file or directory.
-fn with_reading<'a>(alloc: Global, command: Command<'a>) -> Result<Command<'a>, AllocError> {
-    with_orders(alloc, command, &READING)
-}
-
-/// Adds the commands for questions about data directories.
-fn with_asking<'a>(alloc: Global, command: Command<'a>) -> Result<Command<'a>, AllocError> {
-    with_orders(alloc, command, &ASKING)
-}
-
-/// Adds the commands that run ensembles.
-fn with_running<'a>(alloc: Global, command: Command<'a>) -> Result<Command<'a>, AllocError> {
-    with_orders(alloc, command, &RUNNING)
+    let reading = with_orders(alloc, program(alloc)?, &READING)?;
+    let asking = with_orders(alloc, reading, &ASKING)?;
+    with_orders(alloc, asking, &RUNNING)
 }
 
 /// Adds commands.
