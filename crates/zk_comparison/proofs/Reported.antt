@@ -1,5 +1,5 @@
 -- Two directories, compared.
-use Rattle.std.proofs.Common.{◌≡◌, ℕ, ℤ, List, [], ◌++◌, length, Some, Result, Ok, Err, inl, inr, refl, ap, ◌∙◌, arith}
+use Rattle.std.proofs.Common.{◌≡◌, ℕ, ℤ, List, [], ◌++◌, length, Option, Some, Result, Ok, Err, inl, inr, refl, ap, ◌∙◌, arith}
 use Rattle.std.specs.String.{string_bytes}
 use Rattle.zk_comparison.specs.Notices.{AppendsNotices}
 use Rattle.zk_comparison.specs.Reports.{AreLogsOf, AreNoticesOf, Broken, Empty, FindsComparison, FindsLoaded, FindsOfLogs, FindsSurvey, IsComparison, Keeps, Unread, end_in, fault_of}
@@ -88,3 +88,6 @@ reported first second compared report trees l t are noted = record {
   are_findings = are;
   are_notices = noted;
 }
+
+pub trees_unread : (first second : Source) (end : Option ℤ) (fault : HistoryFault) → FindsTrees first second end (Err fault) → FindsComparison first second (Err fault)
+trees_unread first second end fault u = inl (Unread u)

@@ -1,16 +1,23 @@
 -- The trees of two directories, as far as their files prove them.
-use Rattle.std.proofs.Common.{◌≡◌, ℕ, ℤ, Bool, true, false, List, [], ◌∷◌, ◌++◌, length, map, take, Option, Some, None, Result, Ok, Err, String, refl, sym, ap, ◌∙◌, subst}
+use Rattle.std.proofs.Common.{◌≡◌, ◌<◌, ◌+◌, ℕ, ℤ, Bool, true, false, cond, List, [], ◌∷◌, ◌++◌, length, map, take, get_or, drop, Option, Some, None, Ok, Err, String, sym, ap, ◌∙◌, append_assoc, append-nil}
+use Rattle.std.proofs.lemmas.List.{drop_more}
+use Rattle.std.specs.Borrow.{Bor}
 use Rattle.std.specs.FinMap.{get}
+use Rattle.std.specs.List.{filter}
 use Rattle.std.specs.Global.{Global}
 use Rattle.std.specs.String.{string_bytes}
 use Rattle.zk_comparison.specs.Sources.{Source}
-use Rattle.zk_comparison.specs.Trees.{FindsSight, FindsTrees, IsSight, IsWhole, Sees, nodes_in, tree_notices, trees_by}
+use Rattle.zk_comparison.specs.Trees.{FindsSight, FindsTrees, IsSight, Sees, differing_paths, is_unread, node_at, nodes_in, tree_findings, tree_notices, trees_by}
 use Rattle.zk_comparison.specs.declared.finding.Directory.{Directory}
 use Rattle.zk_comparison.specs.declared.finding.Directory.TheVariants.{First, Second}
+use Rattle.zk_comparison.specs.declared.finding.Finding.{Finding}
+use Rattle.zk_comparison.specs.declared.finding.Finding.TheVariants.{Tree}
 use Rattle.zk_comparison.specs.declared.trees.Sight.{Sight}
 use Rattle.zk_comparison.specs.declared.trees.Trees.{Trees}
+use Rattle.zk_directory_state.specs.Logs.{IsUnread}
 use Rattle.zk_directory_state.specs.Notices.{notices_of}
 use Rattle.zk_directory_state.specs.declared.fault.HistoryFault.{HistoryFault}
+use Rattle.zk_directory_state.specs.declared.fault.HistoryFault.TheVariants as faults
 use Rattle.zk_directory_state.specs.declared.history.Shown.{Shown}
 use Rattle.zk_directory_state.specs.declared.upto.Upto.TheVariants.{Zxid}
 use Rattle.zk_machine.specs.Machines.{MachineView}
@@ -26,6 +33,12 @@ seen source directory zxid shown sight s is = record { answer = Ok shown; sees =
 
 pub not_seen : (source : Source) (directory : Directory) (zxid : ℤ) (fault : HistoryFault) (sight : Sight) → Sees source zxid (Err fault) → IsSight directory zxid (Err fault) sight → FindsSight source directory zxid (Ok sight)
 not_seen source directory zxid fault sight s is = record { answer = Err fault; sees = s; is = is }
+
+pub unread : (fault : HistoryFault) → is_unread fault ≡ true → IsUnread fault
+unread (faults.Unreadable file) is = tt
+unread faults.Read is = tt
+unread faults.NoMemory is = tt
+unread fault is = cc
 
 pub state_seen : (directory : Directory) (zxid : ℤ) (shown : Shown) (machine : MachineView) (notices : String Global) → (let begun : MachineView = record { state = shown.restored.table.state; steps = 0; failed = false } in machine ≡ begun) → string_bytes notices ≡ notices_of (Zxid zxid) shown.restored → (let sight : Sight = record { machine = Some machine; notices = notices } in IsSight directory zxid (Ok shown) sight)
 state_seen directory zxid shown machine notices is are = record {
@@ -55,3 +68,30 @@ by_lines a b e f = ap (λ x. differ_by x b) e ∙ ap (differ_by None) f
 pub no_nodes : (first second : NodeMap) (path : List ℕ) → get first path ≡ None → get second path ≡ None → differ_at first second path ≡ true → ⊥
 no_nodes first second path e f is =
     let none : true ≡ false = sym is ∙ differ_are first second path ∙ by_lines (line_at first path) (line_at second path) (no_line first path e) (no_line second path f) in cc
+
+-- ---- all nodes
+
+-- the first ones, and the number of all
+pub all_said : (zxid : ℤ) (first second : NodeMap) (paths slice most : List (List ℕ)) (count : ℕ) (tree : Finding) (none mid new : List Finding) → paths ≡ differing_paths first second → slice ≡ paths → most ≡ take 1000 slice → count ≡ length paths → none ≡ [] → mid ≡ none ++ map (node_at first second) most → tree ≡ Tree zxid count → new ≡ mid ++ tree ∷ [] → new ≡ tree_findings zxid first second
+all_said zxid first second paths slice most count tree none mid new p s m c n d t h =
+    let shown : most ≡ take 1000 (differing_paths first second) = m ∙ ap (take 1000) (s ∙ p) in
+    let number : count ≡ length (differing_paths first second) = c ∙ ap length p in
+    h
+    ∙ ap (λ (f : Finding). mid ++ f ∷ []) t
+    ∙ ap (λ (l : List Finding). l ++ Tree zxid count ∷ []) (d ∙ ap (λ (l : List Finding). l ++ map (node_at first second) most) n ∙ ap (λ (ps : List (List ℕ)). map (node_at first second) ps) shown)
+    ∙ ap (λ k. map (node_at first second) (take 1000 (differing_paths first second)) ++ Tree zxid k ∷ []) number
+
+-- the paths that are left
+next_by : (b : Bool) (old rest : List (List ℕ)) (path : List ℕ) → (old ++ cond b (path ∷ []) []) ++ rest ≡ old ++ cond b (path ∷ rest) rest
+next_by true old rest path = append_assoc old (path ∷ []) rest
+next_by false old rest path = ap (λ l. l ++ rest) (append-nil old)
+
+pub next_path : (first second : NodeMap) (old new : List (List ℕ)) (texts : List (Bor (List ℕ))) (i : ℕ) (d : Bor (List ℕ)) → i < length texts
+    → (let text : Bor (List ℕ) = get_or texts i d in new ≡ old ++ filter (differ_at first second) (text.now ∷ []))
+    → new ++ filter (differ_at first second) (map (λ (text : Bor (List ℕ)). text.now) (drop (i + 1) texts)) ≡ old ++ filter (differ_at first second) (map (λ (text : Bor (List ℕ)). text.now) (drop i texts))
+next_path first second old new texts i d lt h =
+    let all = map (λ (text : Bor (List ℕ)). text.now) in
+    let text : Bor (List ℕ) = get_or texts i d in
+    let rest = filter (differ_at first second) (all (drop (i + 1) texts)) in
+    ap (λ l. l ++ rest) h ∙ next_by (differ_at first second text.now) old rest text.now
+    ∙ ap (λ (l : List (Bor (List ℕ))). old ++ filter (differ_at first second) (all l)) (sym (drop_more texts i d lt))

@@ -1,5 +1,5 @@
 -- The trees of two directories, after the last transaction of the range in common.
-use Rattle.std.specs.Prelude.{◌≡◌, ℕ, ℤ, List, [], ◌∷◌, ◌++◌, length, map, take, Option, Some, None, Result, Ok, Err, codes}
+use Rattle.std.specs.Prelude.{◌≡◌, ℕ, ℤ, Bool, true, false, List, [], ◌∷◌, ◌++◌, length, map, take, Option, Some, None, Result, Ok, Err, codes}
 use Rattle.std.specs.FinMap.{get}
 use Rattle.std.specs.List.{filter}
 use Rattle.std.specs.String.{string_bytes}
@@ -17,6 +17,7 @@ use Rattle.zk_directory_state.specs.Histories.{Holds}
 use Rattle.zk_directory_state.specs.Logs.{IsUnread}
 use Rattle.zk_directory_state.specs.Notices.{notices_of}
 use Rattle.zk_directory_state.specs.declared.fault.HistoryFault.{HistoryFault}
+use Rattle.zk_directory_state.specs.declared.fault.HistoryFault.TheVariants as faults
 use Rattle.zk_directory_state.specs.declared.history.Shown.{Shown}
 use Rattle.zk_directory_state.specs.declared.upto.Upto.TheVariants.{Zxid}
 use Rattle.zk_machine.specs.Machines.{MachineView}
@@ -99,6 +100,12 @@ pub record IsSightOf (source : Source) (directory : Directory) (zxid : ℤ) (sig
   pub answer : Result Shown HistoryFault
   pub sees : Sees source zxid answer
   pub is : IsSight directory zxid answer sight
+
+abbrev pub is_unread : HistoryFault → Bool
+is_unread (faults.Unreadable file) = true
+is_unread faults.Read = true
+is_unread faults.NoMemory = true
+is_unread fault = false
 
 -- unless a file could not be read
 abbrev pub FindsSight : Source → Directory → ℤ → Result Sight HistoryFault → Type 0

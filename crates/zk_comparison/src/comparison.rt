@@ -205,7 +205,7 @@ fn with_trees(mut compared: Report, mut trees: Trees) -> Result<Report, NoMemory
 /// - [`HistoryFault::NoTransaction`] if its logs have no transaction;
 /// - [`HistoryFault::Differs`] if they hold two histories;
 /// - [`HistoryFault::Read`] if a folder cannot be read.
-#[tactic(auto, using(crate::proofs::Reported::reported))]
+#[tactic(auto, using(crate::proofs::Reported::reported, crate::proofs::Reported::trees_unread))]
 pub(crate) fn compare_directories<A: Folder, B: Folder, C: Folder, D: Folder>(
     alloc: Global,
     first: &A,

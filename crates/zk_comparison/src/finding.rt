@@ -74,7 +74,10 @@ pub(crate) enum Finding {
         directory: Option<Directory>,
     },
     /// The number of nodes at which the trees differ, after this transaction.
-    Tree { zxid: i64, count: usize },
+    Tree {
+        zxid: i64,
+        count: usize,
+    },
 }
 
 impl Finding {

@@ -61,7 +61,7 @@ fn push_finding(text: &mut String, finding: &Finding) -> Result<(), NoMemory>
 }
 
 /// Appends the line of a node at which the trees differ.
-fn push_node(text: &mut String, path: &Path, directory: Value<'_>) -> Result<(), NoMemory>
+fn push_node<'a>(text: &mut String, path: &'a Path, directory: Value<'a>) -> Result<(), NoMemory>
     ensures { OnOk result (AppendsLineOf (object_of (node_fields (value_of directory.entry) path.now)) (string_bytes text.old) (string_bytes text.new)) }
 {
     let fields = [

@@ -4,7 +4,7 @@ ghost use Rattle.std.specs.List.{filter};
 ghost use Rattle.std.specs.Option.{option_copied};
 ghost use Rattle.std.specs.String.{string_bytes};
 ghost use Rattle.zk_comparison.specs.Sources.{source_of};
-ghost use Rattle.zk_comparison.specs.Trees.{FindsSight, FindsTrees, IsSight, IsWhole, alone_by, differing_paths, node_at, nodes_in, tree_findings, trees_by};
+ghost use Rattle.zk_comparison.specs.Trees.{FindsSight, FindsTrees, IsSight, IsWhole, alone_by, differing_paths, is_unread, node_at, nodes_in, tree_findings, trees_by};
 ghost use Rattle.zk_comparison.specs.declared.finding.Finding.TheVariants as said;
 ghost use Rattle.zk_tree_changes.specs.Differences.{differ_at};
 
@@ -66,7 +66,7 @@ pub(crate) fn compare_trees_at<A: Folder, B: Folder, C: Folder, D: Folder>(
 /// The tree of a directory after a transaction.
 ///
 /// Fails if a file or folder cannot be read.
-#[tactic(auto, using(crate::proofs::Seen::seen, crate::proofs::Seen::not_seen))]
+#[tactic(auto, using(crate::proofs::Seen::seen, crate::proofs::Seen::not_seen, crate::proofs::Seen::unread))]
 fn sight_of<S: Folder, L: Folder>(
     alloc: Global,
     directory: Directory,
@@ -78,8 +78,20 @@ fn sight_of<S: Folder, L: Folder>(
 {
     match shown_of(alloc, snapshots, logs, Upto::Zxid { zxid }) {
         Ok(shown) => Ok(sight_in(alloc, directory, zxid, &shown)?),
-        Err(fault @ (HistoryFault::Read | HistoryFault::NoMemory | HistoryFault::Unreadable(_))) => Err(fault),
+        Err(fault) if is_unread(&fault) => Err(fault),
         Err(fault) => Ok(sight_without(alloc, directory, zxid, &fault)?),
+    }
+}
+
+/// Whether a file or folder could not be read, or allocation failed.
+fn is_unread(fault: &HistoryFault) -> bool
+    ensures { result ≡ is_unread fault.now }
+{
+    match fault {
+        HistoryFault::Unreadable(_) => true,
+        HistoryFault::Read => true,
+        HistoryFault::NoMemory => true,
+        _ => false,
     }
 }
 
@@ -132,7 +144,6 @@ fn findings_of_trees(
 }
 
 /// The first nodes at which two trees differ, and the number of all.
-#[tactic(auto, using(crate::proofs::Seen::all_said))]
 fn compare_trees(
     alloc: Global,
     zxid: i64,
@@ -144,11 +155,14 @@ fn compare_trees(
     let paths = differing_paths(alloc, first, second)?;
     let mut findings = Vec::new(alloc);
     push_nodes(&mut findings, first, second, most_of(paths.as_slice()))?;
-    findings.push(Finding::Tree {
-        zxid,
-        count: paths.len(),
-    })?;
+    findings.push(tree_finding(zxid, paths.len()))?;
     Ok(findings)
+}
+
+fn tree_finding(zxid: i64, count: usize) -> Finding
+    ensures { result ≡ said.Tree zxid count }
+{
+    Finding::Tree { zxid, count }
 }
 
 /// The first of these, up to the number of those that have findings of their own.
@@ -163,6 +177,7 @@ fn most_of(paths: &[Path]) -> &[Path]
 }
 
 /// The paths of the nodes at which two trees differ, in order.
+#[tactic(auto, using(crate::proofs::Seen::next_path))]
 fn differing_paths(alloc: Global, first: &Tree, second: &Tree) -> Result<Vec<Path>, NoMemory>
     ensures { IfOk result (λ paths. paths.items ≡ differing_paths first.now second.now) }
 {
