@@ -4,7 +4,9 @@ ghost use Rattle.std.specs.Prelude.{◌≢◌, ◌↔◌, IsTrue};
 ghost use Rattle.clap.specs.declared.error.kind.ErrorKind.TheVariants as kinds;
 
 use crate::grammar::{command, order_command};
-use crate::helps::{DEBUG, DIFF, ENSEMBLE, HISTORY, MEND, OrderHelp, RESTORE, SERVE, SHOW, TOP};
+use crate::helps::{
+    DEBUG, DIFF, ENSEMBLE, HISTORY, MEND, OrderHelp, RESTORE, SERVE, SHOW, SNAPSHOT, TOP,
+};
 use clap::Error;
 use clap::error::ErrorKind;
 use std::alloc::{AllocError, Global};
@@ -54,6 +56,7 @@ pub fn refusal_of<'a>(alloc: Global, words: &'a [&'a str]) -> Result<Refusal, Al
         None if words.get(1) == Some(&"history") => path_fault(alloc)?,
         None if words.get(1) == Some(&"diff") => diff_fault(alloc)?,
         None if words.get(1) == Some(&"restore") => restore_fault(alloc)?,
+        None if words.get(1) == Some(&"snapshot") => snapshot_fault(alloc)?,
         None if words.get(1) == Some(&"debug") => debug_fault(alloc, words)?,
         // Of the other words that clap accepts, only a ZXID is an error.
         None => zxid_fault(alloc, &SHOW)?,
@@ -164,6 +167,16 @@ fn restore_fault(alloc: Global) -> Result<Error, AllocError> {
         &RESTORE,
         ErrorKind::ValueValidation,
         "T is neither a zxid such as 0x2a4, `last`, nor a time such as 2026-11-27T14:03, or PATH is not the path of a node, such as / or /app/lock",
+    )
+}
+
+/// A usage error of `snapshot` that `clap` accepts.
+fn snapshot_fault(alloc: Global) -> Result<Error, AllocError> {
+    fault_of(
+        alloc,
+        &SNAPSHOT,
+        ErrorKind::ValueValidation,
+        "T is neither a zxid such as 0x2a4, `last`, nor a time such as 2026-11-27T14:03",
     )
 }
 

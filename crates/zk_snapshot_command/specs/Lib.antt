@@ -1,0 +1,3 @@
+pub use Rattle.zk_path.specs.Paths
+pub mod Parts
+pub mod SnapshotCommands
