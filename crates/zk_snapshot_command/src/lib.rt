@@ -5,5 +5,6 @@
 mod command;
 mod part_fault;
 mod parts;
+mod stored_owners;
 
 pub use command::write_snapshot;
