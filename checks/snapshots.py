@@ -110,7 +110,7 @@ def server(data):
         port = randrange(20000, 60000)
         configuration, messages = data / "zoo.cfg", data / "messages"
         configuration.write_text(CONFIGURATION.format(data=data, port=port))
-        words = ["java", "-Dzookeeper.skipACL=yes", "-cp", CLASSES, "org.apache.zookeeper.server.ZooKeeperServerMain", configuration]
+        words = ["java", "-Dzookeeper.skipACL=yes", "-Dzookeeper.extendedTypesEnabled=true", "-cp", CLASSES, "org.apache.zookeeper.server.ZooKeeperServerMain", configuration]
         with open(messages, "w", encoding="utf-8") as output:
             process = subprocess.Popen(words, stdin=subprocess.DEVNULL, stdout=output, stderr=subprocess.STDOUT)
         try:

@@ -23,9 +23,13 @@ fn put_part<O: Write>(
     ensures rest { OnOk result (writer.new ≡ drop 65536 writer.old) }
 {
     part.clear();
-    writer.write_some(part, PART)?;
-    output.write_all(part.as_slice())?;
-    Ok(())
+    if writer.write_some(part, PART).is_err() {
+        return Err(PartFault::NoMemory);
+    }
+    match output.write_all(part.as_slice()) {
+        Ok(()) => Ok(()),
+        Err(_) => Err(PartFault::Write),
+    }
 }
 
 /// Writes all bytes that are left of a snapshot.

@@ -29,10 +29,11 @@ impl Follower {
     fn take(&mut self, upto: i64, newer: &NewerRecord) -> Result<(), NoMemory>
         ensures { OnOk result ((path : List ℕ) → (self.new.last, finite.get self.new.owners path) ≡ followed_one upto path (self.old.last, finite.get self.old.owners path) newer.now) }
     {
-        if is_next(upto, self.last, newer.txn.zxid) {
-            self.owners.follow(newer)?;
-            self.last = newer.txn.zxid;
+        if !is_next(upto, self.last, newer.txn.zxid) {
+            return Ok(());
         }
+        self.owners.follow(newer)?;
+        self.last = newer.txn.zxid;
         Ok(())
     }
 
@@ -70,5 +71,6 @@ pub fn follow_logs(
     for bytes in logs {
         follower.take_log(alloc, upto, *bytes)?;
     }
-    Ok(follower.owners)
+    let Follower { owners, last: _ } = follower;
+    Ok(owners)
 }
