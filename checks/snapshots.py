@@ -2,12 +2,15 @@
 """`zk snapshot` over the real directories of examples/directories, as of some of their transactions and times. `zk show` of a
 directory that has only the snapshot prints the tree that it prints of the directory, and a server of ZooKeeper 3.8.0 (Debian's
 `zookeeper`) that starts on it serves the same nodes to kazoo, and computes the digest that the snapshot states. With the logs that
-continue it the server finds the digest of each of their records. Where `zk show` has a fault, so has `zk snapshot`, and writes nothing.
+continue it the server finds the digest of each of their records. As of a snapshot of a server's, the written one has the same contents:
+sessions, nodes with their lists, owners that no client sees, and the digest. Where `zk show` has a fault, so has `zk snapshot`, and
+writes nothing.
 
 usage: snapshots.py"""
 import re
 import shutil
 import socket
+import struct
 import subprocess
 import tarfile
 import tempfile
@@ -38,6 +41,9 @@ POINTS = [
     ("epochs", ["last"], None),
     ("upper", ["last"], None),
 ]
+
+# a directory, and snapshots in it that are exact as of their own zxids
+EXACT = [("follower", 0x20000004E), ("follower", 0x2000000D6), ("lone", 0x31D)]
 
 # a directory and a transaction or time that it does not prove
 FAULTS = [
@@ -141,6 +147,53 @@ def served(data):
 # ---- snapshots
 
 
+class Reader:
+    """The fields of a snapshot's bytes, from the left."""
+
+    def __init__(self, data):
+        self.data, self.at = data, 0
+
+    def take(self, form):
+        values = struct.unpack_from(">" + form, self.data, self.at)
+        self.at += struct.calcsize(">" + form)
+        return values if len(values) > 1 else values[0]
+
+    def buffer(self):
+        length = self.take("i")
+        if length < 0:
+            return None
+        self.at += length
+        return self.data[self.at - length : self.at]
+
+    def acl(self):
+        return [(self.take("i"), self.buffer(), self.buffer()) for _ in range(self.take("i"))]
+
+
+def contents_of(data):
+    """What a snapshot holds, whatever the order of its nodes and the numbers of its lists."""
+    reader = Reader(data)
+    header = reader.take("4siq")
+    sessions = {reader.take("q"): reader.take("i") for _ in range(reader.take("i"))}
+    lists = {reader.take("q"): reader.acl() for _ in range(reader.take("i"))}
+    lists[-1] = [(31, b"world", b"anyone")]
+    nodes = {}
+    while (path := reader.buffer()) != b"/":
+        content, acl = reader.buffer(), reader.take("q")
+        nodes[path] = (content, lists[acl], reader.take("qqqqiiiqq"))
+    seal, claim, end = reader.take("q5s"), reader.take("qiq"), reader.take("q5s")
+    assert reader.at == len(data) and seal[1] == end[1] == b"\0\0\0\1/"
+    return header, sessions, nodes, claim
+
+
+def check_contents(directory, zxid):
+    """The snapshot as of a server's own has what that one has."""
+    real = (directory / f"snapshot.{zxid:x}").read_bytes()
+    status, snapshot, _ = run("snapshot", directory, "@", "--at", hex(zxid))
+    assert status == 0, (directory, hex(zxid))
+    ours, theirs = contents_of(snapshot), contents_of(real)
+    assert ours == theirs, [(path, ours[2].get(path), theirs[2].get(path)) for path in ours[2] | theirs[2] if ours[2].get(path) != theirs[2].get(path)] or (ours, theirs)
+
+
 def written(directory, at, room):
     """A data directory that has only the snapshot of a state; with the report of the state."""
     lines, notices = report(directory, at)
@@ -220,10 +273,12 @@ def main():
                 points += 1
             if continued:
                 check_continued(places[name], continued, room / f"{name}-continued")
+        for name, zxid in EXACT:
+            check_contents(places[name], zxid)
         for name, at in FAULTS:
             check_fault(places[name], at, room)
         check_output(room)
-    print(f"snapshots: {points} of {len(POINTS)} directories, on which servers of ZooKeeper's have {nodes} nodes; {len(FAULTS)} faults")
+    print(f"snapshots: {points} of {len(POINTS)} directories, on which servers of ZooKeeper's have {nodes} nodes; {len(EXACT)} as servers wrote them; {len(FAULTS)} faults")
 
 
 main()
