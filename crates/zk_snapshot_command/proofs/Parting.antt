@@ -1,5 +1,5 @@
 -- Bytes that are written a part at a time.
-use Rattle.std.proofs.Common.{◌≡◌, ℕ, List, [], ◌∷◌, ◌++◌, Option, Result, Ok, Err, length, take, drop, refl, sym, ap, ◌∙◌, subst, append_assoc, append-nil, take-append-drop}
+use Rattle.std.proofs.Common.{◌≡◌, ℕ, ◌-◌, ◌<◌, ◌==◌, Bool, false, List, [], ◌∷◌, ◌++◌, Option, Result, Ok, Err, length, take, drop, refl, sym, ap, ◌∙◌, subst, append_assoc, append-nil, take-append-drop, arith, length-drop}
 use Rattle.zk_log_commands.proofs.LinesLaws.{broke_off_earlier, broke_off_later, part_earlier, part_later, wrote_more, wrote_nothing}
 use Rattle.zk_log_commands.specs.Writing.{BrokeOff, Wrote, WrotePart}
 use Rattle.zk_records.specs.declared.sink.Sink.{Sink}
@@ -19,6 +19,12 @@ parted all front left n e = ap (λ l. front ++ l) (take-append-drop n left) ∙ 
 none_left : (left : List ℕ) → length left ≡ 0 → left ≡ []
 none_left [] e = refl
 none_left (byte ∷ bytes) e = absurd (cc e)
+
+-- a part is not empty
+pub less_left : (left left' : List ℕ) (n : ℕ) (done : Bool) → 0 < n → done ≡ (length left == 0) → done ≡ false → left' ≡ drop n left → length left' < length left
+less_left [] left' n done some is goes e = absurd (cc (sym goes ∙ is))
+less_left (byte ∷ bytes) left' n done some is goes e =
+    let shorter : length left' ≡ length (byte ∷ bytes) - n = ap length e ∙ length-drop n (byte ∷ bytes) in omega (arith, shorter, some)
 
 module _ {W : Type 0} (contents : W → Option (List ℕ)) where
   pub all_left : (sink : Sink W) (all : List ℕ) → LeavesBytes contents sink sink all all

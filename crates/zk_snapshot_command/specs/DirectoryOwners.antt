@@ -30,13 +30,18 @@ pub record AreOwnersFrom (bytes_in : List ℕ → Option (List ℕ)) (upto from 
   pub given : AreGiven bytes_in logged (map bytes_of logs)
   pub after : AreOwnersAfter upto from owners logs owners'
 
--- after a snapshot, or after the empty tree
-abbrev pub AreOwnersOver : (List ℕ → Option (List ℕ)) → (List ℕ → Option (List ℕ)) → ℤ → List ℤ → Option Origin → Owners → Type 0
-AreOwnersOver snapshot_bytes log_bytes upto logged None owners = AreOwnersFrom log_bytes upto (pos 0) no_owners logged owners
-AreOwnersOver snapshot_bytes log_bytes upto logged (Some origin) owners = (stored : Owners) × AreStored snapshot_bytes origin.zxid stored × AreOwnersFrom log_bytes upto origin.zxid stored (logs_from origin.zxid logged) owners
+-- over the snapshot of a zxid, or over the empty tree
+abbrev pub AreOwnersOver : (List ℕ → Option (List ℕ)) → (List ℕ → Option (List ℕ)) → ℤ → List ℤ → Option ℤ → Owners → Type 0
+AreOwnersOver snapshot_bytes log_bytes upto logged None owners = (none : Owners) × ((path : List ℕ) → none path ≡ no_owners path) × AreOwnersFrom log_bytes upto (pos 0) none logged owners
+AreOwnersOver snapshot_bytes log_bytes upto logged (Some zxid) owners = (stored : Owners) × AreStored snapshot_bytes zxid stored × AreOwnersFrom log_bytes upto zxid stored (logs_from zxid logged) owners
+
+-- the snapshot that a state begins at
+abbrev pub base_of : Option Origin → Option ℤ
+base_of None = None
+base_of (Some origin) = Some origin.zxid
 
 -- in a state, up to its last transaction
 pub record AreOwnersIn (snapshot_bytes : List ℕ → Option (List ℕ)) (logs : Option (List (List ℕ))) (log_bytes : List ℕ → Option (List ℕ)) (shown : Shown) (owners : Owners) : Type 0 where
   pub logged : List ℤ
   pub are_logs : AreIn log_zxid logs logged
-  pub are : AreOwnersOver snapshot_bytes log_bytes (unwrap_or shown.restored.position (pos 0)) logged shown.origin owners
+  pub are : AreOwnersOver snapshot_bytes log_bytes (unwrap_or shown.restored.position (pos 0)) logged (base_of shown.origin) owners

@@ -26,7 +26,7 @@ pub record OutputsBytes {O E : Type 0} (written : O → Option (List ℕ)) (told
 pub record IsLong {O E : Type 0} (written : O → Option (List ℕ)) (told : E → Option (List ℕ)) (snapshot : Snapshot) (output output' : Sink O) (faults faults' : Sink E) (result : Result ℕ NoMemory) : Type 0 where
   pub long : ¬ IsContents snapshot.contents
   pub status : result ≡ Ok 1
-  pub output : LeavesSink written output output'
+  pub no_byte : LeavesSink written output output'
   pub line : Told told faults faults' (codes "zk: long\n")
 
 -- or an allocation failed before the first byte

@@ -2,7 +2,7 @@
 ghost use Rattle.std.specs.Prelude.{◌≡◌, IfOk, IfErr};
 ghost use Rattle.std.specs.FinMap as finite;
 ghost use Rattle.zk_directory_state.specs.Logs.{IsUnread, logs_from};
-ghost use Rattle.zk_snapshot_command.specs.DirectoryOwners.{AreOwnersFrom, AreOwnersIn, AreStored};
+ghost use Rattle.zk_snapshot_command.specs.DirectoryOwners.{AreOwnersFrom, AreOwnersIn, AreOwnersOver, AreStored, base_of};
 
 use std::alloc::Global;
 use zk_directory::{FileName, first_log};
@@ -61,6 +61,38 @@ fn logs_from(logged: &[i64], zxid: i64) -> &[i64]
     &logged[first..]
 }
 
+/// The owners over the snapshot of a zxid, or over the empty tree, up to another zxid.
+fn owners_over<S: Folder, L: Folder>(
+    alloc: Global,
+    snapshots: &S,
+    logs: &L,
+    base: Option<i64>,
+    upto: i64,
+    logged: &[i64],
+) -> Result<Owners, HistoryFault>
+    ensures owners { IfOk result (λ owners. AreOwnersOver (S.bytes_in snapshots.now) (L.bytes_in logs.now) upto logged.now base (finite.get owners)) }
+    ensures unread { IfErr result (λ fault. IsUnread fault) }
+{
+    match base {
+        Some(zxid) => {
+            let owners = stored_in(alloc, snapshots, zxid)?;
+            let after = logs_from(logged, zxid);
+            owners_from(alloc, logs, owners, zxid, upto, after)
+        }
+        None => owners_from(alloc, logs, Owners::new(alloc), 0, upto, logged),
+    }
+}
+
+/// The snapshot that a state begins at.
+fn base_of(origin: Option<Origin>) -> Option<i64>
+    ensures { result ≡ base_of origin }
+{
+    match origin {
+        Some(origin) => Some(origin.zxid),
+        None => None,
+    }
+}
+
 /// The owners in the state that a data directory holds: those of the snapshot that the state begins
 /// at, and of the records after it. The files are read again.
 ///
@@ -76,12 +108,6 @@ pub(crate) fn owners_in<S: Folder, L: Folder>(
 {
     let logged = logs_in(alloc, logs)?;
     let upto = shown.restored.position.unwrap_or(0);
-    match shown.origin {
-        Some(Origin { zxid, .. }) => {
-            let owners = stored_in(alloc, snapshots, zxid)?;
-            let after = logs_from(logged.as_slice(), zxid);
-            owners_from(alloc, logs, owners, zxid, upto, after)
-        }
-        None => owners_from(alloc, logs, Owners::new(alloc), 0, upto, logged.as_slice()),
-    }
+    let base = base_of(shown.origin);
+    owners_over(alloc, snapshots, logs, base, upto, logged.as_slice())
 }

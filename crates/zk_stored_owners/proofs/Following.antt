@@ -9,7 +9,7 @@ use Rattle.zk_directory.specs.declared.file.LogFile.{LogFile}
 use Rattle.zk_mend.specs.Digests.{Owners}
 use Rattle.zk_path.specs.declared.memory.NoMemory.{NoMemory}
 use Rattle.zk_replay.proofs.Turning.{at_end, next_is}
-use Rattle.zk_stored_owners.specs.StoredOwners.{AreOwnersAfter, Followed, FollowsLog, FollowsLogs, followed_one, followed_over}
+use Rattle.zk_stored_owners.specs.StoredOwners.{Followed, FollowsLog, FollowsLogs, followed_one, followed_over}
 
 -- ---- records
 

@@ -1,4 +1,4 @@
-use Rattle.std.proofs.Common.{◌≡◌, ◌<◌, ◌≤◌, ◌+◌, ◌++◌, ◌∷◌, [], List, rules, arith, length, map, drop, get_or, sym, ap, ◌∙◌, subst}
+use Rattle.std.proofs.Common.{◌≡◌, ◌<◌, ◌≤◌, ◌+◌, ◌++◌, List, rules, arith, length, map, drop, get_or, sym, ap, ◌∙◌, subst}
 use Rattle.zk_state_snapshot.specs.StateSnapshots.{Placed, placed}
 use Rattle.zk_stored_owners.proofs.Placing.{place_on, places_end}
 use Rattle.zk_stored_owners.specs.StoredOwners.{places_of}

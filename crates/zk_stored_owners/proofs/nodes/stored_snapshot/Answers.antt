@@ -8,7 +8,6 @@ use Rattle.zk_state_snapshot.proofs.Tables.{placed_are}
 use Rattle.zk_state_snapshot.specs.StateSnapshots.{Placed, placed, snapshot_from}
 use Rattle.zk_stored_owners.proofs.Placing.{with_owners}
 use Rattle.zk_stored_owners.specs.StoredOwners.{node_with, placed_with, places_of}
-use Rattle.zk_table.specs.declared.node.Node.{Node}
 use Rattle.zk_stored_owners.proofs.nodes.stored_snapshot.Goals as goal
 
 pub entries_with-requires : goal.entries_with-requires

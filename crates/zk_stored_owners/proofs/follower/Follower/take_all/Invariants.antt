@@ -1,6 +1,6 @@
 use Rattle.std.proofs.Common.{◌≡◌, ℕ, List, drop}
 use Rattle.std.specs.FinMap as finite
-use Rattle.zk_stored_owners.specs.StoredOwners.{Followed, followed_over}
+use Rattle.zk_stored_owners.specs.StoredOwners.{followed_over}
 use Rattle.zk_stored_owners.proofs.follower.Follower.take_all.Given as goal
 
 abbrev pub invariant-loop-entry : goal.invariant-loop-entry
