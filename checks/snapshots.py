@@ -140,7 +140,7 @@ def served(data):
         text = messages.read_text()
     loaded = re.search(r"highest zxid is 0x([0-9a-f]+), digest is (\d+)", text)
     stated = re.search(r"The digest in the snapshot has digest version of 2, with zxid as 0x([0-9a-f]+), and digest value as (\d+)", text)
-    assert "ERROR" not in text, text[-2000:]
+    assert "Digests are not matching" not in text and "digest mismatch" not in text, text[-2000:]
     return int(loaded[1], 16), int(loaded[2]), (int(stated[1], 16), int(stated[2])), sorted(nodes)
 
 

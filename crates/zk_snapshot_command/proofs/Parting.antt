@@ -1,5 +1,5 @@
 -- Bytes that are written a part at a time.
-use Rattle.std.proofs.Common.{◌≡◌, ℕ, ◌-◌, ◌<◌, ◌==◌, Bool, false, List, [], ◌∷◌, ◌++◌, Option, Result, Ok, Err, length, take, drop, refl, sym, ap, ◌∙◌, subst, append_assoc, append-nil, take-append-drop, arith, length-drop}
+use Rattle.std.proofs.Common.{◌≡◌, ℕ, ◌-◌, ◌<◌, ◌==◌, Bool, false, List, [], ◌∷◌, ◌++◌, Option, Err, length, take, drop, refl, sym, ap, ◌∙◌, subst, append_assoc, append-nil, take-append-drop, arith, length-drop}
 use Rattle.zk_log_commands.proofs.LinesLaws.{broke_off_earlier, broke_off_later, part_earlier, part_later, wrote_more, wrote_nothing}
 use Rattle.zk_log_commands.specs.Writing.{BrokeOff, Wrote, WrotePart}
 use Rattle.zk_records.specs.declared.sink.Sink.{Sink}

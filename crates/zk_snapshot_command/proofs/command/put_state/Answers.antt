@@ -1,4 +1,4 @@
-use Rattle.std.proofs.Common.{◌≡◌, ℕ, List, inl, inr, refl, subst, ◌∙◌}
+use Rattle.std.proofs.Common.{ℕ, List, inl, inr, refl, subst, ◌∙◌}
 use Rattle.std.proofs.KnownBytes.{Keeps-refl}
 use Rattle.zk_directory_state.specs.Notices.{OutputsWith}
 use Rattle.zk_records.specs.Sinks.{writer_of}
