@@ -1,7 +1,7 @@
 #!/usr/bin/env python3
 """Tries mutants, which the prover must reject, those of a crate together: the files of `checks/mutants`.
 
-usage: checks/mutants.py                       in a checkout where `rt ci` has left the libraries: tries the mutants of a quarter of the
+usage: checks/mutants.py                       in a checkout where `rt ci` has left the libraries: tries the mutants of an eighth of the
                                                crates, another one at each commit
        checks/mutants.py --all                 tries those of all crates, as before each release
        checks/mutants.py CRATE..               tries those of these crates
@@ -291,18 +291,18 @@ def lanes():
     return max(1, min(len(os.sched_getaffinity(0)), free // NEED))
 
 
-def quarter(crates):
-    """Every fourth crate, from the one that the commit's hash says; without a commit, each."""
+def eighth(crates):
+    """Every eighth crate, from the one that the commit's hash says; without a commit, each."""
     commit = subprocess.run(["git", "rev-parse", "HEAD"], cwd=ROOT, capture_output=True, text=True).stdout.strip()
-    return crates[int(commit, 16) % 4 :: 4] if commit else crates
+    return crates[int(commit, 16) % 8 :: 8] if commit else crates
 
 
 def main(words):
     is_right, crates = "--right" in words, [it for it in words if not it.startswith("--")]
     every = sorted(os.listdir(os.path.join(HERE, "mutants")))
-    is_quarter = not words
+    is_part = not words
     work = []
-    for crate in crates or (quarter(every) if is_quarter else every):
+    for crate in crates or (eighth(every) if is_part else every):
         edits = [Edit(crate, it) for it in sorted(os.listdir(os.path.join(HERE, "mutants", crate)))]
         work.append((crate, edits))
     # (first: a mutant whose old text has moved would stop the run only after the trials of other crates)
@@ -318,7 +318,7 @@ def main(words):
             print("\n".join(told), flush=True)
             missed += of
     if not is_right:
-        which = " of a quarter of the crates: --all tries those of all" if is_quarter else ""
+        which = " of an eighth of the crates: --all tries those of all" if is_part else ""
         print("%d edits refused, %d not%s" % (sum(len(it) for _, it in work) - missed, missed, which))
     return 1 if missed else 0
 

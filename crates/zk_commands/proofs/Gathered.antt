@@ -22,7 +22,7 @@ use Rattle.zk_directory.specs.declared.file.FileEntry.{FileEntry}
 use Rattle.zk_directory.specs.declared.file.LogFile.{LogFile}
 use Rattle.zk_directory.specs.declared.file.LogFileFault.{LogFileFault}
 use Rattle.zk_newer_records.specs.declared.newer_record.NewerRecord.{NewerRecord}
-use Rattle.zk_directory_state.proofs.Files.{all_behind, entries_behind, file_behind, files_on, no_bytes, no_files, taken_more, then_files}
+use Rattle.zk_directory_state.proofs.TakenFiles.{all_behind, entries_behind, file_behind, files_on, no_bytes, no_files, taken_more, then_files}
 use Rattle.zk_directory_state.proofs.Joined.{breaks_at, broken, none_left, read_step, skips_one, takes_one}
 use Rattle.zk_directory_state.specs.Directories.{AreLogFiles, read_files}
 use Rattle.zk_directory_state.specs.Joins.{Reading, TakesEntry, decided, decision, end_of, ended_by, is_wanted, read_end, read_entries, read_file, told_of}

@@ -1,7 +1,7 @@
 pub mod Lines
 pub mod Told
 pub mod Tallying
-pub mod Files
+pub mod TakenFiles
 pub mod Joined
 pub mod Leading
 pub mod Searching

@@ -14,7 +14,7 @@ use Rattle.zk_directory_state.specs.Restorations.{first_draft}
 use Rattle.zk_directory.specs.LogFiles.{IsLogFile}
 use Rattle.zk_directory.specs.declared.file.FileEntry.{FileEntry}
 use Rattle.zk_directory.specs.declared.file.LogFile.{LogFile}
-use Rattle.zk_directory_state.proofs.Files.{no_bytes, taken_more}
+use Rattle.zk_directory_state.proofs.TakenFiles.{no_bytes, taken_more}
 use Rattle.zk_directory_state.specs.Directories.{AreLogFiles}
 use Rattle.zk_directory_state.specs.Windows.{IsWindowEnd, Searched, SearchesLog, search_entries, search_entry, search_files, start_search}
 use Rattle.zk_snapshot.specs.declared.snapshot.Contents.{Contents}

@@ -7,7 +7,7 @@ use Rattle.zk_replay.proofs.Turning.{at_end}
 use Rattle.zk_directory.specs.LogFiles.{IsLogFile}
 use Rattle.zk_directory.specs.declared.file.FileEntry.{FileEntry}
 use Rattle.zk_directory.specs.declared.file.LogFile.{LogFile}
-use Rattle.zk_directory_state.proofs.Files.{no_bytes}
+use Rattle.zk_directory_state.proofs.TakenFiles.{no_bytes}
 use Rattle.zk_directory_state.specs.Evidence.{IsStart, IsStartBy}
 use Rattle.zk_directory_state.specs.declared.evidence.Start.{Start}
 

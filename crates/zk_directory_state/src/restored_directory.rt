@@ -87,7 +87,7 @@ fn read_log<'a>(
 }
 
 /// Reads the logs in order, until all that was asked for was taken.
-#[tactic(auto, using(crate::proofs::Files::none_read))]
+#[tactic(auto, using(crate::proofs::TakenFiles::none_read))]
 fn read_logs<'a>(
     alloc: Global,
     start: Restore<'a>,

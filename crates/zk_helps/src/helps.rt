@@ -212,7 +212,7 @@ pub(crate) const RESTORE: OrderHelp = OrderHelp {
 const COMPARE: OrderHelp = OrderHelp {
     name: "compare",
     title: "zk compare",
-    about: "Prints what the logs of two servers have in common, and where they differ",
+    about: "Prints what two servers have in common, and where their logs and trees differ",
     notes: COMPARE_NOTES,
     values: &[
         DIR,

@@ -112,8 +112,9 @@ Errors, on standard error after `zk: `, are those of `zk list` of a directory. W
 pub(crate) const COMPARE_NOTES: &str =
     r#"Transactions are compared by zxid, between the first zxid and the last one that both directories have. Two
 records of one transaction may have other digests, a failed multi may have kept its requests, and the end of
-a session may list its nodes: all else must be the same, byte for byte. The status is 1 if a transaction
-differs, or if both have none in common.
+a session may list its nodes: all else must be the same, byte for byte. Then the trees are compared that
+`zk show` prints of both, after the last transaction of that range. The status is 1 if a transaction or a
+node differs, or if both have no transaction in common.
   before first N FROM TO TIME TIME  DIR has N transactions more, and DIR2 begins after them; `second`: DIR2 has
   same N FROM TO TIME TIME          both have these
   lost N                            one has N transactions where the other lost some
@@ -121,11 +122,16 @@ differs, or if both have none in common.
                                     the session and the path, or `- - - -`; of a thousand differences
   differences N                     their number
   after first N FROM TO TIME TIME   DIR has N transactions more, and DIR2 ends before them; `second`: DIR2 has
+  node first PATH                   the trees differ: DIR alone has the node; `second`: DIR2 alone; `both`: its
+                                    data, ACL or stat differ; of a thousand nodes
+  tree ZXID N                       their number, after this transaction
 If A and B are alike, contents differ: see `zk list` of both. With --json a line is an object of JSON.
 
 Lines on standard error say what the answer does not cover:
   zk: lost first FROM NEXT TIME TIME  DIR lost transactions between these two; `second`: DIR2
   zk: broken first G2 FILE AT         a log is broken from here on; also G1 to G6
+  zk: tree first D2 ZXID              DIR's files prove no tree after that transaction, and no trees are compared
+The notices of `zk show` on the two trees follow.
 
 Errors, on standard error after `zk: `, are D1, D4 and D8 of a directory, and `read`."#;
 

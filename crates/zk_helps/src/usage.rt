@@ -43,22 +43,46 @@ impl fmt::Display for Refusal {
 /// The usage names the program `zk`, not the first word.
 pub fn refusal_of<'a>(alloc: Global, words: &'a [&'a str]) -> Result<Refusal, AllocError> {
     let error = match refused_by_clap(alloc, words)? {
-        Some(error) if names_any(words, &FORMS) => form_fault(alloc, error)?,
-        Some(error) => error,
-        None if names(words, "--explain") => explain_fault(alloc)?,
-        None if words.get(1) == Some(&"list") => form_conflict(alloc)?,
-        None if words.get(1) == Some(&"mend") => mend_fault(alloc)?,
-        None if words.get(1) == Some(&"serve") => serve_fault(alloc)?,
-        None if words.get(1) == Some(&"ensemble") => ensemble_fault(alloc)?,
-        None if words.get(1) == Some(&"top") => top_fault(alloc, words)?,
-        None if words.get(1) == Some(&"history") => path_fault(alloc)?,
-        None if words.get(1) == Some(&"diff") => diff_fault(alloc)?,
-        None if words.get(1) == Some(&"restore") => restore_fault(alloc)?,
-        None if words.get(1) == Some(&"debug") => debug_fault(alloc, words)?,
-        // Of the other words that clap accepts, only a ZXID is an error.
-        None => zxid_fault(alloc, &SHOW)?,
+        Some(error) => refused_fault(alloc, words, error)?,
+        None => accepted_fault(alloc, words)?,
     };
     refusal_by(alloc, &error)
+}
+
+/// What an error of `clap` means for these words.
+fn refused_fault(alloc: Global, words: &[&str], error: Error) -> Result<Error, AllocError> {
+    if names_any(words, &FORMS) {
+        return form_fault(alloc, error);
+    }
+    Ok(error)
+}
+
+/// The usage error of words that `clap` accepts.
+fn accepted_fault(alloc: Global, words: &[&str]) -> Result<Error, AllocError> {
+    if names(words, "--explain") {
+        return explain_fault(alloc);
+    }
+    match words.get(1) {
+        Some(order) => order_fault(alloc, words, order),
+        None => zxid_fault(alloc, &SHOW),
+    }
+}
+
+/// The usage error of a command that `clap` accepts.
+fn order_fault(alloc: Global, words: &[&str], order: &str) -> Result<Error, AllocError> {
+    match order {
+        "list" => form_conflict(alloc),
+        "mend" => mend_fault(alloc),
+        "serve" => serve_fault(alloc),
+        "ensemble" => ensemble_fault(alloc),
+        "top" => top_fault(alloc, words),
+        "history" => path_fault(alloc),
+        "diff" => diff_fault(alloc),
+        "restore" => restore_fault(alloc),
+        "debug" => debug_fault(alloc, words),
+        // Of the other words that clap accepts, only a ZXID is an error.
+        _ => zxid_fault(alloc, &SHOW),
+    }
 }
 
 /// The error, help or version of `clap`.

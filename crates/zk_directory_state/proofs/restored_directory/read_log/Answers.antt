@@ -1,6 +1,6 @@
 use Rattle.std.proofs.Common.{rules, Err, sym, subst}
 use Rattle.std.proofs.lemmas.Result.{err_from_is_err_and}
-use Rattle.zk_directory_state.proofs.Files.{log_fails}
+use Rattle.zk_directory_state.proofs.TakenFiles.{log_fails}
 use Rattle.zk_directory_state.specs.Directories.{ReadsLog}
 use Rattle.zk_directory_state.proofs.restored_directory.read_log.Goals as goal
 

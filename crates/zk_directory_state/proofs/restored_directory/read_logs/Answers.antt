@@ -1,6 +1,6 @@
 use Rattle.std.proofs.Common.{◌≡◌, ◌+◌, Bool, false, rules, ap, subst}
 use Rattle.std.specs.Prelude.{not}
-use Rattle.zk_directory_state.proofs.Files.{last_read, next_broken, next_read}
+use Rattle.zk_directory_state.proofs.TakenFiles.{last_read, next_broken, next_read}
 use Rattle.zk_directory_state.specs.Directories.{AreRead}
 use Rattle.zk_directory_state.proofs.restored_directory.read_logs.Goals as goal
 
