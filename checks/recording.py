@@ -12,7 +12,7 @@ from pathlib import Path
 from random import Random
 from tempfile import TemporaryDirectory
 
-from lib import PATIENCE, PROGRAM, Ensemble, KazooClient, client, until
+from lib import PATIENCE, PROGRAM, Ensemble, KazooClient, client, nodes_in, run_of, tree_lines, until
 
 from kazoo.exceptions import KazooException, NodeExistsError
 from kazoo.protocol.serialization import Create
@@ -43,65 +43,7 @@ def tried(act):
             time.sleep(0.1)
 
 
-# ---- texts of reports, from what a client reads
-
-
-def quoted(text: str) -> str:
-    def escaped(character: str) -> str:
-        if character in '"\\':
-            return "\\" + character
-        if ord(character) < 32 or ord(character) == 127:
-            return f"\\u{{{ord(character):x}}}"
-        return character
-
-    return '"' + "".join(map(escaped, text)) + '"'
-
-
-def node_line(path: str, content: bytes, acls, stat) -> str:
-    acl = "".join(f" {it.perms} {quoted(it.id.scheme)} {quoted(it.id.id)}" for it in acls)
-    digits = [f"{number & (2**64 - 1):016x}" for number in (stat.czxid, stat.mzxid, stat.ephemeralOwner, stat.pzxid)]
-    return (
-        f"{quoted(path)} x{content.hex()} {len(acls)}{acl} {digits[0]} {digits[1]} {stat.ctime} {stat.mtime} {stat.version}"
-        f" {stat.cversion} {stat.aversion} {digits[2]} {stat.dataLength} {stat.numChildren} {digits[3]}"
-    )
-
-
-def tree_lines(zk, path: str = "/") -> list[str]:
-    """The nodes below a path, and its own, as a tree report has them."""
-    content, stat = zk.get(path)
-    lines = [node_line(path, content, zk.get_acls(path)[0], stat)]
-    for name in zk.get_children(path):
-        lines += tree_lines(zk, path.rstrip("/") + "/" + name)
-    return lines
-
-
-# ---- the run of a record
-
-
-def run_of(record: Path, servers: int, *reports: str) -> dict[str, list[str]]:
-    """The reports `WORD P` at the end of the run of a record, which has no malformed line."""
-    asked = [f"{report} {server}" for server in range(1, servers + 1) for report in reports]
-    text = record.read_text(encoding="utf-8")
-    assert text.startswith(f"servers {servers}\n") and text.endswith("\n"), text[:100]
-    done = subprocess.run([PROGRAM, "run", "@"], input=text + "\n".join(asked) + "\n", capture_output=True, text=True)
-    assert (done.returncode, done.stderr) == (0, ""), (done.returncode, done.stderr)
-    replies = done.stdout.split("\n")
-    events = text.count("\n")
-    refused = [reply for reply in replies[:events] if reply.startswith("E")]
-    # E6: the server served no client then, and rejected the request
-    assert set(refused) <= {"E6"}, refused[:5]
-    told = {}
-    at = events
-    for report in asked:
-        word, count = replies[at].split()
-        assert word == "lines", replies[at]
-        told[report] = replies[at + 1 : at + 1 + int(count)]
-        at += 1 + int(count)
-    return told
-
-
-def nodes_in(lines: list[str]) -> list[str]:
-    return [line for line in lines if line.startswith('"') and not line.startswith('"/zookeeper')]
+# ---- trees
 
 
 def same_trees(it: Ensemble, record: Path):

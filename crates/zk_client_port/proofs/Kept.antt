@@ -5,10 +5,11 @@ use Rattle.zk_client_port.specs.declared.admission.Admission.{Admission}
 use Rattle.zk_client_port.specs.declared.expected.Expected.{Expected}
 use Rattle.zk_client_port.specs.declared.expected.Expected.TheVariants.{Opened, Attached, Replied, Read, Known, Closed}
 use Rattle.zk_client_port.specs.declared.expected.Opening.{Opening}
-use Rattle.zk_connections.specs.Connections.{with_event_in, with_reply_in, with_immediate_in}
+use Rattle.zk_connections.specs.Connections.{may_open, with_event_in, with_reply_in, with_immediate_in, with_session}
 use Rattle.zk_connections.specs.declared.connection.Connection.{Connection}
 use Rattle.zk_connections.specs.declared.connection.Phase.{Phase}
 use Rattle.zk_connections.specs.declared.connection.Phase.TheVariants.{New, Connecting, Connected}
+use Rattle.zk_frames.specs.declared.reply.ConnectResponse.{ConnectResponse}
 use Rattle.zk_hub.specs.declared.outcome.Outcome.{Outcome}
 use Rattle.zk_hub.specs.declared.outcome.Outcome.TheVariants as outcomes
 use Rattle.zk_client_session.specs.declared.ask.Immediate.{Immediate}
@@ -38,8 +39,11 @@ immediate_keeps New last immediate it = refl
 immediate_keeps Connecting last immediate it = refl
 immediate_keeps (Connected link) last immediate it = refl
 
+session_keeps : (response : ConnectResponse) (seen : ℤ) (it : Connection) → own (with_session response seen it) ≡ own it
+session_keeps response seen it = either (may_open it) _ it it refl refl
+
 opened_keeps : (admission : Admission) (opening : Opening) (outcome : Outcome) (it : Connection) → own (with_opened admission opening outcome it) ≡ own it
-opened_keeps admission opening (outcomes.Wrote result) it = either _ _ _ it refl refl
+opened_keeps admission opening (outcomes.Wrote result) it = either _ _ _ it (session_keeps _ opening.seen it) refl
 opened_keeps admission opening outcomes.Synced it = refl
 opened_keeps admission opening outcomes.Known it = refl
 
@@ -50,7 +54,7 @@ replied_keeps last expected time outcomes.Known it = refl
 
 pub outcome_keeps : (admission : Admission) (last : ℤ) (expected : Expected) (outcome : Outcome) (it : Connection) → own (with_outcome admission last expected outcome it) ≡ own it
 outcome_keeps admission last (Opened opening) outcome it = opened_keeps admission opening outcome it
-outcome_keeps admission last (Attached session opening) outcome it = either _ _ _ it refl refl
+outcome_keeps admission last (Attached session opening) outcome it = either _ _ _ it (session_keeps _ opening.seen it) refl
 outcome_keeps admission last (Replied expected time) outcome it = replied_keeps last expected time outcome it
 outcome_keeps admission last (Read ask expected) outcome it = refl
 outcome_keeps admission last (Known immediate) outcome it = immediate_keeps it.phase last immediate it

@@ -8,10 +8,11 @@ use Rattle.zk_client_port.specs.declared.admission.Admission.{Admission}
 use Rattle.zk_client_port.specs.declared.expected.Expected.{Expected}
 use Rattle.zk_client_port.specs.declared.expected.Expected.TheVariants.{Opened, Attached, Replied, Read, Known, Closed}
 use Rattle.zk_client_port.specs.declared.expected.Opening.{Opening}
-use Rattle.zk_connections.specs.Connections.{with_event, with_event_in, with_reply_in, with_immediate_in}
+use Rattle.zk_connections.specs.Connections.{may_open, with_event, with_event_in, with_reply_in, with_immediate_in, with_session}
 use Rattle.zk_connections.specs.declared.connection.Connection.{Connection}
 use Rattle.zk_connections.specs.declared.connection.Phase.{Phase}
 use Rattle.zk_connections.specs.declared.connection.Phase.TheVariants.{New, Connecting, Connected}
+use Rattle.zk_frames.specs.declared.reply.ConnectResponse.{ConnectResponse}
 use Rattle.zk_hub.specs.declared.outcome.Outcome.{Outcome}
 use Rattle.zk_hub.specs.declared.outcome.Outcome.TheVariants as outcomes
 use Rattle.zk_hub.specs.declared.news.Output.{Output}
@@ -42,8 +43,11 @@ immediate_in New last immediate it = refl
 immediate_in Connecting last immediate it = refl
 immediate_in (Connected link) last immediate it = refl
 
+in_session : (response : ConnectResponse) (seen : ℤ) (it : Connection) → (with_session response seen it).number ≡ it.number
+in_session response seen it = either (may_open it) _ it _ refl refl
+
 opened : (admission : Admission) (opening : Opening) (outcome : Outcome) (it : Connection) → (with_opened admission opening outcome it).number ≡ it.number
-opened admission opening (outcomes.Wrote result) it = either _ _ _ _ refl refl
+opened admission opening (outcomes.Wrote result) it = either _ _ _ _ (in_session _ opening.seen it) refl
 opened admission opening outcomes.Synced it = refl
 opened admission opening outcomes.Known it = refl
 
@@ -54,7 +58,7 @@ replied last expected time outcomes.Known it = refl
 
 outcome_in : (admission : Admission) (last : ℤ) (expected : Expected) (outcome : Outcome) (it : Connection) → (with_outcome admission last expected outcome it).number ≡ it.number
 outcome_in admission last (Opened opening) outcome it = opened admission opening outcome it
-outcome_in admission last (Attached session opening) outcome it = either _ _ _ _ refl refl
+outcome_in admission last (Attached session opening) outcome it = either _ _ _ _ (in_session _ opening.seen it) refl
 outcome_in admission last (Replied expected time) outcome it = replied last expected time outcome it
 outcome_in admission last (Read ask expected) outcome it = refl
 outcome_in admission last (Known immediate) outcome it = immediate_in it.phase last immediate it

@@ -1,7 +1,6 @@
 -- What a server's outputs write to its connections, in order. ZooKeeper Programmer's Guide,
 -- "ZooKeeper Watches" and "Consistency Guarantees".
-use Rattle.std.specs.Prelude.{ℕ, ℤ, ◌==◌, Bool, List, [], ◌∷◌, ◌++◌, Option, Some, None, if◌then◌else◌}
-use Rattle.std.specs.List.{list_any}
+use Rattle.std.specs.Prelude.{ℕ, ℤ, ◌==◌, Bool, List, [], ◌∷◌, ◌++◌, find, Option, Some, None, if◌then◌else◌}
 use Rattle.zk_client_port.specs.Results.{with_outcome, gained_by}
 use Rattle.zk_client_port.specs.declared.admission.Admission.{Admission}
 use Rattle.zk_client_port.specs.declared.expected.Expected.{Expected}
@@ -27,9 +26,12 @@ abbrev pub after_output : Admission → ℤ → Output Fired Expected Outcome �
 after_output admission last (Event connection event) its = with_first (is_numbered connection) (with_event event.kind event.path) its
 after_output admission last (Reply connection expected outcome) its = with_first (is_numbered connection) (with_outcome admission last expected outcome) its
 
+abbrev pub gained_if : Admission → Expected → Outcome → Option Connection → Option Attachment
+gained_if admission expected outcome None = None
+gained_if admission expected outcome (Some it) = gained_by admission it expected outcome
+
 abbrev pub gained_at : ℕ → Admission → Expected → Outcome → List Connection → Option Attachment
-gained_at connection admission expected outcome its =
-    if list_any (is_numbered connection) its then gained_by admission connection expected outcome else None
+gained_at connection admission expected outcome its = gained_if admission expected outcome (find (is_numbered connection) its)
 
 abbrev pub one_or_none : Option Attachment → List Attachment
 one_or_none None = []

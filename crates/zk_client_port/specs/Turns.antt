@@ -130,8 +130,8 @@ left_by_syncs released requests = left_after (map synced released.host.state.cau
 
 -- The events and results of the newly delivered entries are written, and then those of syncs. A reply
 -- among the first comes before later events of them: its header is no later than what was written
--- before, or than its own transaction. So a client that breaks off after it has seen no transaction
--- whose events it lacks.
+-- before, a header before it, or its own transaction. So a client that breaks off after it has seen
+-- no transaction whose events it lacks.
 abbrev pub after_release : {S : Type 0} → ℤ → ReplicaHost S → ReplicaHost S → List (Outstanding Expected Outcome) → Clients → Clients
 after_release now old released requests it =
     written released.tree.tree.last now (outputs_of (map synced released.host.state.caught) (left_by_release old released requests))

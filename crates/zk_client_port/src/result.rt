@@ -1,6 +1,6 @@
 ghost use Rattle.std.specs.Prelude.{◌≡◌, OnOk, IfOk};
-ghost use Rattle.zk_client_port.specs.Results.{response_to, attachment, with_opened, opened_by, with_attached, attached_by, with_replied, with_outcome, gained_by};
-ghost use Rattle.zk_connections.specs.Connections.{with_session};
+ghost use Rattle.zk_client_port.specs.Results.{response_to, attachment, attachment_if, with_opened, opened_by, with_attached, attached_by, with_replied, with_outcome, gained_by};
+ghost use Rattle.zk_connections.specs.Connections.{may_open, with_session};
 
 use crate::admission::Admission;
 use crate::expected::{Expected, Opening};
@@ -32,24 +32,28 @@ fn response_to(secret: &[u8; PASSWORD_BYTES], session: i64, opening: &Opening) -
     }
 }
 
-/// Gives a session to a connection.
+/// Gives a session to a connection, if it may get one.
 fn attach(
     alloc: Global,
     secret: &[u8; PASSWORD_BYTES],
     connection: &mut Connection,
     session: i64,
     opening: &Opening,
-) -> Result<Attachment, NoMemory>
+) -> Result<Option<Attachment>, NoMemory>
     ensures connection { OnOk result (connection.new ≡ with_session (response_to secret.now session opening.now) opening.now.seen connection.old) }
-    ensures attachment { IfOk result (λ it. it ≡ attachment session connection.old.number opening.now) }
+    ensures attachment { IfOk result (λ it. it ≡ attachment_if (may_open connection.old) (attachment session connection.old.number opening.now)) }
 {
+    if !connection.may_open() {
+        return Ok(None);
+    }
+    let number = connection.number();
     let response = response_to(secret, session, opening);
     connection.open_session(alloc, &response, opening.seen)?;
-    Ok(Attachment {
+    Ok(Some(Attachment {
         session,
-        connection: connection.number(),
+        connection: number,
         timeout: response.timeout,
-    })
+    }))
 }
 
 /// Writes the connect response of a new session.
@@ -61,13 +65,12 @@ fn write_opened(
     outcome: Outcome,
 ) -> Result<Option<Attachment>, NoMemory>
     ensures connection { OnOk result (connection.new ≡ with_opened admission.now opening.now outcome connection.old) }
-    ensures gained { IfOk result (λ it. it ≡ opened_by connection.old.number opening.now outcome) }
+    ensures gained { IfOk result (λ it. it ≡ opened_by connection.old opening.now outcome) }
 {
     if let Outcome::Wrote(result) = outcome
         && result.err == 0
     {
-        let attachment = attach(alloc, &admission.secret, connection, result.zxid, opening)?;
-        return Ok(Some(attachment));
+        return attach(alloc, &admission.secret, connection, result.zxid, opening);
     }
     connection.cut_off();
     Ok(None)
@@ -82,14 +85,13 @@ fn write_attached(
     opening: &Opening,
 ) -> Result<Option<Attachment>, NoMemory>
     ensures connection { OnOk result (connection.new ≡ with_attached admission.now session opening.now connection.old) }
-    ensures gained { IfOk result (λ it. it ≡ attached_by admission.now session connection.old.number opening.now) }
+    ensures gained { IfOk result (λ it. it ≡ attached_by admission.now session connection.old opening.now) }
 {
     if !admission.is_open(session) {
         connection.reject_session(alloc, opening.read_only)?;
         return Ok(None);
     }
-    let attachment = attach(alloc, &admission.secret, connection, session, opening)?;
-    Ok(Some(attachment))
+    attach(alloc, &admission.secret, connection, session, opening)
 }
 
 /// Writes the reply to a write or a sync.
@@ -125,7 +127,7 @@ pub fn write_outcome(
     outcome: Outcome,
 ) -> Result<Option<Attachment>, FrameFault>
     ensures connection { OnOk result (connection.new ≡ with_outcome admission.now last expected outcome connection.old) }
-    ensures gained { IfOk result (λ it. it ≡ gained_by admission.now connection.old.number expected outcome) }
+    ensures gained { IfOk result (λ it. it ≡ gained_by admission.now connection.old expected outcome) }
 {
     match expected {
         Expected::Opened(opening) => {

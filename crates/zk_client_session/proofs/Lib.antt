@@ -1,2 +1,2 @@
-mod Continuing
+pub mod Continuing
 mod Numbers

@@ -214,12 +214,17 @@ abbrev pub is_begun : ReplyKind → Bool
 is_begun kinds.WatchesBegun = true
 is_begun other = false
 
-abbrev pub reply_frame : ExpectedReply → Reply → List ℕ
-reply_frame expected reply = if is_begun expected.kind then [] else framed (reply_of (reply_to expected reply))
+-- A header names the greatest transaction that the client has seen: it is at least the reply's own,
+-- and never falls. A client remembers the last header's, and shows it to its next server.
+abbrev pub headed : Link → ClientReply → ClientReply
+headed link reply = record reply { zxid = link.seen }
 
--- events come before the reply that they came with
-abbrev pub bytes_of : ExpectedReply → Reply → List ℕ
-bytes_of expected reply = events_bytes (events_in reply) ++ reply_frame expected reply
+abbrev pub reply_frame : Link → ExpectedReply → Reply → List ℕ
+reply_frame link expected reply = if is_begun expected.kind then [] else framed (reply_of (headed link (reply_to expected reply)))
+
+-- events come before the reply that they came with, to a client that has seen what its server has
+abbrev pub bytes_of : Link → ExpectedReply → Reply → List ℕ
+bytes_of link expected reply = events_bytes (events_in reply) ++ reply_frame link expected reply
 
 -- the state after a reply
 abbrev pub after_reply : Link → Reply → Link

@@ -331,8 +331,10 @@ impl Link {
         write_reply(out, &reply)
     }
 
-    /// Appends the reply that the service's reply gives, after the events that come with it. After
-    /// an error, part of the frames may have been appended, and the connection is lost.
+    /// Appends the reply that the service's reply gives, after the events that come with it. The
+    /// header names the greatest transaction that the client has seen with this reply: headers
+    /// never fall. After an error, part of the frames may have been appended, and the connection is
+    /// lost.
     pub fn tell(
         &mut self,
         alloc: Global,
@@ -341,11 +343,30 @@ impl Link {
         reply: Reply,
     ) -> Result<(), FrameFault>
         ensures link { self.new ≡ after_reply self.old reply }
-        ensures bytes { OnOk result (out.new.items ≡ out.old.items ++ bytes_of expected reply) }
+        ensures bytes { OnOk result (out.new.items ≡ out.old.items ++ bytes_of (after_reply self.old reply) expected reply) }
     {
         self.see(reply.zxid());
         push_events(alloc, out, &reply)?;
-        push_reply(alloc, out, expected, reply)
+        self.push_reply(alloc, out, expected, reply)
+    }
+
+    /// Appends the reply, unless a later part of the request has it. Its header has what the client
+    /// has seen.
+    fn push_reply(
+        &self,
+        alloc: Global,
+        out: &mut Vec<u8>,
+        expected: ExpectedReply,
+        reply: Reply,
+    ) -> Result<(), FrameFault>
+        ensures { OnOk result (out.new.items ≡ out.old.items ++ reply_frame self.now expected reply) }
+    {
+        if expected.is_begun() {
+            return Ok(());
+        }
+        let mut reply = reply_to(alloc, expected, reply)?;
+        reply.zxid = self.seen;
+        write_reply(out, &reply)
     }
 
     /// Appends a watch event. After an error, part of the frame may have been appended, and the
@@ -370,22 +391,6 @@ impl Link {
             self.seen = zxid;
         }
     }
-}
-
-/// Appends the reply, unless a later part of the request has it.
-fn push_reply(
-    alloc: Global,
-    out: &mut Vec<u8>,
-    expected: ExpectedReply,
-    reply: Reply,
-) -> Result<(), FrameFault>
-    ensures { OnOk result (out.new.items ≡ out.old.items ++ reply_frame expected reply) }
-{
-    if expected.is_begun() {
-        return Ok(());
-    }
-    let reply = reply_to(alloc, expected, reply)?;
-    write_reply(out, &reply)
 }
 
 fn asks(ask: Ask, xid: i32, kind: ReplyKind) -> Action

@@ -2,7 +2,8 @@
 
 use std::alloc::Global;
 use std::net::{Ipv4Addr, SocketAddr};
-use zk_client_session::{Action, Immediate};
+use zk_acl::Text;
+use zk_client_session::{Action, ExpectedReply, Immediate, Reply, ReplyKind};
 use zk_connections::{
     Connection, Mode, OwnedNodes, Status, Taken, Word, connections_text, sessions_text, text_of,
 };
@@ -25,6 +26,10 @@ const PASSWORD: [u8; 16] = [
 const AUTH: &[u8] = b"\0\0\0\x1d\xff\xff\xff\xfc\0\0\0\x64\0\0\0\0\0\0\0\x06digest\0\0\0\x03u:p";
 
 const AUTHENTICATED: &[u8] = b"\0\0\0\x10\xff\xff\xff\xfc\0\0\0\0\0\0\0\0\0\0\0\0";
+
+/// The replies to two syncs of `/`, both at transaction 9.
+const SYNCED: &[u8] = b"\0\0\0\x15\0\0\0\x01\0\0\0\0\0\0\0\x09\0\0\0\0\0\0\0\x01/\
+      \0\0\0\x15\0\0\0\x02\0\0\0\0\0\0\0\x09\0\0\0\0\0\0\0\x01/";
 
 /// A connection that has kazoo's session.
 fn connected(alloc: Global) -> Option<Connection> {
@@ -75,6 +80,44 @@ fn a_frame_is_taken_once_it_is_whole(rt: HostRuntime) {
     assert!(rt; immediate == Immediate::Authenticated { xid: -4 });
     assert!(rt; connection.write_immediate(rt.alloc(), 9, immediate).is_ok());
     assert!(rt; connection.unsent() == AUTHENTICATED);
+}
+
+/// The reply to a sync of `/`, which has this number.
+fn synced(alloc: Global, connection: &mut Connection, xid: i32, zxid: i64) -> bool {
+    let Ok(path) = Text::read(alloc, "/") else {
+        return false;
+    };
+    let expected = ExpectedReply {
+        xid,
+        kind: ReplyKind::Synced(path),
+    };
+    connection
+        .write_reply(alloc, expected, Reply::CaughtUp { zxid })
+        .is_ok()
+}
+
+/// The second reply comes of what its server knew earlier; a client remembers the last header.
+#[test]
+fn headers_never_fall(rt: HostRuntime) {
+    let Some(mut connection) = connected(rt.alloc()) else {
+        panic!(rt; "no session");
+    };
+    connection.sent(CONNECTED.len());
+    assert!(rt; synced(rt.alloc(), &mut connection, 1, 9));
+    assert!(rt; synced(rt.alloc(), &mut connection, 2, 8));
+    assert!(rt; connection.unsent() == SYNCED);
+}
+
+#[test]
+fn a_connection_that_is_cut_off_is_written_nothing(rt: HostRuntime) {
+    let Some(mut connection) = connected(rt.alloc()) else {
+        panic!(rt; "no session");
+    };
+    assert!(rt; !connection.may_open());
+    connection.cut_off();
+    assert!(rt; synced(rt.alloc(), &mut connection, 1, 9));
+    assert!(rt; connection.unsent().is_empty());
+    assert!(rt; connection.is_over());
 }
 
 #[test]

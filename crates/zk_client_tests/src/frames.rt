@@ -33,6 +33,12 @@ pub const CREATE: &[u8] =
 /// The reply has the path.
 pub const CREATED: &[u8] = b"\0\0\0\x16\0\0\0\x01\0\0\0\x01\0\0\0\x02\0\0\0\0\0\0\0\x02/a";
 
+/// It waits until its server has caught up, at once after the create.
+pub const SYNC: &[u8] = b"\0\0\0\x0e\0\0\0\x02\0\0\0\x09\0\0\0\x02/a";
+
+/// The reply's header has the zxid of the create, whose reply stands before it.
+pub const SYNCED: &[u8] = b"\0\0\0\x16\0\0\0\x02\0\0\0\x01\0\0\0\x02\0\0\0\0\0\0\0\x02/a";
+
 /// It reads the stat of `/a` with a watch, writes, and reads, all at once.
 pub const LOOK_AND_SET: &[u8] =
     b"\0\0\0\x0f\0\0\0\x02\0\0\0\x03\0\0\0\x02/a\x01\0\0\0\x19\0\0\0\x03\0\0\0\x05\0\0\0\x02/a\

@@ -120,13 +120,32 @@ pub fn connect(pair: &mut Pair) -> bool {
     pair.port.connections.push(connection).is_ok()
 }
 
-/// A connection's client sends bytes, and all is done.
-pub fn sends(pair: &mut Pair, index: usize, bytes: &[u8]) -> bool {
-    let heard = match pair.port.connections.get_mut(index) {
+/// A connection's client sends bytes.
+pub fn hears(pair: &mut Pair, index: usize, bytes: &[u8]) -> bool {
+    match pair.port.connections.get_mut(index) {
         Some(connection) => connection.hear(bytes).is_ok(),
         None => false,
-    };
-    heard && settle(pair)
+    }
+}
+
+/// A connection's client sends bytes, and all is done.
+pub fn sends(pair: &mut Pair, index: usize, bytes: &[u8]) -> bool {
+    hears(pair, index, bytes) && settle(pair)
+}
+
+/// Rounds until bytes wait to be sent to a connection's client.
+pub fn settle_until_written(pair: &mut Pair, index: usize) -> bool {
+    for _ in 0..12 {
+        match pair.port.connections.get(index) {
+            Some(connection) if connection.unsent().is_empty() => {}
+            Some(_) => return true,
+            None => return false,
+        }
+        if !round(pair) {
+            return false;
+        }
+    }
+    false
 }
 
 /// Whether a connection's client is sent these bytes alone.

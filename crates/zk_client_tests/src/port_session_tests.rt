@@ -2,9 +2,11 @@
 
 use crate::frames::{
     CLOSE, CLOSED, CONNECT, CONNECTED, CREATE, CREATED, IMPOSTOR, LOOK_AND_SET, LOOKED_AND_SET,
-    PING, PINGED, RECONNECT, REJECTED,
+    PING, PINGED, RECONNECT, REJECTED, SYNC, SYNCED,
 };
-use crate::pairs::{Pair, connect, is_sent, sends, start};
+use crate::pairs::{
+    Pair, connect, hears, is_sent, sends, settle, settle_until_written, start, turn,
+};
 use zk_client_port::{ClientPort, Selection};
 use zk_connections::Connection;
 
@@ -65,6 +67,85 @@ fn a_client_has_a_session(rt: HostRuntime) {
     assert!(rt; writes(&mut pair));
     assert!(rt; moves(&mut pair));
     assert!(rt; closes(&mut pair));
+}
+
+/// Whether a client that sends a create and a sync at once gets both replies with one zxid.
+fn syncs(pair: &mut Pair) -> bool {
+    hears(pair, 0, CREATE)
+        && hears(pair, 0, SYNC)
+        && settle(pair)
+        && is_sent_both(pair, 0, CREATED, SYNCED)
+}
+
+/// Whether a connection's client is sent these bytes, and then those.
+fn is_sent_both(pair: &mut Pair, index: usize, first: &[u8], then: &[u8]) -> bool {
+    let Some(connection) = pair.port.connections.get_mut(index) else {
+        return false;
+    };
+    if !connection.unsent().starts_with(first) {
+        return false;
+    }
+    connection.sent(first.len());
+    is_sent(pair, index, then)
+}
+
+#[test]
+fn a_sync_after_a_write_has_its_zxid(rt: HostRuntime) {
+    let Some(mut pair) = start(rt.alloc()) else {
+        panic!(rt; "no leader");
+    };
+    assert!(rt; opens(&mut pair));
+    assert!(rt; syncs(&mut pair));
+}
+
+/// Whether the connection that the session moves to has its response, and a create of its client is
+/// in flight.
+fn moves_and_creates(pair: &mut Pair) -> bool {
+    connect(pair)
+        && hears(pair, 1, RECONNECT)
+        && hears(pair, 1, CREATE)
+        && settle_until_written(pair, 1)
+        && holder(pair) == Some(1)
+        && pair.port.outstanding() == 1
+}
+
+/// Whether the second connection is sent nothing, and is over.
+fn is_sent_nothing(pair: &mut Pair) -> bool {
+    settle(pair)
+        && is_sent(pair, 1, b"")
+        && matches!(pair.port.connections.get(1), Some(connection) if connection.is_over())
+}
+
+/// Another connection gets the session meanwhile: the response is dropped, and so is the reply.
+#[test]
+fn no_reply_follows_a_response_that_was_dropped(rt: HostRuntime) {
+    let Some(mut pair) = start(rt.alloc()) else {
+        panic!(rt; "no leader");
+    };
+    assert!(rt; opens(&mut pair));
+    assert!(rt; moves_and_creates(&mut pair));
+    pair.port.cut_off(Selection::Number(1));
+    assert!(rt; is_sent_nothing(&mut pair));
+}
+
+/// A connection that waits for the session is cut off.
+fn waits_for_the_session(pair: &mut Pair) -> bool {
+    connect(pair) && hears(pair, 1, RECONNECT)
+}
+
+/// It takes the session from no other.
+#[test]
+fn a_connection_that_closes_gets_no_session(rt: HostRuntime) {
+    let Some(mut pair) = start(rt.alloc()) else {
+        panic!(rt; "no leader");
+    };
+    assert!(rt; opens(&mut pair));
+    assert!(rt; waits_for_the_session(&mut pair));
+    let _ = turn(&mut pair);
+    assert!(rt; pair.port.outstanding() == 1);
+    pair.port.cut_off(Selection::Number(1));
+    assert!(rt; is_sent_nothing(&mut pair));
+    assert!(rt; holder(&pair) == Some(0));
 }
 
 /// Whether the first connection that a port has is over.

@@ -1,3 +1,4 @@
+pub mod Conversing
 pub mod Each
 pub mod SessionOrder
 pub mod Taking

@@ -1,6 +1,6 @@
 -- A client's connection, and what is written to it. ZooKeeper Programmer's Guide, "ZooKeeper
 -- Sessions" and "ZooKeeper Watches".
-use Rattle.std.specs.Prelude.{ℕ, ℤ, pos, List, [], ◌∷◌, ◌++◌, length, nat_lt, Bool, true, false, ◌&&◌, ◌||◌, Option, Some, None, if◌then◌else◌}
+use Rattle.std.specs.Prelude.{ℕ, ℤ, pos, List, [], ◌∷◌, ◌++◌, length, nat_lt, Bool, true, false, not, ◌&&◌, ◌||◌, Option, Some, None, is_none, if◌then◌else◌}
 use Rattle.zk_connections.specs.declared.connection.Connection.{Connection}
 use Rattle.zk_connections.specs.declared.connection.Phase.{Phase}
 use Rattle.zk_connections.specs.declared.connection.Phase.TheVariants.{New, Connected}
@@ -37,15 +37,19 @@ new_connection number = record {
 
 -- ---- what is written
 
+-- nothing, once the connection closes: what its client is sent has no gap
+abbrev pub appended : Connection → List ℕ → List ℕ
+appended it bytes = if it.closes then it.output else it.output ++ bytes
+
 abbrev pub with_output : List ℕ → Connection → Connection
-with_output bytes it = record it { output = it.output ++ bytes }
+with_output bytes it = record it { output = appended it bytes }
 
 -- an event is written if it fires one of the connection's watches, which is then spent
 abbrev pub event_bytes : ChangeKind → List ℕ → Connection → List ℕ
 event_bytes kind path it = if fires kind path it.watches then event_frame kind path else []
 
 abbrev pub with_event_in : Phase → ChangeKind → List ℕ → Connection → Connection
-with_event_in (Connected link) kind path it = record it { watches = left_by kind path it.watches; output = it.output ++ event_bytes kind path it }
+with_event_in (Connected link) kind path it = record it { watches = left_by kind path it.watches; output = appended it (event_bytes kind path it) }
 with_event_in other kind path it = it
 
 abbrev pub with_event : ChangeKind → List ℕ → Connection → Connection
@@ -55,7 +59,7 @@ with_event kind path it = with_event_in it.phase kind path it
 abbrev pub with_reply_in : Phase → ExpectedReply → Reply → Connection → Connection
 with_reply_in (Connected link) expected reply it = record it {
   phase = Connected (after_reply link reply);
-  output = it.output ++ bytes_of expected reply;
+  output = appended it (bytes_of (after_reply link reply) expected reply);
   closes = it.closes || closes_by expected.kind;
 }
 with_reply_in other expected reply it = it
@@ -67,7 +71,7 @@ with_reply expected reply it = with_reply_in it.phase expected reply it
 abbrev pub with_immediate_in : Phase → ℤ → Immediate → Connection → Connection
 with_immediate_in (Connected link) last immediate it = record it {
   phase = Connected (seeing link last);
-  output = it.output ++ immediate_bytes (seeing link last) immediate;
+  output = appended it (immediate_bytes (seeing link last) immediate);
   closes = it.closes || closes_after immediate;
 }
 with_immediate_in other last immediate it = it
@@ -77,12 +81,23 @@ with_immediate last immediate it = with_immediate_in it.phase last immediate it
 
 -- ---- sessions
 
+abbrev pub session_in : Phase → Option ℤ
+session_in (Connected link) = Some link.session
+session_in other = None
+
+abbrev pub session_of : Connection → Option ℤ
+session_of it = session_in it.phase
+
+-- a connection gets one session at most, and none once it closes
+abbrev pub may_open : Connection → Bool
+may_open it = not it.closes && is_none (session_of it)
+
 -- it has the session of the response, whose client has seen a transaction
 abbrev pub with_session : ConnectResponse → ℤ → Connection → Connection
-with_session response seen it = record it {
+with_session response seen it = if may_open it then record it {
   phase = Connected (attached response.session seen);
   output = it.output ++ framed (connect_response_of response);
-}
+} else it
 
 abbrev pub zeros : List ℕ
 zeros = 0 ∷ 0 ∷ 0 ∷ 0 ∷ 0 ∷ 0 ∷ 0 ∷ 0 ∷ 0 ∷ 0 ∷ 0 ∷ 0 ∷ 0 ∷ 0 ∷ 0 ∷ 0 ∷ []
@@ -100,13 +115,6 @@ with_no_session read_only it = closing (with_output (framed (connect_response_of
 abbrev pub is_new : Phase → Bool
 is_new New = true
 is_new other = false
-
-abbrev pub session_in : Phase → Option ℤ
-session_in (Connected link) = Some link.session
-session_in other = None
-
-abbrev pub session_of : Connection → Option ℤ
-session_of it = session_in it.phase
 
 -- ---- a client that does not read
 

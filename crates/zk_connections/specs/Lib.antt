@@ -1,4 +1,5 @@
 pub mod ConnectionLaws
+pub mod Conversations
 pub mod Passwords
 pub mod Sessions
 pub mod Connections

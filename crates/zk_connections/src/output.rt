@@ -1,5 +1,5 @@
 ghost use Rattle.std.specs.Prelude.{◌≡◌, drop, length, OnOk, OnErr, nat_lt, Some};
-ghost use Rattle.zk_connections.specs.Connections.{with_event, with_reply, with_immediate, with_session, with_no_session, with_output, awaited, closing, lost, is_over, is_slow, is_new, session_of};
+ghost use Rattle.zk_connections.specs.Connections.{with_event, with_reply, with_immediate, with_session, with_no_session, with_output, awaited, closing, lost, is_over, is_slow, is_new, may_open, session_of};
 ghost use Rattle.zk_frames.specs.Frames.{framed};
 ghost use Rattle.zk_frames.specs.Replies.{connect_response_of};
 ghost use Rattle.zk_client_session.specs.ConnectionWatches.{after_read, has_any, without_any};
@@ -37,6 +37,18 @@ impl Connection {
         }
     }
 
+    /// Appends bytes to what is to be sent. Once the connection closes, nothing more is: if some
+    /// of its output was dropped, its client would take what follows for that.
+    fn append(&mut self, bytes: &[u8]) -> Result<(), NoMemory>
+        ensures written { OnOk result (self.new ≡ with_output bytes.now self.old) }
+        ensures unchanged { OnErr result (self.new ≡ self.old) }
+    {
+        if !self.closes {
+            self.output.append(bytes)?;
+        }
+        Ok(())
+    }
+
     /// Writes a watch event, if it fires one of the connection's watches. After an error, the
     /// connection is lost.
     pub fn write_event(
@@ -53,7 +65,7 @@ impl Connection {
         if self.watches.fire(kind, path.text()) {
             let mut bytes = Vec::new(alloc);
             link.notify(alloc, &mut bytes, kind, path.text())?;
-            self.output.append(bytes.as_slice())?;
+            self.append(bytes.as_slice())?;
         }
         Ok(())
     }
@@ -74,7 +86,7 @@ impl Connection {
         let closes = expected.closes();
         let mut bytes = Vec::new(alloc);
         link.tell(alloc, &mut bytes, expected, reply)?;
-        self.output.append(bytes.as_slice())?;
+        self.append(bytes.as_slice())?;
         self.closes |= closes;
         Ok(())
     }
@@ -94,13 +106,21 @@ impl Connection {
         };
         let mut bytes = Vec::new(alloc);
         link.reply(&mut bytes, last, immediate)?;
-        self.output.append(bytes.as_slice())?;
+        self.append(bytes.as_slice())?;
         self.closes |= immediate.closes();
         Ok(())
     }
 
-    /// Gives the connection a session, and writes the connect response. `seen` is the last
-    /// transaction that its client has seen. After an allocation failure, the connection is lost.
+    /// Whether it may get a session: it has none, and does not close.
+    pub fn may_open(&self) -> bool
+        ensures { result ≡ may_open self.now }
+    {
+        !self.closes && self.session().is_none()
+    }
+
+    /// Gives the connection a session, if it may get one, and writes the connect response. `seen` is
+    /// the last transaction that its client has seen. After an allocation failure, the connection is
+    /// lost.
     pub fn open_session(
         &mut self,
         alloc: Global,
@@ -109,6 +129,9 @@ impl Connection {
     ) -> Result<(), NoMemory>
         ensures { OnOk result (self.new ≡ with_session response.now seen self.old) }
     {
+        if !self.may_open() {
+            return Ok(());
+        }
         self.write_response(alloc, response)?;
         self.phase = Phase::Connected(Link::new(alloc, response.session, seen));
         Ok(())
@@ -135,7 +158,7 @@ impl Connection {
     {
         let mut bytes = Vec::new(alloc);
         write_connect_response(&mut bytes, response)?;
-        self.output.append(bytes.as_slice())
+        self.append(bytes.as_slice())
     }
 
     /// Writes a text, and closes.
@@ -143,7 +166,7 @@ impl Connection {
         ensures written { OnOk result (self.new ≡ closing (with_output text.now self.old)) }
         ensures unchanged { OnErr result (self.new ≡ self.old) }
     {
-        self.output.append(text.as_bytes())?;
+        self.append(text.as_bytes())?;
         self.close();
         Ok(())
     }
