@@ -1,0 +1,10 @@
+use Rattle.std.proofs.Common.{cond, None, sym, ap, ◌∙◌}
+use Rattle.std.specs.FinMap as finite
+use Rattle.zk_replay.proofs.Owned.{forgotten}
+use Rattle.zk_replay.specs.Owning.{part_creates}
+use Rattle.zk_stored_owners.proofs.owners.Owners.forget_part.Goals as goal
+
+pub returns-in-Create : goal.returns-in-Create
+returns-in-Create c = λ q.
+    forgotten c.args.self.now c.forget.new.self c.in-Create.path q (c.forget.ensures ∙ ap (finite.remove c.args.self.now) c.text.ensures.text)
+    ∙ ap (λ part. cond (part_creates q part) None (finite.get c.args.self.now q)) (sym c.in-Create.is)

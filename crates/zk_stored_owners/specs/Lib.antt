@@ -1,0 +1,2 @@
+pub use Rattle.zk_path.specs.Paths
+pub mod StoredOwners
