@@ -170,7 +170,7 @@ class Reader:
 
 
 def contents_of(data):
-    """What a snapshot holds, whatever the order of its nodes and the numbers of its lists."""
+    """What a snapshot holds: the order of its nodes and the numbers of its lists do not count."""
     reader = Reader(data)
     header = reader.take("4siq")
     sessions = {reader.take("q"): reader.take("i") for _ in range(reader.take("i"))}

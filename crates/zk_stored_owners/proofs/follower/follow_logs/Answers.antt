@@ -21,6 +21,8 @@ returns c =
     let last = c.loop-bytes.follower.last in
     let start : Owners = finite.get c.args.owners in
     let after : Owners = finite.get c.loop-bytes.follower.owners in
-    let whole : FollowsLogs (to_z w64 (of_z w64 c.args.upto)) (to_z w64 (of_z w64 c.args.from)) last start after logs = c.loop-bytes.invariant last after (logs_end _ last after logs i le) in
-    (last, subst (λ (u : ℤ). FollowsLogs u c.args.from last start after logs) (to_z-of_z w64 c.args.upto c.ranges.upto)
-        (subst (λ (f : ℤ). FollowsLogs (to_z w64 (of_z w64 c.args.upto)) f last start after logs) (to_z-of_z w64 c.args.from c.ranges.from) whole))
+    let whole : FollowsLogs (to_z w64 (of_z w64 c.args.upto)) (to_z w64 (of_z w64 c.args.from)) last start after logs = c.loop-bytes.invariant last after (logs_end _ last after logs i le) in (
+      last,
+      subst (λ (u : ℤ). FollowsLogs u c.args.from last start after logs) (to_z-of_z w64 c.args.upto c.ranges.upto)
+          (subst (λ (f : ℤ). FollowsLogs (to_z w64 (of_z w64 c.args.upto)) f last start after logs) (to_z-of_z w64 c.args.from c.ranges.from) whole),
+    )
