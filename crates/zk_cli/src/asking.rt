@@ -1,5 +1,8 @@
 //! The commands that read data directories.
 
+ghost use Rattle.std.specs.Prelude.{◌-◌, ◌<◌, ◌^◌};
+ghost use Rattle.zk_records.specs.Sinks.{write_failures_of};
+
 use crate::disk_folder::DiskFolder;
 use crate::faults::faults;
 use crate::new_file::NewFile;
@@ -92,27 +95,30 @@ pub(crate) fn tell_comparison(
 /// The output is opened once the state is known: a directory with a fault leaves it as it is.
 pub(crate) fn write_state(rt: &HostRuntime, job: &SnapshotJob) -> Result<u8, NoMemory> {
     if job.output == "@" {
-        write_to(rt, job, io::writer(rt))
+        let mut output = Sink::new(io::writer(rt));
+        write_to(rt, job, &mut output)
     } else {
-        write_to(rt, job, NewFile::at(rt, job.output))
+        let mut output = Sink::new(NewFile::at(rt, job.output));
+        write_to(rt, job, &mut output)
     }
 }
 
-fn write_to<O: Write + Drop>(
+fn write_to<O: Write>(
     rt: &HostRuntime,
     job: &SnapshotJob,
-    output: O,
-) -> Result<u8, NoMemory> {
+    output: &mut Sink<O>,
+) -> Result<u8, NoMemory>
+    requires output { write_failures_of output.old < 2 ^ 64 - 1 }
+{
     let snapshots = DiskFolder::at(rt, job.folder)?;
     let logs = DiskFolder::at(rt, job.logs.unwrap_or(job.folder))?;
-    let mut output = Sink::new(output);
     let mut faults = faults(rt);
     write_snapshot(
         rt.alloc(),
         &snapshots,
         &logs,
         upto_of(job.at),
-        &mut output,
+        output,
         &mut faults,
     )
 }

@@ -47,5 +47,3 @@ mod restore_tests;
 mod server_tests;
 #[cfg(test)]
 mod session_tests;
-#[cfg(test)]
-mod snapshot_tests;
