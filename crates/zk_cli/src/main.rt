@@ -10,10 +10,9 @@ mod disk_folder;
 mod ensemble;
 mod faults;
 mod listening;
-mod new_file;
 
 use acting::open_and_act;
-use asking::{ask, follow_logs, tell_comparison, write_state};
+use asking::{ask, follow_logs, tell_comparison};
 use debugging::debug_directory;
 use disk_folder::is_directory;
 use ensemble::run_ensemble;
@@ -83,7 +82,6 @@ fn run_command<
         Command::Verify(job) => ask(rt, form, &Question::Verify, job.folder, job.logs),
         Command::Diff(job) => ask(rt, form, &Question::Diff(job), job.folder, job.logs),
         Command::Restore(job) => ask(rt, form, &Question::Restore(job), job.folder, job.logs),
-        Command::Snapshot(job) => write_state(rt, &job),
         Command::Serve(serving) => listen(threads, rt, serving),
         Command::Ensemble(job) => run_ensemble(rt, threads, &job.ensemble, job.record),
     }

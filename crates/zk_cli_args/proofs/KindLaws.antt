@@ -10,7 +10,6 @@ use Rattle.zk_cli_args.specs.Incidents.{HistoryWords, TopWords, history_after, h
 use Rattle.zk_cli_args.specs.Lines.{name_of}
 use Rattle.zk_cli_args.specs.Restoring.{RestoreWords, restore_after, restore_words}
 use Rattle.zk_cli_args.specs.Serving.{NamesServing}
-use Rattle.zk_cli_args.specs.Snapshots.{SnapshotWords, snapshot_after, snapshot_words}
 use Rattle.zk_cli_args.specs.Verifying.{VerifyWords, verify_after, verify_of}
 use Rattle.zk_cli_args.specs.declared.command.Order.{Order}
 use Rattle.zk_cli_args.specs.declared.command.Order.TheVariants as orders
@@ -54,11 +53,6 @@ pub restore_name : (words : List (List ℕ)) (given : RestoreWords) → restore_
 restore_name [] given e = absurd (cc e)
 restore_name (program ∷ []) given e = absurd (cc e)
 restore_name (program ∷ name ∷ words) given e = named name (codes "restore") (restore_after words) None (bytes_eq name (codes "restore")) given refl refl e
-
-pub snapshot_name : (words : List (List ℕ)) (given : SnapshotWords) → snapshot_words words ≡ Some given → name_of words ≡ codes "snapshot"
-snapshot_name [] given e = absurd (cc e)
-snapshot_name (program ∷ []) given e = absurd (cc e)
-snapshot_name (program ∷ name ∷ words) given e = named name (codes "snapshot") (snapshot_after words) None (bytes_eq name (codes "snapshot")) given refl refl e
 
 -- ---- the names of jobs, directories and servers
 

@@ -16,7 +16,6 @@ pub mod OptionLaws
 pub mod RestoreLaws
 pub mod ServingLaws
 pub mod ShowLaws
-pub mod SnapshotLaws
 pub mod TopLaws
 pub mod UntilLaws
 pub mod WordsLaws

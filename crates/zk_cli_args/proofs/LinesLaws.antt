@@ -18,7 +18,7 @@ use Rattle.zk_cli_args.specs.declared.commands.Command.TheVariants as commands
 use Rattle.zk_cli_args.specs.declared.ensemble.Ensemble.{Ensemble}
 use Rattle.zk_cli_args.specs.declared.ensemble_job.EnsembleJob.{EnsembleJob}
 use Rattle.zk_cli_args.proofs.DirectoryLaws.{no_folder_job, no_folder_serving, same_folder}
-use Rattle.zk_cli_args.proofs.KindLaws.{compare_name, diff_name, history_name, is_known, no_debug_folder, no_debug_serving, no_known_folder, no_known_job, no_known_serving, restore_name, snapshot_name, top_name, verify_name}
+use Rattle.zk_cli_args.proofs.KindLaws.{compare_name, diff_name, history_name, is_known, no_debug_folder, no_debug_serving, no_known_folder, no_known_job, no_known_serving, restore_name, top_name, verify_name}
 use Rattle.zk_cli_args.proofs.NamesLaws.{apart, same_named}
 
 same_given : (x y : Option (List ℕ) × List (List ℕ)) → Some x ≡ Some y → x ≡ y
@@ -136,7 +136,6 @@ names_only words (commands.Compare job) p = names_other words (commands.Compare 
 names_only words (commands.Verify job) p = names_other words (commands.Verify job) (codes "verify") (verify_name words (words_of_verify job) p) refl p
 names_only words (commands.Diff job) p = names_other words (commands.Diff job) (codes "diff") (diff_name words p.given p.parted) refl p
 names_only words (commands.Restore job) p = names_other words (commands.Restore job) (codes "restore") (restore_name words p.given p.parted) refl p
-names_only words (commands.Snapshot job) p = names_other words (commands.Snapshot job) (codes "snapshot") (snapshot_name words p.given p.parted) refl p
 names_only words (commands.Ensemble job) p = ensemble_only words job (file_of job) refl p
 
 pub asked_named : (words : List (List ℕ)) (command : Command) → IsAsked words command → NamesCommand words command
@@ -151,7 +150,6 @@ asked_named words (commands.Compare job) p = p
 asked_named words (commands.Verify job) p = p
 asked_named words (commands.Diff job) p = p
 asked_named words (commands.Restore job) p = p
-asked_named words (commands.Snapshot job) p = p
 
 pub recorded_named : (words : List (List ℕ)) (job : EnsembleJob) → ReadsRecorded words (Some job) → NamesNoJob words → NamesNoFolder words → NamesNoServing words → NamesCommand words (commands.Ensemble job)
 recorded_named words job p no_job no_folder no_serving =

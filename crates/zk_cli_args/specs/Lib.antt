@@ -14,7 +14,6 @@ pub mod Options
 pub mod Parting
 pub mod Restoring
 pub mod Serving
-pub mod Snapshots
 pub mod Tops
 pub mod Verifying
 pub mod Zxids

@@ -13,7 +13,6 @@ use Rattle.zk_cli_args.specs.Incidents.{NamesTop, history_of, words_of_history}
 use Rattle.zk_cli_args.specs.Options.{record_of}
 use Rattle.zk_cli_args.specs.Restoring.{NamesRestore}
 use Rattle.zk_cli_args.specs.Serving.{NamesNoServing, NamesServing}
-use Rattle.zk_cli_args.specs.Snapshots.{NamesSnapshot}
 use Rattle.zk_cli_args.specs.Verifying.{verify_of, words_of_verify}
 use Rattle.zk_cli_args.specs.declared.command.Order.{Order}
 use Rattle.zk_cli_args.specs.declared.debugging.FolderDebug.{FolderDebug}
@@ -30,7 +29,6 @@ use Rattle.zk_cli_args.specs.declared.line.CommandLine.{CommandLine}
 use Rattle.zk_cli_args.specs.declared.ensemble_job.EnsembleJob.{EnsembleJob}
 use Rattle.zk_cli_args.specs.declared.restoration.RestoreJob.{RestoreJob}
 use Rattle.zk_cli_args.specs.declared.serving.Serving.{Serving}
-use Rattle.zk_cli_args.specs.declared.snapshot.SnapshotJob.{SnapshotJob}
 use Rattle.zk_cli_args.specs.declared.top.TopJob.{TopJob}
 
 -- ---- a debugger, and an ensemble
@@ -72,11 +70,10 @@ NamesCommand words (commands.Compare job) = compare_of words ≡ Some (words_of_
 NamesCommand words (commands.Verify job) = verify_of words ≡ Some (words_of_verify job)
 NamesCommand words (commands.Diff job) = NamesDiff words job
 NamesCommand words (commands.Restore job) = NamesRestore words job
-NamesCommand words (commands.Snapshot job) = NamesSnapshot words job
 NamesCommand words (commands.Serve serving) = NamesServing words serving
 NamesCommand words (commands.Ensemble job) = NamesEnsembleBy words (file_of job) job.ensemble
 
--- no report, nothing to restore and no snapshot to write
+-- no report, and nothing to restore
 pub record AsksNothing (words : List (List ℕ)) : Type 0 where
   pub history : history_of words ≡ None
   pub top : (job : TopJob) → ¬ NamesTop words job
@@ -84,7 +81,6 @@ pub record AsksNothing (words : List (List ℕ)) : Type 0 where
   pub verify : verify_of words ≡ None
   pub diff : (job : DiffJob) → ¬ NamesDiff words job
   pub restore : (job : RestoreJob) → ¬ NamesRestore words job
-  pub snapshot : (job : SnapshotJob) → ¬ NamesSnapshot words job
 
 pub record NamesNothing (words : List (List ℕ)) : Type 0 where
   pub job : NamesNoJob words
@@ -203,7 +199,7 @@ abbrev pub ReadsDirectoryDebug : List (List ℕ) → Option FolderDebug → Type
 ReadsDirectoryDebug words (Some it) = NamesDebugLine words it × (needs_directory it ≡ true)
 ReadsDirectoryDebug words None = NamesNoDebug words
 
--- a report, a script that restores nodes, or a snapshot
+-- a report, or a script that restores nodes
 abbrev pub IsAsked : List (List ℕ) → Command → Type 0
 IsAsked words (commands.History job) = history_of words ≡ Some (words_of_history job)
 IsAsked words (commands.Top job) = NamesTop words job
@@ -211,7 +207,6 @@ IsAsked words (commands.Compare job) = compare_of words ≡ Some (words_of_compa
 IsAsked words (commands.Verify job) = verify_of words ≡ Some (words_of_verify job)
 IsAsked words (commands.Diff job) = NamesDiff words job
 IsAsked words (commands.Restore job) = NamesRestore words job
-IsAsked words (commands.Snapshot job) = NamesSnapshot words job
 IsAsked words command = ⊥
 
 abbrev pub ReadsAsked : List (List ℕ) → Option Command → Type 0

@@ -11,7 +11,6 @@ use crate::folders::{FolderJob, folder_job_of};
 use crate::history::{HistoryJob, history_of};
 use crate::restoration::{RestoreJob, restore_of};
 use crate::serving::{Serving, serving_of};
-use crate::snapshot::{SnapshotJob, snapshot_of};
 use crate::top::{TopJob, top_of};
 use crate::verification::{VerifyJob, verify_of};
 use std::alloc::Global;
@@ -40,8 +39,6 @@ pub enum Command<'a> {
     Diff(DiffJob<'a>),
     /// Writes the script that restores nodes.
     Restore(RestoreJob<'a>),
-    /// Writes the snapshot of a state of a data directory.
-    Snapshot(SnapshotJob<'a>),
     /// Servers serve connections.
     Serve(Serving),
     /// An ensemble serves ZooKeeper's clients.
@@ -91,7 +88,7 @@ fn named_of<'a>(alloc: Global, words: &[&'a str]) -> Result<Option<Command<'a>>,
     }
 }
 
-/// The report, the script or the snapshot that words ask for.
+/// The report, or the script, that words ask for.
 fn asked_of<'a>(alloc: Global, words: &[&'a str]) -> Result<Option<Command<'a>>, NoMemory>
     ensures { IfOk result (λ read. ReadsAsked (map (λ word. word.now) words.now) read) }
 {
@@ -110,11 +107,8 @@ fn asked_of<'a>(alloc: Global, words: &[&'a str]) -> Result<Option<Command<'a>>,
     if let Some(job) = diff_of(alloc, words)? {
         return Ok(Some(Command::Diff(job)));
     }
-    if let Some(job) = restore_of(alloc, words)? {
-        return Ok(Some(Command::Restore(job)));
-    }
-    match snapshot_of(alloc, words)? {
-        Some(job) => Ok(Some(Command::Snapshot(job))),
+    match restore_of(alloc, words)? {
+        Some(job) => Ok(Some(Command::Restore(job))),
         None => Ok(None),
     }
 }

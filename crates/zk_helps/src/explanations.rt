@@ -159,7 +159,7 @@ const OF_DIRECTORIES: [Explanation; 22] = [
     },
 ];
 
-const OF_TEXTS: [Explanation; 18] = [
+const OF_TEXTS: [Explanation; 17] = [
     Explanation {
         code: "L1",
         words: "In this line a field is missing, empty or additional, or a separator is not one space.",
@@ -195,10 +195,6 @@ const OF_TEXTS: [Explanation; 18] = [
     Explanation {
         code: "length",
         words: "The record of this line would have more than 16,777,216 bytes.",
-    },
-    Explanation {
-        code: "long",
-        words: "A text of the state has 2,147,483,648 bytes or more, or there are 2,147,483,648 sessions or access control lists: a snapshot has no field for that.",
     },
     Explanation {
         code: "script",

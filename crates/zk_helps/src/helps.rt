@@ -2,8 +2,7 @@
 
 use crate::notes::{
     ASM_NOTES, COMPARE_NOTES, DEBUG_LINES, DIFF_NOTES, ENSEMBLE_LINES, FILES_NOTES, HISTORY_NOTES,
-    LOG_NOTES, MEND_NOTES, RESTORE_NOTES, RUN_LINES, SERVE_LINES, SNAPSHOT_NOTES, TOP_NOTES,
-    VERIFY_NOTES,
+    LOG_NOTES, MEND_NOTES, RESTORE_NOTES, RUN_LINES, SERVE_LINES, TOP_NOTES, VERIFY_NOTES,
 };
 
 /// The help of a command.
@@ -50,8 +49,8 @@ pub(crate) struct OptionHelp {
 /// One list with those of servers would have more text than the prover takes at once.
 pub(crate) const READING: [OrderHelp; 6] = [SHOW, LIST, FILES, ASM, MEND, DEBUG];
 
-/// The commands that say what happened in a data directory, or write what it holds.
-pub(crate) const ASKING: [OrderHelp; 7] = [VERIFY, HISTORY, DIFF, TOP, COMPARE, RESTORE, SNAPSHOT];
+/// The commands that say what happened in a data directory.
+pub(crate) const ASKING: [OrderHelp; 6] = [VERIFY, HISTORY, DIFF, TOP, COMPARE, RESTORE];
 
 /// The commands that run servers.
 pub(crate) const RUNNING: [OrderHelp; 3] = [RUN, SERVE, ENSEMBLE];
@@ -200,24 +199,14 @@ pub(crate) const RESTORE: OrderHelp = OrderHelp {
         },
     ],
     flags: &[],
-    options: &[AT, LOGS],
-};
-
-pub(crate) const SNAPSHOT: OrderHelp = OrderHelp {
-    name: "snapshot",
-    title: "zk snapshot",
-    about: "Writes a snapshot of a data directory, as of a transaction, from which a server starts",
-    notes: SNAPSHOT_NOTES,
-    values: &[
-        DIR,
-        ValueHelp {
-            name: "OUT",
-            help: "The snapshot, created or truncated: a path, or @ for standard output",
-            required: true,
+    options: &[
+        OptionHelp {
+            name: "at",
+            value: "T",
+            help: "The last transaction of the tree: a zxid, `last` or a time, as for show; the last of all if left out",
         },
+        LOGS,
     ],
-    flags: &[],
-    options: &[AT, LOGS],
 };
 
 const COMPARE: OrderHelp = OrderHelp {
@@ -404,13 +393,6 @@ const DIR: ValueHelp = ValueHelp {
     name: "DIR",
     help: "The data directory, or its version-2",
     required: true,
-};
-
-/// The option of the state that is asked for.
-const AT: OptionHelp = OptionHelp {
-    name: "at",
-    value: "T",
-    help: "The last transaction of the tree: a zxid, `last` or a time, as for show; the last of all if left out",
 };
 
 /// The value that names a log to read.

@@ -95,18 +95,6 @@ plain nodes. Comments, which begin with #, name what is left out:
 
 Errors, on standard error after `zk: `, are those of `zk show` of a directory."#;
 
-/// What `zk snapshot` writes, and its errors.
-pub(crate) const SNAPSHOT_NOTES: &str =
-    r#"The snapshot has the tree and the open sessions that `zk show` prints, and the digest of the tree. A
-server starts from it if its name is `snapshot.ZXID` in the server's version-2, with the zxid of the last
-transaction in hexadecimal digits without leading zeros, and no log is there but those that continue it.
-
-OUT is created or truncated once the state is known: an error other than `write` and `memory` leaves it as
-it was.
-
-Errors, on standard error after `zk: `, are those of `zk show` of a directory, and
-  long        a text or a number of the state has no field in a snapshot"#;
-
 /// The lines of `zk history`, and its errors.
 pub(crate) const HISTORY_NOTES: &str =
     r#"A line has the time in UTC, the zxid, the operation as in a listing, and the session. `expired` follows

@@ -4,9 +4,7 @@ ghost use Rattle.std.specs.Prelude.{◌≢◌, ◌↔◌, IsTrue};
 ghost use Rattle.clap.specs.declared.error.kind.ErrorKind.TheVariants as kinds;
 
 use crate::grammar::{command, order_command};
-use crate::helps::{
-    DEBUG, DIFF, ENSEMBLE, HISTORY, MEND, OrderHelp, RESTORE, SERVE, SHOW, SNAPSHOT, TOP,
-};
+use crate::helps::{DEBUG, DIFF, ENSEMBLE, HISTORY, MEND, OrderHelp, RESTORE, SERVE, SHOW, TOP};
 use clap::Error;
 use clap::error::ErrorKind;
 use std::alloc::{AllocError, Global};
@@ -81,7 +79,6 @@ fn order_fault(alloc: Global, words: &[&str], order: &str) -> Result<Error, Allo
         "history" => path_fault(alloc),
         "diff" => diff_fault(alloc),
         "restore" => restore_fault(alloc),
-        "snapshot" => snapshot_fault(alloc),
         "debug" => debug_fault(alloc, words),
         // Of the other words that clap accepts, only a ZXID is an error.
         _ => zxid_fault(alloc, &SHOW),
@@ -191,16 +188,6 @@ fn restore_fault(alloc: Global) -> Result<Error, AllocError> {
         &RESTORE,
         ErrorKind::ValueValidation,
         "T is neither a zxid such as 0x2a4, `last`, nor a time such as 2026-11-27T14:03, or PATH is not the path of a node, such as / or /app/lock",
-    )
-}
-
-/// A usage error of `snapshot` that `clap` accepts.
-fn snapshot_fault(alloc: Global) -> Result<Error, AllocError> {
-    fault_of(
-        alloc,
-        &SNAPSHOT,
-        ErrorKind::ValueValidation,
-        "T is neither a zxid such as 0x2a4, `last`, nor a time such as 2026-11-27T14:03",
     )
 }
 

@@ -1,4 +1,4 @@
--- What `zk snapshot` writes to its output and to standard error, by its status.
+-- What is written to the output and to standard error, by the status.
 use Rattle.std.specs.Prelude.{◌≡◌, ◌⊎◌, ℕ, List, Option, Result, Ok, Err, codes}
 use Rattle.zk_directory_state.specs.Histories.{Holds}
 use Rattle.zk_directory_state.specs.Notices.{OutputsWith, notices_of}

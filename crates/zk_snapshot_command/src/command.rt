@@ -1,4 +1,4 @@
-//! What `zk snapshot` writes.
+//! What is written of a snapshot.
 ghost use Rattle.std.specs.Prelude.{◌-◌, ◌<◌, ◌^◌};
 ghost use Rattle.std.specs.FinMap as finite;
 ghost use Rattle.zk_directory_state.specs.Notices.{OutputsWith, TellsNotices, notices_of};

@@ -1,4 +1,4 @@
-//! `zk snapshot`: a snapshot file of the state that a data directory holds, as of a transaction, over
+//! A snapshot file of the state that a data directory holds, as of a transaction, over
 //! any folders and any writers. A server of ZooKeeper starts from it.
 #![tactic(auto)]
 
