@@ -1,4 +1,4 @@
--- What a connection's client is sent, whatever happens to the connection. ZooKeeper Programmer's
+-- What a connection's client is sent, also where the connection is cut off. ZooKeeper Programmer's
 -- Guide, "Consistency Guarantees", single system image: "A client will see the same view of the
 -- service regardless of the server that it connects to". A client shows its next server the zxid of
 -- the last header.
