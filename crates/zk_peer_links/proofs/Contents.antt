@@ -25,7 +25,7 @@ use Rattle.zk_requests.specs.declared.call.Call.{Call}
 
 -- ---- what is read was written
 
-IsBytes-cut : (m n : ℕ) (bytes : List ℕ) → IsBytes bytes → IsBytes (take n (drop m bytes))
+pub IsBytes-cut : (m n : ℕ) (bytes : List ℕ) → IsBytes bytes → IsBytes (take n (drop m bytes))
 IsBytes-cut m n bytes fits =
     IsBytes-between bytes (take m bytes) (take n (drop m bytes)) (drop n (drop m bytes))
     (sym (append_assoc (take m bytes) (take n (drop m bytes)) (drop n (drop m bytes)) ∙ ap (λ (l : List ℕ). take m bytes ++ l) (take-append-drop n (drop m bytes)) ∙ take-append-drop m bytes)) fits
@@ -182,7 +182,7 @@ not_twelve (bodies.Request epoch call) = refl
 not_twelve (bodies.SyncAsk epoch tag) = refl
 not_twelve (bodies.SyncTell epoch tag count) = refl
 
-kind_again : (body : Body Call) → cast_signed w32 (from_be_bytes w32 (int (kind_of body))) ≡ kind_of body
+pub kind_again : (body : Body Call) → cast_signed w32 (from_be_bytes w32 (int (kind_of body))) ≡ kind_of body
 kind_again (bodies.CEpoch promised) = refl
 kind_again (bodies.NewEpoch epoch) = refl
 kind_again (bodies.AckEpoch epoch vote current last) = refl
@@ -195,7 +195,7 @@ kind_again (bodies.Request epoch call) = refl
 kind_again (bodies.SyncAsk epoch tag) = refl
 kind_again (bodies.SyncTell epoch tag count) = refl
 
-kind_at : (message : Message Call) → take 4 (drop 16 (contents_of message)) ≡ int (kind_of message.body)
+pub kind_at : (message : Message Call) → take 4 (drop 16 (contents_of message)) ≡ int (kind_of message.body)
 unfolding contents_of body_of
 kind_at message = refl
 

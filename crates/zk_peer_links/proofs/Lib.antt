@@ -1,4 +1,5 @@
 pub mod Contents
+pub mod SessionContents
 pub mod Reading
 pub mod Streams
 pub mod Taking

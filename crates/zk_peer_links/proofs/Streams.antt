@@ -11,6 +11,7 @@ use Rattle.zk_peer_links.specs.Packets.{Decodes, HasFrameIn, IsExact, IsWrong, c
 use Rattle.zk_peer_links.specs.declared.packet.Packet.{Packet}
 use Rattle.zk_peer_links.specs.declared.packet.Packet.TheVariants as packets
 use Rattle.zk_peer_links.proofs.Contents.{length_of_notice, notices_are_of_one, other_contents}
+use Rattle.zk_peer_links.proofs.SessionContents.{length_of_session, other_length, other_message, sessions_are_of_one}
 
 pub both_all : {A : Type 0} (P : A → Type 0) (xs ys : List A) → AllByRecursion P xs → AllByRecursion P ys → AllByRecursion P (xs ++ ys)
 both_all P [] ys first others = others
@@ -44,12 +45,18 @@ composes rest bytes more between next first later one other = record {
 short_in : (packet : Packet) → HasFrameIn packet → length (contents_in packet) < 2 ^ 63
 short_in (packets.Message message) has = has.short
 short_in (packets.Notice notice) has = (let long = length_of_notice notice in omega arith)
+short_in (packets.Session notice) has = (let long = length_of_session notice in omega arith)
 
 contents_are_of_one_packet : (first second : Packet) → HasFrameIn first → HasFrameIn second → contents_in first ≡ contents_in second → first ≡ second
 contents_are_of_one_packet (packets.Message first) (packets.Message second) has other same = ap packets.Message (contents_are_of_one first second has.fits other.fits same)
 contents_are_of_one_packet (packets.Notice first) (packets.Notice second) has other same = ap packets.Notice (notices_are_of_one first second has other same)
 contents_are_of_one_packet (packets.Message first) (packets.Notice second) has other same = absurd (other_contents first second same)
 contents_are_of_one_packet (packets.Notice first) (packets.Message second) has other same = absurd (other_contents second first (sym same))
+contents_are_of_one_packet (packets.Session first) (packets.Session second) has other same = ap packets.Session (sessions_are_of_one first second has other same)
+contents_are_of_one_packet (packets.Session first) (packets.Message second) has other same = absurd (other_message second first (sym same))
+contents_are_of_one_packet (packets.Message first) (packets.Session second) has other same = absurd (other_message first second same)
+contents_are_of_one_packet (packets.Session first) (packets.Notice second) has other same = absurd (other_length second first (sym same))
+contents_are_of_one_packet (packets.Notice first) (packets.Session second) has other same = absurd (other_length first second same)
 
 frames_are_of_one : (first second : Packet) (rest others : List ℕ) → HasFrameIn first → HasFrameIn second → frame_in first ++ rest ≡ frame_in second ++ others → (first ≡ second) × (rest ≡ others)
 frames_are_of_one first second rest others has other same =

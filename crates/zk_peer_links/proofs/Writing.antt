@@ -2,17 +2,19 @@
 use Rattle.std.proofs.Common.{◌≡◌, ◌≢◌, ◌⊎◌, inl, inr, ℕ, ◌+◌, ◌<◌, ◌≤◌, ◌==◌, zero, suc, Bool, true, false, if◌then◌else◌, List, [], ◌∷◌, ◌++◌, length, map, filter, take, drop, set, get_or, slice_get, Option, Some, None, refl, sym, ap, ◌∙◌, append-nil, append_assoc, add-one, below_more, subst, arith}
 use Rattle.std.specs.List.{AllByRecursion}
 use Rattle.std.proofs.lemmas.Bool.Decides.{nat_tests}
-use Rattle.std.proofs.lemmas.List.{take_all, map-append, length_push, get_or_default, get_or_push, get_or_append_left}
+use Rattle.std.proofs.lemmas.List.{take_all, take_more as take_further, map-append, length_push, get_or_default, get_or_push, get_or_append_left}
 use Rattle.zab_epoch.specs.declared.message.Message.{Message}
 use Rattle.zab_frames.specs.Streams.{HasFrame, frame_of}
 use Rattle.zab_frames.specs.Frames.{framed}
 use Rattle.zk_peer_links.specs.Links.{LinkView, link_at}
 use Rattle.zk_peer_links.specs.Notices.{IsNotice, contents_of_notice, is_same}
-use Rattle.zk_peer_links.specs.Outputs.{Appends, IsWritten, Writes, is_for, listed, news_for, packets_for, those_for, told}
+use Rattle.zk_peer_links.specs.SessionNotices.{IsSessionNotice, contents_of_session}
+use Rattle.zk_peer_links.specs.Outputs.{Appends, IsWritten, Writes, is_for, is_to, listed, news_for, packets_for, sessions_for, those_for, told}
 use Rattle.zk_peer_links.specs.Packets.{HasFrameIn, frame_in, frames_in}
 use Rattle.zk_peer_links.specs.declared.notice.Notice.{Notice}
 use Rattle.zk_peer_links.specs.declared.packet.Packet.{Packet}
 use Rattle.zk_peer_links.specs.declared.packet.Packet.TheVariants as packets
+use Rattle.zk_peer_links.specs.declared.session_notice.SessionNotice.{SessionNotice}
 use Rattle.zk_peer_links.proofs.Streams.{both_all, frames-append, frames-one}
 use Rattle.zk_requests.specs.declared.call.Call.{Call}
 
@@ -112,26 +114,65 @@ module _ (peer : ℕ) (messages : List (Message Call)) (old : List ℕ) where
   pub appends_whole : (index : ℕ) (new : List ℕ) → length messages ≤ index → Appends (those_for peer (take index messages)) old new → Appends (those_for peer messages) old new
   appends_whole index new whole appends = subst (λ (l : List (Message Call)). Appends (those_for peer l) old new) (take_all index messages whole) appends
 
+-- ---- notices about sessions
+
+session_if : (peer : ℕ) (notice : SessionNotice) (b : Bool) → is_to peer notice ≡ b → sessions_for peer (notice ∷ []) ≡ (if b then packets.Session notice ∷ [] else [])
+session_if peer notice true is = ap (λ (b : Bool). map packets.Session (if b then notice ∷ [] else [])) is
+session_if peer notice false is = ap (λ (b : Bool). map packets.Session (if b then notice ∷ [] else [])) is
+
+pub session_not_for : (peer : ℕ) (notice : SessionNotice) (old new : List ℕ) → notice.addressee ≢ peer → new ≡ old → Appends (sessions_for peer (notice ∷ [])) old new
+session_not_for peer notice old new other same =
+    let no : is_to peer notice ≡ false = grind (arith, nat_tests) in
+    appends_as [] (sessions_for peer (notice ∷ [])) old new (sym (session_if peer notice false no))
+    (subst (λ (l : List ℕ). Appends [] old l) (sym same) (appends_nothing old))
+
+pub session_written : (peer : ℕ) (notice : SessionNotice) (old new : List ℕ) → notice.addressee ≡ peer → IsSessionNotice notice → new ≡ old ++ framed (contents_of_session notice)
+    → Appends (sessions_for peer (notice ∷ [])) old new
+session_written peer notice old new mine fits written =
+    let yes : is_to peer notice ≡ true = grind (arith, nat_tests) in
+    appends_as (packets.Session notice ∷ []) (sessions_for peer (notice ∷ [])) old new (sym (session_if peer notice true yes))
+    (appends_one (packets.Session notice) old new fits written)
+
+sessions_both : (peer : ℕ) (a b : List SessionNotice) → sessions_for peer (a ++ b) ≡ sessions_for peer a ++ sessions_for peer b
+sessions_both peer a b = ap (map packets.Session) (filter_both (is_to peer) a b) ∙ map-append packets.Session (filter (is_to peer) a) (filter (is_to peer) b)
+
+module _ (peer : ℕ) (sessions : List SessionNotice) (old : List ℕ) where
+  pub sessions_none : Appends (sessions_for peer (take 0 sessions)) old old
+  sessions_none = appends_nothing old
+
+  pub sessions_more : (index : ℕ) (notice : SessionNotice) (mid new : List ℕ) → index < length sessions → notice ≡ get_or sessions index notice → Appends (sessions_for peer (take index sessions)) old mid
+      → Appends (sessions_for peer (notice ∷ [])) mid new → Appends (sessions_for peer (take (index + 1) sessions)) old new
+  sessions_more index notice mid new within is so_far one =
+      let more : take (index + 1) sessions ≡ take index sessions ++ notice ∷ [] = take_further sessions index notice within ∙ ap (λ (it : SessionNotice). take index sessions ++ it ∷ []) (sym is) in
+      appends_as (sessions_for peer (take index sessions) ++ sessions_for peer (notice ∷ [])) (sessions_for peer (take (index + 1) sessions)) old new
+      (sym (sessions_both peer (take index sessions) (notice ∷ [])) ∙ ap (sessions_for peer) (sym more))
+      (appends_both (sessions_for peer (take index sessions)) (sessions_for peer (notice ∷ [])) old mid new so_far one)
+
+  pub sessions_whole : (index : ℕ) (new : List ℕ) → length sessions ≤ index → Appends (sessions_for peer (take index sessions)) old new → Appends (sessions_for peer sessions) old new
+  sessions_whole index new whole appends = subst (λ (l : List SessionNotice). Appends (sessions_for peer l) old new) (take_all index sessions whole) appends
+
 -- ---- one peer
 
-pub written_none : (peer : ℕ) (notice : Notice) (messages : List (Message Call)) (slot : Option LinkView) (bytes : List ℕ) → slot ≡ None → bytes ≡ [] → IsWritten (packets_for peer notice messages slot) bytes
-written_none peer notice messages slot bytes is none =
-    subst (λ (o : Option LinkView). IsWritten (packets_for peer notice messages o) bytes) (sym is) record { bytes_are = none; each = tt }
+pub written_none : (peer : ℕ) (notice : Notice) (sessions : List SessionNotice) (messages : List (Message Call)) (slot : Option LinkView) (bytes : List ℕ) → slot ≡ None → bytes ≡ []
+    → IsWritten (packets_for peer notice sessions messages slot) bytes
+written_none peer notice sessions messages slot bytes is none =
+    subst (λ (o : Option LinkView). IsWritten (packets_for peer notice sessions messages o) bytes) (sym is) record { bytes_are = none; each = tt }
 
-pub written_link : (peer : ℕ) (notice : Notice) (messages : List (Message Call)) (slot : Option LinkView) (link : LinkView) (first mid bytes : List ℕ) → slot ≡ Some link → first ≡ []
-    → Appends (news_for link.told notice) first mid → Appends (those_for peer messages) mid bytes → IsWritten (packets_for peer notice messages slot) bytes
-written_link peer notice messages slot link first mid bytes is none news those =
-    let all = appends_both (news_for link.told notice) (those_for peer messages) first mid bytes news those in
-    subst (λ (o : Option LinkView). IsWritten (packets_for peer notice messages o) bytes) (sym is)
-    record { bytes_are = all.whole ∙ ap (λ (l : List ℕ). l ++ frames_in (packets_for peer notice messages (Some link))) none; each = all.each }
+pub written_link : (peer : ℕ) (notice : Notice) (sessions : List SessionNotice) (messages : List (Message Call)) (slot : Option LinkView) (link : LinkView) (first mid next bytes : List ℕ) → slot ≡ Some link → first ≡ []
+    → Appends (news_for link.told notice) first mid → Appends (sessions_for peer sessions) mid next → Appends (those_for peer messages) next bytes → IsWritten (packets_for peer notice sessions messages slot) bytes
+written_link peer notice sessions messages slot link first mid next bytes is none news heard those =
+    let later = appends_both (sessions_for peer sessions) (those_for peer messages) mid next bytes heard those in
+    let all = appends_both (news_for link.told notice) (sessions_for peer sessions ++ those_for peer messages) first mid bytes news later in
+    subst (λ (o : Option LinkView). IsWritten (packets_for peer notice sessions messages o) bytes) (sym is)
+    record { bytes_are = all.whole ∙ ap (λ (l : List ℕ). l ++ frames_in (packets_for peer notice sessions messages (Some link))) none; each = all.each }
 
 -- ---- all peers
 
 -- the first links are written to
-pub record IsWrittenUpTo (notice : Notice) (messages : List (Message Call)) (links : List (Option LinkView)) (place : ℕ) (now : List (Option LinkView)) (outputs : List (List ℕ)) : Type 0 where
+pub record IsWrittenUpTo (notice : Notice) (sessions : List SessionNotice) (messages : List (Message Call)) (links : List (Option LinkView)) (place : ℕ) (now : List (Option LinkView)) (outputs : List (List ℕ)) : Type 0 where
   pub links_are : now ≡ map (told notice) (take place links) ++ drop place links
   pub count : length outputs ≡ place
-  pub each : (k : ℕ) → k < place → IsWritten (packets_for (k + 1) notice messages (link_at links k)) (get_or outputs k [])
+  pub each : (k : ℕ) → k < place → IsWritten (packets_for (k + 1) notice sessions messages (link_at links k)) (get_or outputs k [])
 
 changed_at : {X : Type 0} (change : X → X) (all : List X) (i : ℕ) (x y : X) → i < length (map change (take i all) ++ drop i all) → x ≡ get_or (map change (take i all) ++ drop i all) i x → y ≡ change x
     → set (map change (take i all) ++ drop i all) i y ≡ map change (take (suc i) all) ++ drop (suc i) all
@@ -166,20 +207,20 @@ all_changed change [] (suc i) whole = refl
 all_changed change (x ∷ all) zero whole = absurd (omega arith)
 all_changed change (x ∷ all) (suc i) whole = ap (λ l. change x ∷ l) (all_changed change all i (omega arith))
 
-module _ (notice : Notice) (messages : List (Message Call)) (links : List (Option LinkView)) where
-  pub writes_none : IsWrittenUpTo notice messages links 0 links []
+module _ (notice : Notice) (sessions : List SessionNotice) (messages : List (Message Call)) (links : List (Option LinkView)) where
+  pub writes_none : IsWrittenUpTo notice sessions messages links 0 links []
   writes_none = record { links_are = refl; count = refl; each = λ k lt. absurd (omega arith) }
 
-  pub writes_more : (place : ℕ) (now : List (Option LinkView)) (outputs : List (List ℕ)) (slot changed : Option LinkView) (bytes : List ℕ) → IsWrittenUpTo notice messages links place now outputs → place < length now
-      → slot ≡ get_or now place slot → changed ≡ told notice slot → IsWritten (packets_for (place + 1) notice messages slot) bytes
-      → IsWrittenUpTo notice messages links (place + 1) (set now place changed) (outputs ++ bytes ∷ [])
+  pub writes_more : (place : ℕ) (now : List (Option LinkView)) (outputs : List (List ℕ)) (slot changed : Option LinkView) (bytes : List ℕ) → IsWrittenUpTo notice sessions messages links place now outputs → place < length now
+      → slot ≡ get_or now place slot → changed ≡ told notice slot → IsWritten (packets_for (place + 1) notice sessions messages slot) bytes
+      → IsWrittenUpTo notice sessions messages links (place + 1) (set now place changed) (outputs ++ bytes ∷ [])
   writes_more place now outputs slot changed bytes so_far within is said written = record {
     links_are = one_more (told notice) links now place slot changed so_far.links_are within is said;
     count = length_push outputs bytes ∙ ap (λ (n : ℕ). n + 1) so_far.count;
-    each = below_more (λ (k : ℕ). IsWritten (packets_for (k + 1) notice messages (link_at links k)) (get_or (outputs ++ bytes ∷ []) k [])) place
-        (λ k lt. subst (λ (l : List ℕ). IsWritten (packets_for (k + 1) notice messages (link_at links k)) l) (sym (get_or_append_left outputs (bytes ∷ []) [] k (let n = so_far.count in omega arith))) (so_far.each k lt))
-        (subst (λ (l : List ℕ). IsWritten (packets_for (place + 1) notice messages (link_at links place)) l) (sym (get_or_push outputs bytes [] place so_far.count))
-        (subst (λ (o : Option LinkView). IsWritten (packets_for (place + 1) notice messages o) bytes) (sym slot_is) written));
+    each = below_more (λ (k : ℕ). IsWritten (packets_for (k + 1) notice sessions messages (link_at links k)) (get_or (outputs ++ bytes ∷ []) k [])) place
+        (λ k lt. subst (λ (l : List ℕ). IsWritten (packets_for (k + 1) notice sessions messages (link_at links k)) l) (sym (get_or_append_left outputs (bytes ∷ []) [] k (let n = so_far.count in omega arith))) (so_far.each k lt))
+        (subst (λ (l : List ℕ). IsWritten (packets_for (place + 1) notice sessions messages (link_at links place)) l) (sym (get_or_push outputs bytes [] place so_far.count))
+        (subst (λ (o : Option LinkView). IsWritten (packets_for (place + 1) notice sessions messages o) bytes) (sym slot_is) written));
   }
     where
       slot_is : link_at links place ≡ slot
@@ -187,12 +228,12 @@ module _ (notice : Notice) (messages : List (Message Call)) (links : List (Optio
           sym (here_is (told notice) links place None) ∙ ap (λ (l : List (Option LinkView)). get_or l place None) (sym so_far.links_are)
           ∙ sym (is ∙ get_or_default now place slot None within)
 
-  pub writes_all : (place : ℕ) (now : List (Option LinkView)) (outputs : List (List ℕ)) → IsWrittenUpTo notice messages links place now outputs → length now ≤ place → place ≤ length now → Writes notice messages links outputs
+  pub writes_all : (place : ℕ) (now : List (Option LinkView)) (outputs : List (List ℕ)) → IsWrittenUpTo notice sessions messages links place now outputs → length now ≤ place → place ≤ length now → Writes notice sessions messages links outputs
   writes_all place now outputs so_far whole within =
       let long : length now ≡ length links = ap length so_far.links_are ∙ long_as (told notice) links place in
       record { count = so_far.count ∙ (let n : place ≡ length now = omega arith in n) ∙ long; each = λ k lt. so_far.each k (omega arith) }
 
-  pub told_all : (place : ℕ) (now : List (Option LinkView)) (outputs : List (List ℕ)) → IsWrittenUpTo notice messages links place now outputs → length now ≤ place → now ≡ map (told notice) links
+  pub told_all : (place : ℕ) (now : List (Option LinkView)) (outputs : List (List ℕ)) → IsWrittenUpTo notice sessions messages links place now outputs → length now ≤ place → now ≡ map (told notice) links
   told_all place now outputs so_far whole =
       let long : length now ≡ length links = ap length so_far.links_are ∙ long_as (told notice) links place in
       so_far.links_are ∙ all_changed (told notice) links place (omega arith)

@@ -1,5 +1,6 @@
 -- What the contracts of this crate cite.
 pub mod Notices
+pub mod SessionNotices
 pub mod Packets
 pub mod Links
 pub mod Outputs

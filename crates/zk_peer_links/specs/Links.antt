@@ -77,6 +77,7 @@ closed place it = hearing (set it.links place None) (it.arrivals ++ arrivals.Clo
 abbrev pub arrival_of : ℕ → Packet → Arrival
 arrival_of line (packets.Message message) = arrivals.Mail line (message ∷ [])
 arrival_of line (packets.Notice notice) = arrivals.Notice notice
+arrival_of line (packets.Session notice) = arrivals.Session notice
 
 -- what waits after these frames: no whole frame; or the first one is wrong
 abbrev pub Ends : Bool → List ℕ → List ℕ → Type 0

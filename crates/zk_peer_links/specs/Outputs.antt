@@ -8,6 +8,7 @@ use Rattle.zk_peer_links.specs.Packets.{frames_in, HasFrameIn}
 use Rattle.zk_peer_links.specs.declared.notice.Notice.{Notice}
 use Rattle.zk_peer_links.specs.declared.packet.Packet.{Packet}
 use Rattle.zk_peer_links.specs.declared.packet.Packet.TheVariants as packets
+use Rattle.zk_peer_links.specs.declared.session_notice.SessionNotice.{SessionNotice}
 use Rattle.zk_requests.specs.declared.call.Call.{Call}
 
 -- the notice, if it is not the last that was written
@@ -22,10 +23,17 @@ is_for peer message = message.addressee == peer
 abbrev pub those_for : ℕ → List (Message Call) → List Packet
 those_for peer messages = map packets.Message (filter (is_for peer) messages)
 
--- the notice, and then these
-abbrev pub packets_for : ℕ → Notice → List (Message Call) → Option LinkView → List Packet
-packets_for peer notice messages None = []
-packets_for peer notice messages (Some link) = news_for link.told notice ++ those_for peer messages
+abbrev pub is_to : ℕ → SessionNotice → Bool
+is_to peer notice = notice.addressee == peer
+
+-- the notices about sessions to a peer, in order
+abbrev pub sessions_for : ℕ → List SessionNotice → List Packet
+sessions_for peer sessions = map packets.Session (filter (is_to peer) sessions)
+
+-- the notice, those about sessions, and then the messages
+abbrev pub packets_for : ℕ → Notice → List SessionNotice → List (Message Call) → Option LinkView → List Packet
+packets_for peer notice sessions messages None = []
+packets_for peer notice sessions messages (Some link) = news_for link.told notice ++ (sessions_for peer sessions ++ those_for peer messages)
 
 abbrev pub told : Notice → Option LinkView → Option LinkView
 told notice None = None
@@ -45,6 +53,6 @@ listed None = []
 listed (Some x) = x ∷ []
 
 -- the bytes for each server
-pub record Writes (notice : Notice) (messages : List (Message Call)) (links : List (Option LinkView)) (outputs : List (List ℕ)) : Type 0 where
+pub record Writes (notice : Notice) (sessions : List SessionNotice) (messages : List (Message Call)) (links : List (Option LinkView)) (outputs : List (List ℕ)) : Type 0 where
   pub count : length outputs ≡ length links
-  pub each : (place : ℕ) → place < length links → IsWritten (packets_for (place + 1) notice messages (link_at links place)) (get_or outputs place [])
+  pub each : (place : ℕ) → place < length links → IsWritten (packets_for (place + 1) notice sessions messages (link_at links place)) (get_or outputs place [])

@@ -1,4 +1,5 @@
 use crate::notice::Notice;
+use crate::session_notice::SessionNotice;
 use zab_epoch::Messages;
 use zk_requests::Call;
 
@@ -9,6 +10,8 @@ pub enum Arrival {
     Mail { line: u64, messages: Messages<Call> },
     /// A peer has sent a notice.
     Notice(Notice),
+    /// A peer has sent a notice about a session.
+    Session(SessionNotice),
     /// The link to a peer has ended, or is a new one.
     Closed(usize),
     /// An operator makes the server lead.
@@ -23,6 +26,7 @@ impl Drop for Arrival {
                 messages: _,
             } => (),
             Arrival::Notice(_) => (),
+            Arrival::Session(_) => (),
             Arrival::Closed(_) => (),
             Arrival::Lead => (),
         }

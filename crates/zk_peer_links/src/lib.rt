@@ -1,5 +1,5 @@
-//! The links of a server to the others, as bytes: Zab's messages and the notices of elections, each in
-//! a frame, on connections that are cut and opened again.
+//! The links of a server to the others, as bytes: Zab's messages, the notices of elections and those
+//! about sessions, each in a frame, on connections that are cut and opened again.
 //!
 //! ZooKeeper, classes `QuorumCnxManager` and `LearnerHandler`; one connection serves for both here.
 #![tactic(auto)]
@@ -15,6 +15,8 @@ mod notice;
 mod notice_contents;
 mod outgoing;
 mod packet;
+mod session_contents;
+mod session_notice;
 
 pub use arrival::Arrival;
 pub use chunk::Chunk;
@@ -24,3 +26,4 @@ pub use link_input::LinkInput;
 pub use links::{Heard, Links};
 pub use notice::Notice;
 pub use packet::Packet;
+pub use session_notice::{SessionNews, SessionNotice};

@@ -23,7 +23,7 @@ const KIND: u32 = 12;
 const LENGTH: usize = 48;
 
 /// The sender, the addressee, the kind, and the bytes after them.
-fn head(bytes: &[u8]) -> (u64, u64, u32, &[u8])
+pub(crate) fn head(bytes: &[u8]) -> (u64, u64, u32, &[u8])
     requires { 20 ≤ length bytes.now }
     ensures server { result.0 ≡ from_be_bytes w64 (take 8 bytes.now) }
     ensures addressee { result.1 ≡ from_be_bytes w64 (take 8 (drop 8 bytes.now)) }

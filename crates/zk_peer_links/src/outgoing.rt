@@ -3,7 +3,7 @@
 ghost use Rattle.std.specs.Prelude.{◌≡◌, ◌++◌, ◌+◌, ◌<◌, ◌∷◌, [], map, filter, length, slice_get, Some, None, IfOk, IfSome, IfNone, OnOk};
 ghost use Rattle.std.specs.List.{AllByRecursion};
 ghost use Rattle.zab_epoch.specs.Shortness.{IsShortBody};
-ghost use Rattle.zk_peer_links.specs.Outputs.{is_for, news_for, packets_for, told, Appends, IsWritten, Writes};
+ghost use Rattle.zk_peer_links.specs.Outputs.{is_for, news_for, packets_for, sessions_for, told, Appends, IsWritten, Writes};
 ghost use Rattle.zk_peer_links.specs.declared.packet.Packet.TheVariants as packets;
 
 use crate::chunk::Chunk;
@@ -11,6 +11,8 @@ use crate::link::Link;
 use crate::links::Links;
 use crate::notice::Notice;
 use crate::notice_contents::write_notice;
+use crate::session_contents::write_session;
+use crate::session_notice::SessionNotice;
 use std::alloc::Global;
 use zab_epoch::{Message, Messages};
 use zab_frames::write_message;
@@ -83,6 +85,38 @@ fn write_messages(
     Ok(())
 }
 
+/// Writes a notice about a session if it is to the peer.
+#[tactic(auto, using(crate::proofs::Writing::session_not_for, crate::proofs::Writing::session_written))]
+fn write_session_to(
+    alloc: Global,
+    out: &mut Vec<u8>,
+    peer: usize,
+    notice: &SessionNotice,
+) -> Result<(), NoMemory>
+    ensures { OnOk result (Appends (sessions_for peer (notice.now ∷ [])) out.old.items out.new.items) }
+{
+    if notice.addressee != peer {
+        return Ok(());
+    }
+    write_session(alloc, out, notice)
+}
+
+/// Writes the notices about sessions to a peer, in order.
+#[tactic(auto, using(crate::proofs::Writing::sessions_none, crate::proofs::Writing::sessions_more, crate::proofs::Writing::sessions_whole))]
+fn write_sessions(
+    alloc: Global,
+    out: &mut Vec<u8>,
+    peer: usize,
+    sessions: &[SessionNotice],
+) -> Result<(), NoMemory>
+    ensures { OnOk result (Appends (sessions_for peer sessions.now) out.old.items out.new.items) }
+{
+    for index in 0..sessions.len() {
+        write_session_to(alloc, out, peer, &sessions[index])?;
+    }
+    Ok(())
+}
+
 /// What is written to a peer.
 #[tactic(auto, using(crate::proofs::Writing::written_none, crate::proofs::Writing::written_link))]
 fn write_to(
@@ -90,14 +124,16 @@ fn write_to(
     link: &mut Option<Link>,
     peer: usize,
     notice: &Notice,
+    sessions: &[SessionNotice],
     messages: &Messages<Call>,
 ) -> Result<Chunk, NoMemory>
-    ensures written { IfOk result (IsWritten (packets_for peer notice.now messages.now link.old)) }
+    ensures written { IfOk result (IsWritten (packets_for peer notice.now sessions.now messages.now link.old)) }
     ensures told { OnOk result (link.new ≡ told notice.now link.old) }
 {
     let mut out = Vec::new(alloc);
     if let Some(connection) = link {
         write_news(alloc, &mut out, &connection.told, notice)?;
+        write_sessions(alloc, &mut out, peer, sessions)?;
         write_messages(alloc, &mut out, peer, messages)?;
         connection.told = Some(*notice);
     }
@@ -106,22 +142,24 @@ fn write_to(
 
 impl Links {
     /// The bytes for each server, by place: the notice, if it is not the last that was written to it,
-    /// and the messages to it, in order; none without a connection. After an error the links are of
+    /// and the notices about sessions and the messages to it, in order; none without a connection. After an error the links are of
     /// no more use.
     #[tactic(auto, using(crate::proofs::Writing::writes_none, crate::proofs::Writing::writes_all, crate::proofs::Writing::told_all))]
     pub fn write(
         &mut self,
         alloc: Global,
         notice: &Notice,
+        sessions: &[SessionNotice],
         messages: &Messages<Call>,
     ) -> Result<Vec<Chunk>, NoMemory>
-        ensures writes { IfOk result (λ outputs. Writes notice.now messages.now self.old.links.items outputs.items) }
+        ensures writes { IfOk result (λ outputs. Writes notice.now sessions.now messages.now self.old.links.items outputs.items) }
         ensures told { OnOk result (self.new.links.items ≡ map (told notice.now) self.old.links.items) }
         ensures me { self.new.me ≡ self.old.me }
     {
         let mut outputs = Vec::new(alloc);
         for place in 0..self.links.len() {
-            let bytes = write_to(alloc, &mut self.links[place], place + 1, notice, messages)?;
+            let link = &mut self.links[place];
+            let bytes = write_to(alloc, link, place + 1, notice, sessions, messages)?;
             outputs.push(bytes)?;
         }
         Ok(outputs)

@@ -3,11 +3,14 @@
 ghost use Rattle.std.specs.Prelude.{◌≡◌, ◌≤◌, None, length, drop, IfOk, IfSome, IfNone, OnOk};
 ghost use Rattle.zab_frames.specs.Streams.{new_stream, with_bytes};
 ghost use Rattle.zk_peer_links.specs.Links.{arrival_of};
-ghost use Rattle.zk_peer_links.specs.Packets.{BeginsWith, HasNoNotice, IsShortIn, StepsTo};
+ghost use Rattle.zk_peer_links.specs.Packets.{BeginsWith, HasNoNotice, HasNoSession, IsShortIn, StepsTo};
+ghost use Rattle.zk_peer_links.specs.declared.packet.Packet.TheVariants as packets;
 
 use crate::arrival::Arrival;
 use crate::notice::Notice;
 use crate::notice_contents::read_notice;
+use crate::session_contents::read_session;
+use crate::session_notice::SessionNotice;
 use std::alloc::Global;
 use zab_epoch::{Message, Messages};
 use zab_frames::{DecodeFault, Decoder, first_frame};
@@ -19,6 +22,7 @@ use zk_requests::Call;
 pub enum Packet {
     Message(Message<Call>),
     Notice(Notice),
+    Session(SessionNotice),
 }
 
 /// What becomes of the first frame that a link has brought.
@@ -34,10 +38,13 @@ pub(crate) enum Step {
 /// The number of bytes of a notice's frame.
 const NOTICE: usize = 64;
 
+/// The number of bytes of the frame of a notice about a session.
+const SESSION: usize = 48;
+
 /// The notice whose frame comes first; `None` if there is none.
 #[tactic(auto, using(crate::proofs::Reading::begins_with, crate::proofs::Reading::no_frame, crate::proofs::Reading::no_notice, crate::proofs::Reading::wrong_frame))]
 fn first_notice(bytes: &[u8]) -> Option<Notice>
-    ensures found { IfSome result (BeginsWith bytes.now) }
+    ensures found { IfSome result (λ notice. BeginsWith bytes.now 64 (packets.Notice notice)) }
     ensures none { IfNone result (HasNoNotice bytes.now) }
 {
     match first_frame(bytes) {
@@ -47,12 +54,25 @@ fn first_notice(bytes: &[u8]) -> Option<Notice>
     }
 }
 
-/// The bytes after the frame of a notice.
-fn after_notice(decoder: &Decoder) -> &[u8]
-    requires { 64 ≤ length decoder.now.rest }
-    ensures { result.now ≡ drop 64 decoder.now.rest }
+/// The notice about a session whose frame comes first; `None` if there is none.
+#[tactic(auto, using(crate::proofs::Reading::begins_with_session, crate::proofs::Reading::no_session_frame, crate::proofs::Reading::no_session, crate::proofs::Reading::wrong_session))]
+fn first_session(bytes: &[u8]) -> Option<SessionNotice>
+    ensures found { IfSome result (λ notice. BeginsWith bytes.now 48 (packets.Session notice)) }
+    ensures none { IfNone result (HasNoSession bytes.now) }
 {
-    &decoder.rest()[NOTICE..]
+    match first_frame(bytes) {
+        Ok(Some(contents)) => read_session(contents),
+        Ok(None) => None,
+        Err(_) => None,
+    }
+}
+
+/// The bytes after the first ones.
+fn after(decoder: &Decoder, size: usize) -> &[u8]
+    requires { size ≤ length decoder.now.rest }
+    ensures { result.now ≡ drop size decoder.now.rest }
+{
+    &decoder.rest()[size..]
 }
 
 /// A decoder to which these bytes have come.
@@ -64,28 +84,32 @@ fn decoder_of(alloc: Global, bytes: &[u8]) -> Result<Decoder, NoMemory>
     Ok(decoder)
 }
 
-/// Removes the frame of a notice. If an allocation fails, nothing changes.
-fn skip_notice(alloc: Global, decoder: &mut Decoder) -> Result<(), NoMemory>
-    requires long { 64 ≤ length decoder.old.rest }
+/// Removes a frame of this number of bytes. If an allocation fails, nothing changes.
+fn skip(alloc: Global, decoder: &mut Decoder, size: usize) -> Result<(), NoMemory>
+    requires long { size ≤ length decoder.old.rest }
     requires sound { decoder.old.fault ≡ None }
-    ensures rest { OnOk result (decoder.new.rest ≡ drop 64 decoder.old.rest) }
+    ensures rest { OnOk result (decoder.new.rest ≡ drop size decoder.old.rest) }
     ensures sound { decoder.new.fault ≡ None }
 {
-    let later = decoder_of(alloc, after_notice(decoder))?;
+    let later = decoder_of(alloc, after(decoder, size))?;
     *decoder = later;
     Ok(())
 }
 
 /// Takes the first frame. After a wrong one the decoder is of no more use.
-#[tactic(auto, using(crate::proofs::Reading::took_notice, crate::proofs::Reading::took_message, crate::proofs::Reading::waits_still, crate::proofs::Reading::is_wrong))]
+#[tactic(auto, using(crate::proofs::Reading::took_first, crate::proofs::Reading::took_message, crate::proofs::Reading::waits_still, crate::proofs::Reading::is_wrong))]
 pub(crate) fn take_packet(alloc: Global, decoder: &mut Decoder) -> Result<Step, NoMemory>
     requires sound { decoder.old.fault ≡ None }
     ensures steps { IfOk result (λ step. StepsTo decoder.old.rest step decoder.new.rest) }
     ensures sound { decoder.new.fault ≡ None }
 {
     if let Some(notice) = first_notice(decoder.rest()) {
-        skip_notice(alloc, decoder)?;
+        skip(alloc, decoder, NOTICE)?;
         return Ok(Step::Took(Packet::Notice(notice)));
+    }
+    if let Some(notice) = first_session(decoder.rest()) {
+        skip(alloc, decoder, SESSION)?;
+        return Ok(Step::Took(Packet::Session(notice)));
     }
     match decoder.next(alloc) {
         Ok(Some(message)) => Ok(Step::Took(Packet::Message(message))),
@@ -105,6 +129,7 @@ pub(crate) fn arrival_of(alloc: Global, line: u64, packet: Packet) -> Result<Arr
 {
     match packet {
         Packet::Notice(notice) => Ok(Arrival::Notice(notice)),
+        Packet::Session(notice) => Ok(Arrival::Session(notice)),
         Packet::Message(message) => {
             let Message {
                 sender,
