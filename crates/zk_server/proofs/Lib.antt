@@ -7,7 +7,7 @@ pub mod Acting
 pub mod Turning
 pub mod Settling
 pub mod Schedules
-mod Linking
-mod LinkWriting
-mod LinkedSchedules
-mod LinkedTurning
+pub mod Linking
+pub mod LinkWriting
+pub mod LinkedSchedules
+pub mod LinkedTurning

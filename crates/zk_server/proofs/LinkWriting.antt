@@ -7,11 +7,12 @@ use Rattle.std.proofs.lemmas.Grind.{flat_map-append}
 use Rattle.zab_epoch.specs.declared.message.Message.{Message}
 use Rattle.zk_peer_links.specs.Links.{LinkView, link_at}
 use Rattle.zk_peer_links.specs.Notices.{is_same}
-use Rattle.zk_peer_links.specs.Outputs.{IsWritten, Writes, is_for, news_for, packets_for, those_for}
+use Rattle.zk_peer_links.specs.Outputs.{IsWritten, Writes, is_for, is_to, news_for, packets_for, sessions_for, those_for}
 use Rattle.zk_peer_links.specs.Packets.{HasFrameIn, frames_in, message_in, messages_in}
 use Rattle.zk_peer_links.specs.declared.notice.Notice.{Notice}
 use Rattle.zk_peer_links.specs.declared.packet.Packet.{Packet}
 use Rattle.zk_peer_links.specs.declared.packet.Packet.TheVariants as packets
+use Rattle.zk_peer_links.specs.declared.session_notice.SessionNotice.{SessionNotice}
 use Rattle.zk_peer_links.proofs.Streams.{both_all, frames-append}
 use Rattle.zk_requests.specs.declared.call.Call.{Call}
 use Rattle.zk_server.specs.LinkedEnsembles.{Differ, written_from}
@@ -50,6 +51,10 @@ those_are : (messages : List (Message Call)) → messages_in (map packets.Messag
 those_are [] = refl
 those_are (message ∷ messages) = ap (λ (l : List (Message Call)). message ∷ l) (those_are messages)
 
+sessions_silent : (notices : List SessionNotice) → messages_in (map packets.Session notices) ≡ []
+sessions_silent [] = refl
+sessions_silent (notice ∷ notices) = sessions_silent notices
+
 news_silent : (told : Option Notice) (notice : Notice) → messages_in (news_for told notice) ≡ []
 news_silent None notice = refl
 news_silent (Some told) notice = by_test (is_same told notice)
@@ -75,7 +80,7 @@ open_here at slot slots peer same = (let yes : (peer == at) ≡ true = grind (ar
 open_later : (at : ℕ) (slot : Option LinkView) (slots : List (Option LinkView)) (peer : ℕ) → peer ≢ at → open_from at (slot ∷ slots) peer ≡ open_from (at + 1) slots peer
 open_later at slot slots peer differs = (let no : (peer == at) ≡ false = grind (arith, nat_tests) in ap (λ (b : Bool). if b then is_some slot else open_from (at + 1) slots peer) no)
 
-module _ (notice : Notice) (messages : List (Message Call)) (line_to : ℕ → ℕ) (differ : Differ line_to) (line : ℕ) where
+module _ (notice : Notice) (sessions : List SessionNotice) (messages : List (Message Call)) (line_to : ℕ → ℕ) (differ : Differ line_to) (line : ℕ) where
   -- no open link goes on the connection; or one does, and its server's messages are written
   abbrev Says : ℕ → List (Option LinkView) → List Packet → Type 0
   Says at slots its =
@@ -89,7 +94,7 @@ module _ (notice : Notice) (messages : List (Message Call)) (line_to : ℕ → �
     says : Says at slots its
 
   abbrev EachWritten : ℕ → List (Option LinkView) → List (List ℕ) → Type 0
-  EachWritten at slots outputs = (place : ℕ) → place < length slots → IsWritten (packets_for (at + place) notice messages (link_at slots place)) (get_or outputs place [])
+  EachWritten at slots outputs = (place : ℕ) → place < length slots → IsWritten (packets_for (at + place) notice sessions messages (link_at slots place)) (get_or outputs place [])
 
   -- the next server's bytes go on another connection
   passed : (at : ℕ) (slot : Option LinkView) (slots : List (Option LinkView)) (its : List Packet) → (line_to at ≢ line) ⊎ (slot ≡ None) → Says (at + 1) slots its → Says at (slot ∷ slots) its
@@ -107,7 +112,7 @@ module _ (notice : Notice) (messages : List (Message Call)) (line_to : ℕ → �
       later peer opens same = (let no : false ≡ true = sym (not_below (at + 1) slots peer (omega arith)) ∙ opens in absurd cc)
 
   -- the next server's bytes go on this connection
-  added : (at : ℕ) (link : LinkView) (slots : List (Option LinkView)) (its : List Packet) → line_to at ≡ line → Says (at + 1) slots its → Says at (Some link ∷ slots) (packets_for at notice messages (Some link) ++ its)
+  added : (at : ℕ) (link : LinkView) (slots : List (Option LinkView)) (its : List Packet) → line_to at ≡ line → Says (at + 1) slots its → Says at (Some link ∷ slots) (packets_for at notice sessions messages (Some link) ++ its)
   added at link slots its here (inl none) =
       inr (
         at,
@@ -115,9 +120,12 @@ module _ (notice : Notice) (messages : List (Message Call)) (line_to : ℕ → �
           here,
           (
             open_here at (Some link) slots at refl,
-            messages_both (packets_for at notice messages (Some link)) its
-                ∙ ap (λ l. messages_in (packets_for at notice messages (Some link)) ++ l) none.0 ∙ append-nil (messages_in (packets_for at notice messages (Some link)))
-                ∙ messages_both (news_for link.told notice) (those_for at messages) ∙ ap (λ l. l ++ messages_in (those_for at messages)) (news_silent link.told notice) ∙ those_are (filter (is_for at) messages),
+            messages_both (packets_for at notice sessions messages (Some link)) its
+                ∙ ap (λ l. messages_in (packets_for at notice sessions messages (Some link)) ++ l) none.0 ∙ append-nil (messages_in (packets_for at notice sessions messages (Some link)))
+                ∙ messages_both (news_for link.told notice) (sessions_for at sessions ++ those_for at messages)
+                ∙ ap (λ l. l ++ messages_in (sessions_for at sessions ++ those_for at messages)) (news_silent link.told notice)
+                ∙ messages_both (sessions_for at sessions) (those_for at messages)
+                ∙ ap (λ l. l ++ messages_in (those_for at messages)) (sessions_silent (filter (is_to at) sessions)) ∙ those_are (filter (is_for at) messages),
           ),
         ),
       )
@@ -127,11 +135,11 @@ module _ (notice : Notice) (messages : List (Message Call)) (line_to : ℕ → �
       absurd cc)
 
   -- one server's bytes, and then those of the later ones
-  piece : (at : ℕ) (slot : Option LinkView) (slots : List (Option LinkView)) (outputs : List (List ℕ)) (bytes : List ℕ) → IsWritten (packets_for at notice messages slot) bytes
+  piece : (at : ℕ) (slot : Option LinkView) (slots : List (Option LinkView)) (outputs : List (List ℕ)) (bytes : List ℕ) → IsWritten (packets_for at notice sessions messages slot) bytes
       → Pieces (at + 1) slots (written_from (at + 1) line_to outputs line) → Pieces at (slot ∷ slots) (written_from at line_to (bytes ∷ outputs) line)
   piece at slot slots outputs bytes written later = by_test (line_to at == line) refl slot written
     where
-      by_test : (b : Bool) → (line_to at == line) ≡ b → (s : Option LinkView) → IsWritten (packets_for at notice messages s) bytes
+      by_test : (b : Bool) → (line_to at == line) ≡ b → (s : Option LinkView) → IsWritten (packets_for at notice sessions messages s) bytes
           → Pieces at (s ∷ slots) ((if b then bytes else []) ++ written_from (at + 1) line_to outputs line)
       by_test false is s head = record { its = later.its; each = later.each; whole = later.whole; says = passed at s slots later.its (inl (grind (arith, nat_tests))) later.says }
       by_test true is None head = record {
@@ -141,10 +149,10 @@ module _ (notice : Notice) (messages : List (Message Call)) (line_to : ℕ → �
         says = passed at None slots later.its (inr refl) later.says;
       }
       by_test true is (Some link) head = record {
-        its = packets_for at notice messages (Some link) ++ later.its;
-        each = both_all HasFrameIn (packets_for at notice messages (Some link)) later.its head.each later.each;
-        whole = ap (λ (l : List ℕ). l ++ written_from (at + 1) line_to outputs line) head.bytes_are ∙ ap (λ (l : List ℕ). frames_in (packets_for at notice messages (Some link)) ++ l) later.whole
-            ∙ sym (frames-append (packets_for at notice messages (Some link)) later.its);
+        its = packets_for at notice sessions messages (Some link) ++ later.its;
+        each = both_all HasFrameIn (packets_for at notice sessions messages (Some link)) later.its head.each later.each;
+        whole = ap (λ (l : List ℕ). l ++ written_from (at + 1) line_to outputs line) head.bytes_are ∙ ap (λ (l : List ℕ). frames_in (packets_for at notice sessions messages (Some link)) ++ l) later.whole
+            ∙ sym (frames-append (packets_for at notice sessions messages (Some link)) later.its);
         says = added at link slots later.its (grind (arith, nat_tests)) later.says;
       }
 
@@ -153,9 +161,9 @@ module _ (notice : Notice) (messages : List (Message Call)) (line_to : ℕ → �
   pieces at [] (bytes ∷ outputs) long each = absurd (omega arith)
   pieces at (slot ∷ slots) [] long each = absurd (omega arith)
   pieces at (slot ∷ slots) (bytes ∷ outputs) long each =
-      piece at slot slots outputs bytes (subst (λ (n : ℕ). IsWritten (packets_for n notice messages slot) bytes) (omega arith) (each 0 (omega arith)))
+      piece at slot slots outputs bytes (subst (λ (n : ℕ). IsWritten (packets_for n notice sessions messages slot) bytes) (omega arith) (each 0 (omega arith)))
       (pieces (at + 1) slots outputs (omega arith)
-      (λ place within. subst (λ (n : ℕ). IsWritten (packets_for n notice messages (link_at slots place)) (get_or outputs place [])) (omega arith) (each (suc place) (omega arith))))
+      (λ place within. subst (λ (n : ℕ). IsWritten (packets_for n notice sessions messages (link_at slots place)) (get_or outputs place [])) (omega arith) (each (suc place) (omega arith))))
 
   -- messages to a server without an open link are lost: they go on the connection 0, which nobody reads
   abbrev pub route : List (Option LinkView) → ℕ → ℕ
@@ -181,11 +189,11 @@ module _ (notice : Notice) (messages : List (Message Call)) (line_to : ℕ → �
           (let other : 0 ≢ line = λ e. some (sym e) in
           let no : (peer == one.0) ≡ false = grind (arith, nat_tests) in let off : (0 == line) ≡ false = grind (arith, nat_tests) in off ∙ sym no)
 
-  pub wrote : (links : List (Option LinkView)) (outputs : List (List ℕ)) → line ≢ 0 → Writes notice messages links outputs
+  pub wrote : (links : List (Option LinkView)) (outputs : List (List ℕ)) → line ≢ 0 → Writes notice sessions messages links outputs
       → Wrote (written_from 1 line_to outputs line) (filter (λ (message : Message Call). route links message.addressee == line) messages)
   wrote links outputs some writes =
       let all = pieces 1 links outputs writes.count
-      (λ place within. subst (λ (n : ℕ). IsWritten (packets_for n notice messages (link_at links place)) (get_or outputs place [])) (omega arith) (writes.each place within)) in
+      (λ place within. subst (λ (n : ℕ). IsWritten (packets_for n notice sessions messages (link_at links place)) (get_or outputs place [])) (omega arith) (writes.each place within)) in
       record { its = all.its; each = all.each; whole = all.whole; said = routed links all.its some all.says }
 
 -- nothing is written, and all messages are lost

@@ -32,7 +32,7 @@ use Rattle.zk_server.proofs.LinkWriting.{Wrote, carries_more, route, wrote, wrot
 -- ---- what a server's connections carry, after a turn
 
 -- no connection is carry
-closed_links : (reader : ℕ → ℕ) (number : ℕ) (links : List (Option LinkView)) (flight : ℕ → List ℕ) (used : ℕ → Bool) (left : ℕ → List (Message Call)) → AllClosed links → Links reader number links flight used left
+pub closed_links : (reader : ℕ → ℕ) (number : ℕ) (links : List (Option LinkView)) (flight : ℕ → List ℕ) (used : ℕ → Bool) (left : ℕ → List (Message Call)) → AllClosed links → Links reader number links flight used left
 closed_links reader number links flight used left closed = record {
   known = λ place link at. (let no : None ≡ Some link = sym (closed place) ∙ at in absurd cc);
   unique = λ p q one other at_p at_q same. (let no : None ≡ Some one = sym (closed p) ∙ at_p in absurd cc);
@@ -48,7 +48,7 @@ told_at notice (Some was ∷ links) zero link at =
     (let e : record was { told = Some notice } ≡ link = cc in (was, (refl, (ap (λ (l : LinkView). l.number) e, ap (λ (l : LinkView). l.rest) e))))
 told_at notice (slot ∷ links) (suc place) link at = told_at notice links place link at
 
-told_links : (reader : ℕ → ℕ) (number : ℕ) (notice : Notice) (links new : List (Option LinkView)) (flight : ℕ → List ℕ) (used : ℕ → Bool) (left : ℕ → List (Message Call)) → new ≡ map (told notice) links
+pub told_links : (reader : ℕ → ℕ) (number : ℕ) (notice : Notice) (links new : List (Option LinkView)) (flight : ℕ → List ℕ) (used : ℕ → Bool) (left : ℕ → List (Message Call)) → new ≡ map (told notice) links
     → Links reader number links flight used left → Links reader number new flight used left
 told_links reader number notice links new flight used left now is = subst (λ (l : List (Option LinkView)). Links reader number l flight used left) (sym now)
     record {
@@ -61,7 +61,7 @@ told_links reader number notice links new flight used left now is = subst (λ (l
     }
 
 -- more is written on connections
-more_links : (reader : ℕ → ℕ) (number : ℕ) (links : List (Option LinkView)) (flight more : ℕ → List ℕ) (used : ℕ → Bool) (left others now : ℕ → List (Message Call)) → ((line : ℕ) → line ≢ 0 → Wrote (more line) (others line))
+pub more_links : (reader : ℕ → ℕ) (number : ℕ) (links : List (Option LinkView)) (flight more : ℕ → List ℕ) (used : ℕ → Bool) (left others now : ℕ → List (Message Call)) → ((line : ℕ) → line ≢ 0 → Wrote (more line) (others line))
     → ((line : ℕ) → now line ≡ left line ++ others line) → Links reader number links flight used left → Links reader number links (λ line. flight line ++ more line) used now
 more_links reader number links flight more used left others now writes is it = record {
   known = it.known;
@@ -72,7 +72,7 @@ more_links reader number links flight more used left others now writes is it = r
 }
 
 -- what another server's connections carry stays
-other_links : (reader : ℕ → ℕ) (number other : ℕ) (links : List (Option LinkView)) (flight now : ℕ → List ℕ) (used known : ℕ → Bool) (sent left : ℕ → List (Message Call)) → other ≢ number
+pub other_links : (reader : ℕ → ℕ) (number other : ℕ) (links : List (Option LinkView)) (flight now : ℕ → List ℕ) (used known : ℕ → Bool) (sent left : ℕ → List (Message Call)) → other ≢ number
     → ((line : ℕ) → (reader line ≢ number) → (now line ≡ flight line) × ((left line ≡ sent line) × (known line ≡ used line))) → Links reader other links flight used sent → Links reader other links now known left
 other_links reader number other links flight now used known sent left differs still is = record {
   known = λ place link at. (let was = is.known place link at in ((foreign place link at).1.1 ∙ was.0, was.1));
@@ -182,7 +182,7 @@ module _ {S : Type 0} (clean : S → Type 0) (may_recover : S → Stable → Typ
       let call = may.1.1.1 in
       let notice = notice_of next.peer.election in
       let heard = heard_of x y number its call.between call.arrivals ended sim may.1.0 call.hears in
-      let to = route notice call.messages line_to may.1.1.0 0 call.between in
+      let to = route notice [] call.messages line_to may.1.1.0 0 call.between in
       record {
         events = peers.Turned number call.arrivals to next.peer call.messages ∷ [];
         may = (
@@ -192,7 +192,7 @@ module _ {S : Type 0} (clean : S → Type 0) (may_recover : S → Stable → Typ
         sim = after x y number its call.between call.arrivals ended sim heard next next.peer (written_from 1 line_to outputs) (λ line. filter (λ message. to message.addressee == line) call.messages)
             (peers.posted to call.messages (peers.arrived call.arrivals y.flight)) refl
             (told_links reader number notice call.between next.links (flight_after its x.flight) (used_after its x.used) heard.left call.links heard.links)
-            (λ line some. wrote notice call.messages line_to may.1.1.0 line call.between outputs some call.writes)
+            (λ line some. wrote notice [] call.messages line_to may.1.1.0 line call.between outputs some call.writes)
             (posted_is x y number its call.between call.arrivals ended sim heard to call.messages);
       }
 

@@ -55,7 +55,7 @@ module _ {S : Type 0} (may_recover : S → Stable → Type 0) (boots : S → ℕ
         → LinkedStops may_recover boots inputs (linked old links) (linked new now)
     unwritten mid messages turns ends closed = record { why = stopping.Unwritten arrivals between ended hears mid messages turns ends; closed = closed_all left now closed }
 
-    pub turns_all : (messages : List (Message Call)) (notice : Notice) (outputs : List (List ℕ)) → Turns may_recover boots arrivals old new messages → notice ≡ notice_of new.election → Writes notice messages between outputs
+    pub turns_all : (messages : List (Message Call)) (notice : Notice) (outputs : List (List ℕ)) → Turns may_recover boots arrivals old new messages → notice ≡ notice_of new.election → Writes notice [] messages between outputs
         → now ≡ map (told notice) between → LinkedTurns may_recover boots inputs (linked old links) (linked new now) outputs ended
     turns_all messages notice outputs turns said writes told_now = record {
       arrivals = arrivals;
@@ -63,6 +63,6 @@ module _ {S : Type 0} (may_recover : S → Stable → Type 0) (boots : S → ℕ
       messages = messages;
       hears = hears;
       turns = turns;
-      writes = subst (λ (n : Notice). Writes n messages between outputs) said writes;
+      writes = subst (λ (n : Notice). Writes n [] messages between outputs) said writes;
       links = told_now ∙ ap (λ (n : Notice). map (told n) between) said;
     }

@@ -170,13 +170,14 @@ pub brought_both : (a b : List Arrival) (line : ℕ) → brought_on (a ++ b) lin
 brought_both [] b line = refl
 brought_both (arrival ∷ a) b line = ap (λ l. brought_by line arrival ++ l) (brought_both a b line) ∙ sym (append_assoc (brought_by line arrival) (brought_on a line) (brought_on b line))
 
+nothing_brought : (b : Bool) → (let none : List (Message Call) = [] in none ≡ (if b then [] else []))
+nothing_brought true = refl
+nothing_brought false = refl
+
 brought_one : (line other : ℕ) (packet : Packet) → brought_by other (arrival_of line packet) ≡ (if line == other then message_in packet else [])
 brought_one line other (packets.Message message) = refl
-brought_one line other (packets.Notice notice) = by_test (line == other)
-  where
-    by_test : (b : Bool) → (let none : List (Message Call) = [] in none ≡ (if b then [] else []))
-    by_test true = refl
-    by_test false = refl
+brought_one line other (packets.Notice notice) = nothing_brought (line == other)
+brought_one line other (packets.Session notice) = nothing_brought (line == other)
 
 -- what packets bring on their own connection, and on others
 brought_all : (line : ℕ) (its : List Packet) → brought_on (map (arrival_of line) its) line ≡ messages_in its

@@ -63,6 +63,7 @@ on_own_line line messages place message is =
 on_arrival : (arrival : Arrival) (place : ℕ) (message : Message Call) → slice_get (mail_of arrival) place ≡ Some message → IsOn (λ line. brought_by line arrival) message
 on_arrival (arrivals.Mail line messages) place message is = (line, (place, on_own_line line messages place message is))
 on_arrival (arrivals.Notice notice) place message is = absurd cc
+on_arrival (arrivals.Session notice) place message is = absurd cc
 on_arrival (arrivals.Closed peer) place message is = absurd cc
 on_arrival arrivals.Lead place message is = absurd cc
 

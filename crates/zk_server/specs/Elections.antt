@@ -1,6 +1,6 @@
 -- Elections of a leader. ZooKeeper, class FastLeaderElection, with a simpler end: the server with
 -- the greatest vote leads, and says so, and the others follow whoever says so.
-use Rattle.std.specs.Prelude.{ℕ, ◌+◌, ◌/◌, ◌==◌, ◌&&◌, ◌||◌, not, nat_le, Bool, true, false, List, [], ◌∷◌, ◌++◌, length, filter, find, Option, Some, None, if◌then◌else◌}
+use Rattle.std.specs.Prelude.{ℕ, ◌+◌, ◌/◌, ◌==◌, ◌&&◌, ◌||◌, not, nat_eq, nat_le, nat_lt, Bool, true, false, List, [], ◌∷◌, ◌++◌, length, filter, find, Option, Some, None, if◌then◌else◌}
 use Rattle.std.specs.List.{list_any, list_all}
 use Rattle.zab_host.specs.Votes.{total_order_predicate}
 use Rattle.zab_host.specs.declared.vote.Vote.{Vote}
@@ -13,20 +13,23 @@ use Rattle.zk_server.specs.declared.election.Position.{Position}
 use Rattle.zk_server.specs.declared.election.Position.TheVariants.{Looking, Chosen, Leads, Follows}
 use Rattle.zk_peer_links.specs.declared.notice.Notice.{Notice}
 
--- a server's position, its vote, and the last notice of each peer over a link that has not ended
+-- a server's position, its vote, and the last notice of each peer over a link that has not ended; the
+-- peers that it has heard of since it was last supported, and the ticks since then
 pub record ElectionView : Type 0 where
   pub servers : ℕ
   pub position : Position
   pub round : ℕ
   pub vote : Vote
   pub heard : List Notice
+  pub alive : List ℕ
+  pub silence : ℕ
 
-abbrev pub election : ℕ → Position → ℕ → Vote → List Notice → ElectionView
-election servers position round vote heard =
-    record { servers = servers; position = position; round = round; vote = vote; heard = heard }
+abbrev pub election : ℕ → Position → ℕ → Vote → List Notice → List ℕ → ℕ → ElectionView
+election servers position round vote heard alive silence =
+    record { servers = servers; position = position; round = round; vote = vote; heard = heard; alive = alive; silence = silence }
 
 abbrev pub new_election : ℕ → Vote → ElectionView
-new_election servers vote = election servers Looking 0 vote []
+new_election servers vote = election servers Looking 0 vote [] [] 0
 
 -- ---- a server's notice
 
@@ -55,6 +58,13 @@ is_doubted_at (Follows leader) notice it = is_leaders notice || is_from leader n
 abbrev pub is_doubted_by : Notice → ElectionView → Bool
 is_doubted_by notice it = is_doubted_at it.position notice it
 
+abbrev pub with_alive : ℕ → List ℕ → List ℕ
+with_alive server alive = if list_any (nat_eq server) alive then alive else alive ++ server ∷ []
+
+-- a peer was heard of
+abbrev pub hearing_of : ℕ → ElectionView → ElectionView
+hearing_of server it = record it { alive = with_alive server it.alive }
+
 abbrev pub without : ℕ → List Notice → List Notice
 without server heard = filter (λ notice. not (is_from server notice)) heard
 
@@ -62,6 +72,7 @@ abbrev pub after_notice : Notice → ElectionView → ElectionView
 after_notice notice it = record it {
   position = if is_doubted_by notice it then Looking else it.position;
   heard = without notice.vote.server it.heard ++ notice ∷ [];
+  alive = with_alive notice.vote.server it.alive;
 }
 
 abbrev pub is_lost_at : Position → ℕ → ElectionView → Bool
@@ -84,12 +95,41 @@ after_close peer it =
 abbrev pub after_arrival : Arrival → ElectionView → ElectionView
 after_arrival (arrivals.Mail line messages) it = it
 after_arrival (arrivals.Notice notice) it = after_notice notice it
+after_arrival (arrivals.Session notice) it = hearing_of notice.sender it
 after_arrival (arrivals.Closed peer) it = after_close peer it
 after_arrival arrivals.Lead it = record it { position = Chosen }
 
 abbrev pub after_arrivals : List Arrival → ElectionView → ElectionView
 after_arrivals [] it = it
 after_arrivals (arrival ∷ arrivals) it = after_arrivals arrivals (after_arrival arrival it)
+
+-- ---- ticks. Administrator's Guide, `syncLimit`; class Leader, lead: hasAllQuorums of those that are synced
+
+-- in ticks, as in the guide's sample configuration
+abbrev pub sync_limit : ℕ
+sync_limit = 5
+
+-- a leader has heard of a quorum with itself
+abbrev pub is_supported_at : Position → ElectionView → Bool
+is_supported_at Leads it = nat_le (it.servers / 2) (length it.alive)
+is_supported_at position it = true
+
+abbrev pub is_supported : ElectionView → Bool
+is_supported it = is_supported_at it.position it
+
+-- a leader that has heard of no quorum for five ticks looks again
+abbrev pub after_silence : ElectionView → ElectionView
+after_silence it =
+    if nat_lt (it.silence + 1) sync_limit
+    then record it { silence = it.silence + 1 }
+    else record it { position = Looking; alive = []; silence = 0 }
+
+abbrev pub after_tick : ElectionView → ElectionView
+after_tick it = if is_supported it then record it { alive = []; silence = 0 } else after_silence it
+
+abbrev pub after_tick_if : Bool → ElectionView → ElectionView
+after_tick_if true it = after_tick it
+after_tick_if false it = it
 
 -- ---- what it decides
 
@@ -150,5 +190,5 @@ round_after position round = round
 
 abbrev pub after_choice : Choice → ElectionView → ElectionView
 after_choice Wait it = it
-after_choice Lead it = record it { position = Leads; round = round_after it.position it.round }
-after_choice (Follow leader) it = record it { position = Follows leader }
+after_choice Lead it = record it { position = Leads; round = round_after it.position it.round; alive = []; silence = 0 }
+after_choice (Follow leader) it = record it { position = Follows leader; alive = []; silence = 0 }

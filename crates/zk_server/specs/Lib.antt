@@ -1,5 +1,6 @@
 -- What the contracts of this crate cite.
 pub mod Elections
+pub mod Modes
 pub mod Deeds
 pub mod Mail
 pub mod Sites

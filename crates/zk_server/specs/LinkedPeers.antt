@@ -43,7 +43,7 @@ module _ {S : Type 0} (may_recover : S → Stable → Type 0) (boots : S → ℕ
     pub messages : List (Message Call)
     pub hears : HearsAll old.peer.me.number inputs (hearing old.links [] []) (hearing between arrivals ended)
     pub turns : Turns may_recover boots arrivals old.peer new.peer messages
-    pub writes : Writes (notice_of new.peer.election) messages between outputs
+    pub writes : Writes (notice_of new.peer.election) [] messages between outputs
     pub links : new.links ≡ map (told (notice_of new.peer.election)) between
 
   -- Why a turn stops: memory runs out for what comes, before the server takes any; the server stops; or

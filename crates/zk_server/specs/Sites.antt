@@ -1,6 +1,5 @@
 -- Whether a server runs.
 use Rattle.std.specs.Prelude.{◌≡◌, ◌≤◌, Bool, true, false, length, Option, Some}
-use Rattle.zab_broadcast.specs.Rules.{is_serving}
 use Rattle.zab_epoch.specs.declared.stable.Stable.{Stable}
 use Rattle.zab_host.specs.Hosts.{IsStored}
 use Rattle.zk_host.specs.declared.replica_host.ReplicaHost.{ReplicaHost}
@@ -11,11 +10,6 @@ use Rattle.zk_server.specs.declared.site.Site.TheVariants.{Runs, Stopped}
 abbrev pub is_running : {S : Type 0} → Site S → Bool
 is_running (Runs host) = true
 is_running (Stopped storage) = false
-
--- it leads with a quorum, or follows and has its leader's history
-abbrev pub serves : {S : Type 0} → Site S → Bool
-serves (Runs host) = is_serving host.host.state.peer.role
-serves (Stopped storage) = false
 
 -- its store; None if a start on it failed
 abbrev pub storage_in : {S : Type 0} → Site S → Option S

@@ -24,6 +24,10 @@ pub enum Choice {
     Follow(usize),
 }
 
+/// After how many ticks in which it hears of no quorum a leader looks again. ZooKeeper: `syncLimit`, here
+/// as in the Administrator's Guide's sample configuration.
+const SYNC_LIMIT: u64 = 5;
+
 /// A server's part in the elections of a leader.
 ///
 /// ZooKeeper, class `FastLeaderElection`; the end of an election is simpler here: the server with
@@ -37,6 +41,10 @@ pub struct Election {
     vote: Vote,
     /// The last notice of each peer, over a link that has not ended since.
     heard: Vec<Notice>,
+    /// The peers that it has heard of since it was last supported.
+    alive: Vec<usize>,
+    /// The ticks since then.
+    silence: u64,
 }
 
 impl Model for Election {
@@ -44,12 +52,12 @@ impl Model for Election {
 
     ghost Value = { ElectionView };
 
-    ghost view = { λ it. election it.servers it.position it.round it.vote it.heard.items };
+    ghost view = { λ it. election it.servers it.position it.round it.vote it.heard.items it.alive.items it.silence };
 }
 
 impl Election {
-    ghost use Rattle.std.specs.Prelude.{◌≡◌, OnOk};
-    ghost use Rattle.zk_server.specs.Elections.{new_election, after_arrival, after_notice, after_close, after_choice, best_leader, choice_of, is_elected, notice_of, has_quorum};
+    ghost use Rattle.std.specs.Prelude.{◌≡◌, [], OnOk};
+    ghost use Rattle.zk_server.specs.Elections.{new_election, after_arrival, after_notice, after_close, after_choice, after_tick, after_tick_if, after_silence, hearing_of, is_supported, best_leader, choice_of, is_elected, notice_of, has_quorum};
 
     /// The election of a server that has just started. It looks for a leader.
     pub fn new(alloc: Global, servers: usize, vote: Vote) -> Election
@@ -61,6 +69,8 @@ impl Election {
             round: 0,
             vote,
             heard: Vec::new(alloc),
+            alive: Vec::new(alloc),
+            silence: 0,
         }
     }
 
@@ -92,6 +102,7 @@ impl Election {
         match arrival {
             Arrival::Mail { .. } => Ok(()),
             Arrival::Notice(notice) => self.hear(notice),
+            Arrival::Session(notice) => self.hear_of(notice.sender),
             Arrival::Closed(peer) => {
                 self.forget(*peer);
                 Ok(())
@@ -111,7 +122,62 @@ impl Election {
         }
         remove_from(&mut self.heard, notice.vote.server);
         self.heard.push(*notice)?;
+        self.hear_of(notice.vote.server)
+    }
+
+    /// A peer runs.
+    fn hear_of(&mut self, peer: usize) -> Result<(), NoMemory>
+        ensures { OnOk result (self.new ≡ hearing_of peer self.old) }
+    {
+        if !is_among(&self.alive, peer) {
+            self.alive.push(peer)?;
+        }
         Ok(())
+    }
+
+    /// Records that a tick has passed, if it has. A leader that has heard of no quorum for five ticks
+    /// looks again.
+    pub fn tick(&mut self, ticked: bool)
+        ensures { self.new ≡ after_tick_if ticked self.old }
+    {
+        if !ticked {
+            return;
+        }
+        if self.is_supported() {
+            self.begin_watch();
+        } else {
+            self.bear_silence();
+        }
+    }
+
+    /// Another tick without support.
+    fn bear_silence(&mut self)
+        ensures { self.new ≡ after_silence self.old }
+    {
+        if self.silence < SYNC_LIMIT - 1 {
+            self.silence += 1;
+        } else {
+            self.position = Position::Looking;
+            self.begin_watch();
+        }
+    }
+
+    /// Nothing is heard yet.
+    fn begin_watch(&mut self)
+        ensures { self.new ≡ record self.old { alive = []; silence = 0 } }
+    {
+        self.alive.clear();
+        self.silence = 0;
+    }
+
+    /// Whether it has heard of a quorum since it last had, if it leads.
+    fn is_supported(&self) -> bool
+        ensures { result ≡ is_supported self.now }
+    {
+        match self.position {
+            Position::Leads => self.servers / 2 <= self.alive.len(),
+            _ => true,
+        }
     }
 
     /// Whether a notice makes the server look for a leader: its leader's, or that of another leader
@@ -180,7 +246,7 @@ impl Election {
         match choice {
             Choice::Wait => (),
             Choice::Lead => self.begin_to_lead(),
-            Choice::Follow(leader) => self.position = Position::Follows(leader),
+            Choice::Follow(leader) => self.begin_to_follow(leader),
         }
         choice
     }
@@ -203,6 +269,14 @@ impl Election {
     {
         self.round = round_after(self.position, self.round);
         self.position = Position::Leads;
+        self.begin_watch();
+    }
+
+    fn begin_to_follow(&mut self, leader: usize)
+        ensures { self.new ≡ after_choice (choices.Follow leader) self.old }
+    {
+        self.position = Position::Follows(leader);
+        self.begin_watch();
     }
 
     ghost use Rattle.zk_server.specs.declared.election.Choice.TheVariants as choices;
@@ -232,7 +306,7 @@ impl Election {
     ghost use Rattle.zk_server.specs.Elections.{choice_among};
 }
 
-ghost use Rattle.std.specs.Prelude.{◌≡◌, not, filter};
+ghost use Rattle.std.specs.Prelude.{◌≡◌, nat_eq, not, filter};
 ghost use Rattle.std.specs.List.{list_any, list_all};
 ghost use Rattle.zk_peer_links.specs.Notices.{is_from};
 ghost use Rattle.zk_server.specs.Elections.{best_leader, is_best, is_beaten_by, loses_to, next_round, round_after};
@@ -257,6 +331,12 @@ fn remove_from(heard: &mut Vec<Notice>, server: usize)
     ensures { heard.new.items ≡ filter (λ it. not (is_from server it)) heard.old.items }
 {
     heard.retain(|it| !it.is_from(server));
+}
+
+fn is_among(servers: &[usize], server: usize) -> bool
+    ensures { result ≡ list_any (nat_eq server) servers.now }
+{
+    servers.iter().any(|it| server == *it)
 }
 
 fn best_in(heard: &[Notice]) -> Option<Notice>

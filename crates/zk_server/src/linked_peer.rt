@@ -1,6 +1,7 @@
 ghost use Rattle.std.specs.Prelude.{◌≡◌};
 
 use crate::member::Member;
+use crate::mode::Mode;
 use crate::quorum_peer::QuorumPeer;
 use crate::stopped::Stopped;
 use std::alloc::Global;
@@ -30,11 +31,13 @@ impl<S: Storage + Drop> Drop for LinkedPeer<S> {
 }
 
 impl<S: Storage> LinkedPeer<S> {
-    ghost use Rattle.std.specs.Prelude.{true, false, IfOk, OnErr, IsErr};
+    ghost use Rattle.std.specs.Prelude.{true, false, Err, IfOk, OnErr};
+    ghost use Rattle.zk_server.specs.declared.stopped.Stopped.TheVariants as faults;
     ghost use Rattle.zk_server.specs.LinkedPeers.{linked, LinkedStarts, LinkedStops, LinkedTurns};
     ghost use Rattle.zk_server.specs.Peers.{peer};
     ghost use Rattle.zk_server.specs.Elections.{notice_of};
-    ghost use Rattle.zk_server.specs.Sites.{is_running, serves, storage_in};
+    ghost use Rattle.zk_server.specs.Modes.{mode_at};
+    ghost use Rattle.zk_server.specs.Sites.{is_running, storage_in};
 
     /// Starts a server on what its store recovers. It has no connection.
     pub fn start(alloc: Global, me: Member, storage: S) -> Result<LinkedPeer<S>, StoreFault>
@@ -56,11 +59,10 @@ impl<S: Storage> LinkedPeer<S> {
         self.peer.is_running()
     }
 
-    /// Whether it accepts clients' calls.
-    pub fn is_serving(&self) -> bool
-        ensures { result ≡ serves self.now.peer.site }
+    pub fn mode(&self) -> Mode
+        ensures { result ≡ mode_at self.now.peer.election.position self.now.peer.site }
     {
-        self.peer.is_serving()
+        self.peer.mode()
     }
 
     /// Its notice to its peers.
@@ -82,7 +84,7 @@ impl<S: Storage> LinkedPeer<S> {
         ensures stops { is_running self.old.peer.site ≡ true → OnErr result (LinkedStops S.may_recover S.boots inputs.now
             (linked (peer self.old.peer.me self.old.peer.election self.old.peer.site) self.old.links.links.items)
             (linked (peer self.new.peer.me self.new.peer.election self.new.peer.site) self.new.links.links.items)) }
-        ensures idle { is_running self.old.peer.site ≡ false → IsErr result
+        ensures idle { is_running self.old.peer.site ≡ false → (result ≡ Err faults.Before)
             × (linked (peer self.new.peer.me self.new.peer.election self.new.peer.site) self.new.links.links.items
             ≡ linked (peer self.old.peer.me self.old.peer.election self.old.peer.site) self.old.links.links.items) }
     {
@@ -99,7 +101,10 @@ impl<S: Storage> LinkedPeer<S> {
                 return Err(why);
             }
         };
-        match self.links.write(alloc, &posted.notice, &posted.messages) {
+        match self
+            .links
+            .write(alloc, &posted.notice, &[], &posted.messages)
+        {
             Ok(outputs) => Ok(Written { outputs, ended }),
             Err(_) => Err(self.stop()),
         }

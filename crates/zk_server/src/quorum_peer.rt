@@ -2,6 +2,7 @@ ghost use Rattle.zk_server.specs.Sites.{IsSettled};
 
 use crate::election::Election;
 use crate::member::Member;
+use crate::mode::Mode;
 use crate::site::Site;
 use crate::stopped::Stopped;
 use crate::turn::run;
@@ -50,10 +51,12 @@ impl<S: Storage + Drop> Drop for QuorumPeer<S> {
 }
 
 impl<S: Storage> QuorumPeer<S> {
-    ghost use Rattle.std.specs.Prelude.{◌≡◌, true, false, IfOk, OnErr, IsErr};
+    ghost use Rattle.std.specs.Prelude.{◌≡◌, true, false, Err, IfOk, OnErr};
+    ghost use Rattle.zk_server.specs.declared.stopped.Stopped.TheVariants as faults;
     ghost use Rattle.zk_server.specs.Elections.{new_election, notice_of};
     ghost use Rattle.zk_server.specs.Peers.{peer, StartsAt, Stops, Turns};
-    ghost use Rattle.zk_server.specs.Sites.{is_running, serves, storage_in};
+    ghost use Rattle.zk_server.specs.Modes.{mode_at};
+    ghost use Rattle.zk_server.specs.Sites.{is_running, storage_in};
 
     /// Starts a server on what its store recovers. It looks for a leader.
     pub fn start(alloc: Global, me: Member, storage: S) -> Result<QuorumPeer<S>, StoreFault>
@@ -75,12 +78,10 @@ impl<S: Storage> QuorumPeer<S> {
         self.site.is_running()
     }
 
-    /// Whether it accepts clients' calls: it leads, and a quorum has taken its history, or it follows,
-    /// and has taken its leader's.
-    pub fn is_serving(&self) -> bool
-        ensures { result ≡ serves self.now.site }
+    pub fn mode(&self) -> Mode
+        ensures { result ≡ mode_at self.now.election.position self.now.site }
     {
-        self.site.is_serving()
+        self.site.mode(self.election.position())
     }
 
     /// Its notice to its peers.
@@ -101,7 +102,7 @@ impl<S: Storage> QuorumPeer<S> {
         ensures stops { is_running self.old.site ≡ true → OnErr result (Stops S.may_recover S.boots arrivals.now
             (peer self.old.me self.old.election self.old.site)
             (peer self.new.me self.new.election self.new.site)) }
-        ensures idle { is_running self.old.site ≡ false → IsErr result
+        ensures idle { is_running self.old.site ≡ false → (result ≡ Err faults.Before)
             × (peer self.new.me self.new.election self.new.site ≡ peer self.old.me self.old.election self.old.site) }
     {
         match replace(&mut self.site, Site::Stopped(None)).into_host() {

@@ -1,3 +1,5 @@
+use crate::election::Position;
+use crate::mode::Mode;
 use zab_host::Storage;
 use zk_host::ReplicaHost;
 
@@ -20,7 +22,8 @@ impl<S: Storage + Drop> Drop for Site<S> {
 impl<S: Storage> Site<S> {
     ghost use Rattle.std.specs.Prelude.{◌≡◌, IfOk, IfErr};
     ghost use Rattle.zk_server.specs.declared.site.Site.TheVariants as sites;
-    ghost use Rattle.zk_server.specs.Sites.{is_running, serves, storage_in};
+    ghost use Rattle.zk_server.specs.Modes.{mode_at};
+    ghost use Rattle.zk_server.specs.Sites.{is_running, storage_in};
 
     pub fn is_running(&self) -> bool
         ensures { result ≡ is_running self.now }
@@ -28,13 +31,13 @@ impl<S: Storage> Site<S> {
         matches!(self, Site::Runs(_))
     }
 
-    /// Whether it accepts clients' calls.
-    pub fn is_serving(&self) -> bool
-        ensures { result ≡ serves self.now }
+    /// Its mode, if its election has this position.
+    pub fn mode(&self, position: Position) -> Mode
+        ensures { result ≡ mode_at position self.now }
     {
         match self {
-            Site::Runs(host) => host.is_serving(),
-            Site::Stopped(_) => false,
+            Site::Runs(host) => Mode::of(position, host.role()),
+            Site::Stopped(_) => Mode::Looking,
         }
     }
 
