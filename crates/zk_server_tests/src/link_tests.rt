@@ -1,7 +1,10 @@
 //! Links of bytes.
 
 use crate::wires::{Wires, start, start_peer};
-use zk_peer_links::{Chunk, LinkInput};
+use std::alloc::Global;
+use zab_epoch::Messages;
+use zab_host::Vote;
+use zk_peer_links::{Arrival, Chunk, LinkInput, Links, Notice, SessionNews, SessionNotice};
 
 /// The frame of the notice of server 1 that has just started: 48 bytes of contents, their Adler-32, that
 /// of the header, and the contents: sender 1, addressee 0, kind 12, round 0, epoch 0, zxid 0, leader 0.
@@ -11,6 +14,72 @@ const NOTICE: [u8; 64] = [
     0, 0, 0, 0, 0, 0, 12, 0, 0, 0, 0, 0, 0, 0, 0, 0, 0, 0, 0, 0, 0, 0, 0, 0, 0, 0, 0, 0, 0, 0, 0,
     0, 0, 0, 0,
 ];
+
+/// The frame of server 2's notice to server 1 that it has heard of session 0x100000001, whose timeout is
+/// six seconds: 32 bytes of contents, and the checksums as above.
+const TOUCHED: [u8; 48] = [
+    0, 0, 0, 0, 0, 0, 0, 32, 1, 197, 0, 155, 3, 154, 1, 130, 0, 0, 0, 0, 0, 0, 0, 2, 0, 0, 0, 0, 0,
+    0, 0, 1, 0, 0, 0, 14, 0, 0, 0, 1, 0, 0, 0, 1, 0, 0, 23, 112,
+];
+
+const TOUCH: SessionNotice = SessionNotice {
+    sender: 2,
+    addressee: 1,
+    news: SessionNews::Touched,
+    session: 0x1_0000_0001,
+    timeout: 6000,
+};
+
+/// What server 2 writes to server 1 of a notice about a session, after that of its election.
+fn written_of(alloc: Global, session: SessionNotice) -> Option<Vec<u8>> {
+    let mut links = Links::new(alloc, 2, 3).ok()?;
+    let inputs = [LinkInput::Opened { peer: 1, line: 7 }];
+    links.hear(alloc, &inputs).ok()?;
+    let notice = Notice {
+        round: 0,
+        vote: Vote {
+            epoch: 0,
+            zxid: 0,
+            server: 2,
+        },
+        leader: 0,
+    };
+    let outputs = links
+        .write(alloc, &notice, &[session], &Messages::new(alloc))
+        .ok()?;
+    let mut later = Vec::new(alloc);
+    for byte in outputs.first()?.as_slice().iter().skip(NOTICE.len()) {
+        later.push(*byte).ok()?;
+    }
+    Some(later)
+}
+
+/// What these bytes bring server 1 of sessions, if that is one notice.
+fn heard_of(alloc: Global, bytes: Vec<u8>) -> Option<SessionNotice> {
+    let mut links = Links::new(alloc, 1, 3).ok()?;
+    let inputs = [
+        LinkInput::Opened { peer: 2, line: 9 },
+        LinkInput::Brought {
+            line: 9,
+            bytes: Chunk::new(bytes),
+        },
+    ];
+    let heard = links.hear(alloc, &inputs).ok()?;
+    match heard.arrivals.get(1)? {
+        Arrival::Session(notice) => Some(*notice),
+        _ => None,
+    }
+}
+
+#[test]
+fn a_notice_about_a_session_is_its_bytes(rt: HostRuntime) {
+    let alloc = rt.alloc();
+    let Some(bytes) = written_of(alloc, TOUCH) else {
+        return;
+    };
+    assert!(rt; bytes.as_slice() == TOUCHED.as_slice());
+    assert!(rt; heard_of(alloc, bytes) == Some(TOUCH));
+}
 
 #[test]
 fn a_new_connection_hears_the_notice(rt: HostRuntime) {

@@ -236,7 +236,7 @@ impl Wires {
             && self
                 .peers
                 .iter()
-                .all(|it| it.is_serving() && it.notice().leader == leader)
+                .all(|it| it.mode().serves() && it.notice().leader == leader)
     }
 
     /// A server forwards a client's call to the leader of the first epoch: a session of six seconds.
