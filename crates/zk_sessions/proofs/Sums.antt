@@ -1,9 +1,9 @@
 -- The sum of the writes of sessions.
-use Rattle.std.proofs.Common.{◌≡◌, ◌+◌, ◌<◌, ◌≤◌, ◌^◌, ℕ, ℤ, Bool, true, false, cond, min, List, [], ◌∷◌, Option, Some, None, arith, refl, sym, ap, ◌∙◌}
+use Rattle.std.proofs.Common.{◌≡◌, ◌+◌, ◌<◌, ◌≤◌, ◌^◌, ℕ, ℤ, Bool, true, false, cond, min, List, [], ◌∷◌, map, Option, Some, None, arith, refl, sym, ap, ◌∙◌}
 use Rattle.std.proofs.lemmas.Map.Entries.{sum_by-insert_entry, sum_by-remove_entry}
 use Rattle.std.proofs.lemmas.Cmp.{int_cmp_total}
 use Rattle.std.specs.BTreeMap.{is_at}
-use Rattle.std.specs.List.{list_any}
+use Rattle.std.specs.List.{fold, list_any}
 use Rattle.std.specs.Map.{remove_entry}
 use Rattle.std.specs.Option.{option_map, unwrap_or}
 use Rattle.std.specs.Ordering.{int_cmp}
@@ -125,6 +125,9 @@ first_few s n k m few = omega arith
 rest_few : (s n k m t : ℕ) → t ≡ s + n → s + (n + k) ≤ m → t + k ≤ m
 rest_few s n k m t e few = omega arith
 
+fitting : (s w t m : ℕ) → w ≡ t → s + w ≤ m → s + t ≤ m
+fitting s w t m e few = omega arith
+
 joined : (s n k t u : ℕ) → t ≡ s + n → u ≡ t + k → u ≡ s + (n + k)
 joined s n k t u e f = omega arith
 
@@ -144,14 +147,32 @@ one_more newer known ordered few =
 plain : (n : ℕ) → n ≡ n + 0
 plain n = omega arith
 
+-- a sum that begins with a number is that number and the sum
+regrouped : (a x k p q : ℕ) → p ≡ (a + x) + k → q ≡ (0 + x) + k → p ≡ a + q
+regrouped a x k p q e f = omega arith
+
+summed_from : (a : ℕ) (numbers : List ℕ) → fold ◌+◌ a numbers ≡ a + fold ◌+◌ 0 numbers
+summed_from a [] = plain a
+summed_from a (x ∷ numbers) = regrouped a x (fold ◌+◌ 0 numbers) (fold ◌+◌ (a + x) numbers) (fold ◌+◌ (0 + x) numbers) (summed_from (a + x) numbers) (summed_from (0 + x) numbers)
+
+from_nothing : (n k s : ℕ) → s ≡ (0 + n) + k → s ≡ n + k
+from_nothing n k s e = omega arith
+
+-- the writes of one record, and those of the others
+first_writes : (newer : NewerRecord) (records : List NewerRecord) → writes_in (newer ∷ records) ≡ record_writes newer + writes_in records
+first_writes newer records = from_nothing (record_writes newer) (writes_in records) (writes_in (newer ∷ records)) (summed_from (0 + record_writes newer) (map record_writes records))
+
 all_more : (known : Known) (records : List NewerRecord) → IsOrdered known.lives → writes_of known.lives + writes_in records ≤ sessions.most → writes_of (after_all known records).lives ≡ writes_of known.lives + writes_in records
 all_more known [] ordered few = plain (writes_of known.lives)
 all_more known (newer ∷ records) ordered few =
     let n = record_writes newer in
     let k = writes_in records in
-    let one = one_more newer known ordered (first_few (writes_of known.lives) n k sessions.most few) in
-    let more = all_more (after known newer) records one.0 (rest_few (writes_of known.lives) n k sessions.most (writes_of (after known newer).lives) one.1 few) in
+    let split = first_writes newer records in
+    let fits = fitting (writes_of known.lives) (writes_in (newer ∷ records)) (n + k) sessions.most split few in
+    let one = one_more newer known ordered (first_few (writes_of known.lives) n k sessions.most fits) in
+    let more = all_more (after known newer) records one.0 (rest_few (writes_of known.lives) n k sessions.most (writes_of (after known newer).lives) one.1 fits) in
     joined (writes_of known.lives) n k (writes_of (after known newer).lives) (writes_of (after_all (after known newer) records).lives) one.1 more
+    ∙ ap (λ t. writes_of known.lives + t) (sym split)
 
 at_most : (n : ℕ) → n < 2 ^ 64 → n ≤ sessions.most
 at_most n lt = omega arith
