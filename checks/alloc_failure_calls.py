@@ -41,7 +41,7 @@ def growths(case: str, library: Path, room: Path) -> tuple[int, int]:
     met = room / f"{case}.met"
     for number in range(1, ENOUGH):
         env = {**os.environ, "LD_PRELOAD": str(library), "REFUSE": str(number), "REFUSE_MET": str(met)}
-        ran = subprocess.run([TESTS, f"cases::{case}"], env=env, capture_output=True, check=False, timeout=60)
+        ran = subprocess.run([TESTS, f"cases::{case}"], env=env, capture_output=True, check=False, timeout=600)
         ended = how_it_ended(ran)
         if ended is None:
             raise Wrong(f"{case}, growth {number}: status {ran.returncode}, {ran.stderr!r}")

@@ -93,7 +93,7 @@ class Played:
         else:
             file = self.room / f"{self.name}.whole"
         more = {"LD_PRELOAD": str(self.library), "REFUSE": str(refuse), "REFUSE_MET": str(met)} if refuse else {}
-        ran = subprocess.run([PROGRAM, "run", file], env={**os.environ, **more}, capture_output=True, check=False, timeout=60)
+        ran = subprocess.run([PROGRAM, "run", file], env={**os.environ, **more}, capture_output=True, check=False, timeout=600)
         return ran.returncode, ran.stdout, ran.stderr
 
     def answers(self, lines: list[str]) -> list[list[bytes]]:

@@ -22,7 +22,7 @@ ROOT = Path(__file__).resolve().parent.parent
 PROGRAM = Path(os.environ.get("ZK", ROOT / "crates" / "zk_cli" / "out" / "zk_cli"))
 
 # How long a reply, or the end of a connection, is waited for, in seconds.
-PATIENCE = 30
+PATIENCE = 300
 
 # The most bytes of a frame.
 MOST_BYTES = 1_048_575

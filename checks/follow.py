@@ -19,7 +19,7 @@ PROGRAM = Path(os.environ.get("ZK", ROOT / "crates" / "zk_cli" / "out" / "zk_cli
 LOGS = ROOT / "examples" / "directories" / "follower"
 PADDING = 1 << 20
 # in seconds, for what is bound to come
-PATIENCE = 60
+PATIENCE = 300
 
 
 def follow(room, *form):

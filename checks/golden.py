@@ -79,7 +79,7 @@ def marked(lines: list[str], mark: str) -> list[str]:
 
 def run(words: list[str], given: bytes, room: Path) -> tuple[int, bytes, bytes]:
     """The program's status, output and errors."""
-    ran = subprocess.run([PROGRAM, *words], cwd=room, input=given, capture_output=True, check=False, timeout=60)
+    ran = subprocess.run([PROGRAM, *words], cwd=room, input=given, capture_output=True, check=False, timeout=600)
     return ran.returncode, ran.stdout, ran.stderr
 
 

@@ -32,7 +32,7 @@ PROGRAM = Path(os.environ.get("ZK", ROOT / "crates" / "zk_cli" / "out" / "zk_cli
 SERVERS = int(sys.argv[3]) if len(sys.argv) > 3 else 3
 WRITERS = 4
 # Seconds in which a start serves, and in which a client connects.
-PATIENCE = 60
+PATIENCE = 300
 # The classes that TxnLogToolkit needs.
 JAVA = "/usr/share/java"
 

@@ -25,7 +25,7 @@ ROOT = Path(__file__).resolve().parent.parent
 PROGRAM = Path(os.environ.get("ZK", ROOT / "crates" / "zk_cli" / "out" / "zk_cli"))
 
 # How long a condition is waited for, in seconds.
-PATIENCE = 60
+PATIENCE = 300
 
 # kazoo reports each lost connection, and the checks lose many.
 logging.disable(logging.CRITICAL)

@@ -152,7 +152,7 @@ def played(server, port, directory, text):
             words = ["bash", CLIENT, "-server", f"127.0.0.1:{port}"]
             locale = {**os.environ, "LC_ALL": "C.UTF-8"}
             # its status is that of the last line, which may be a comment
-            subprocess.run(words, input=text.encode(), env=locale, capture_output=True, check=False, timeout=100)
+            subprocess.run(words, input=text.encode(), env=locale, capture_output=True, check=False, timeout=600)
         finally:
             running.terminate()
     return bodies(run("restore", directory, "/"))

@@ -131,7 +131,7 @@ ends
 starts --conns=3
 connects
 asks 'create "/a" "hi" '"$open" 'err -112'
-asks 'open 1' 'ok 0000000100000001 4000'
+asks 'open 10000' 'ok 0000000100000001 10000'
 asks 'create "/a" "hi" '"$open" 'ok "/a"'
 asks 'get "/a"' 'ok x6869 0000000100000002 0000000100000002 T T 0 0 0 0000000000000000 2 0 0000000100000002'
 asks 'create -e "/lock" "" '"$open" 'ok "/lock"'
@@ -145,8 +145,8 @@ asks 'ls "/"' 'ok 3 "a" "lock" "zookeeper" 0000000000000000 0000000000000000 0 0
 asks 'get "/a"' 'ok x6869 0000000100000002 0000000100000002 T T 0 0 0 0000000000000000 2 0 0000000100000002'
 asks 'create -e "/lock" "" '"$open" 'err -110'
 asks 'stat -w "/lock"' 'ok 0000000100000003 0000000100000003 T T 0 0 0 0000000100000001 0 0 0000000100000003'
-# the holder expires 4 seconds after its last line
-sleep 4.1
+# the holder expires 10 seconds after its last line
+sleep 10.1
 asks 'create "/woken" "" '"$open" 'event 2 "/lock"' 'ok "/woken"'
 asks 'create -e "/lock" "" '"$open" 'ok "/lock"'
 asks 'close' 'ok'

@@ -5,7 +5,7 @@
 - silent: sockets that send nothing fill all connections; after some seconds they are closed, and a client is served.
 - full: sockets that wait while the process may have no more descriptors are accepted once it may.
 - addresses: an address has all connections but a sixteenth, and another address has those.
-- unread: a client that pings and leaves 5.4 MB unread for 10 seconds keeps its session.
+- unread: a client that pings and leaves 5.4 MB unread for 20 seconds keeps its session of 8 seconds.
 - headers: no reply names a transaction before the event of the client's watch.
 - disk: a server without clients writes nothing to its files, and reads write nothing either.
 - writer: while one client has 20,000 writes in flight, another makes a read for every 200 of them.
@@ -37,7 +37,7 @@ PROGRAM = os.environ.get("ZK", str(ROOT / "crates" / "zk_cli" / "out" / "zk_cli"
 
 # Seconds in which a reply comes, and in which a connection that waited is accepted.
 LIMIT = 120
-PATIENCE = 20
+PATIENCE = 120
 CREATE, EXISTS, GET, SET, PING, AUTH, SET_WATCHES, COUNT = 1, 3, 4, 5, 11, 100, 101, 104
 # `jute.maxbuffer`
 MOST_BYTES = 1_048_575
@@ -170,10 +170,11 @@ def pause() -> None:
         for _ in range(9):
             time.sleep(1)
             client.ping()
+        client.send(EXISTS, text(b"/e") + b"\0")
         server.go_on()
         for _ in range(9):
             client.reply()
-        if Client(server.port).get(b"/e"):
+        if client.reply()[2]:
             raise Wrong("a session that had pinged has expired")
 
 
@@ -216,13 +217,13 @@ def addresses() -> None:
 
 def unread() -> None:
     with Server() as server:
-        client = Client(server.port, 4_000, 4_096)
+        client = Client(server.port, 8_000, 4_096)
         client.create(b"/big", b"x" * 900_000)
         for _ in range(6):
             client.send(GET, text(b"/big") + b"\0")
         # more than the system holds and than 1 MB wait, and no frame is taken
         for _ in range(20):
-            time.sleep(0.5)
+            time.sleep(1)
             client.ping()
         for _ in range(26):
             client.reply()
@@ -251,18 +252,22 @@ def headers() -> None:
 
 def disk() -> None:
     with tempfile.TemporaryDirectory() as room, Server("--data", room) as server:
-        time.sleep(1)
-        before = server.writes()
-        time.sleep(3)
-        if server.writes() != before:
-            raise Wrong(f"{server.writes() - before} writes without clients")
+        # what it writes when it starts may last on a busy machine
+        for _ in range(PATIENCE // 3):
+            before = server.writes()
+            time.sleep(3)
+            if server.writes() == before:
+                break
+        else:
+            raise Wrong("it writes without clients")
         client = Client(server.port)
         client.create(b"/a")
-        before = server.writes()
+        before, began = server.writes(), time.monotonic()
         for _ in range(200):
             client.get(b"/a")
         # a reply each, and one more turn a second
-        if server.writes() - before > 250:
+        most = 250 + int(time.monotonic() - began)
+        if server.writes() - before > most:
             raise Wrong(f"{server.writes() - before} writes for 200 reads")
 
 
