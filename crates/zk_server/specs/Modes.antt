@@ -20,7 +20,7 @@ abbrev pub is_synced_with : ℕ → Role → Bool
 is_synced_with leader (roles.Following other synced) = (other == leader) && synced
 is_synced_with leader role = false
 
--- a server leads or follows only as its election has decided last, whatever its host's role
+-- a server leads or follows only as its election has decided last, also if its host's role differs
 abbrev pub mode_in : Position → Role → Mode
 mode_in positions.Leads role = Leading (is_established role)
 mode_in (positions.Follows leader) role = Following leader (is_synced_with leader role)
