@@ -106,6 +106,19 @@ refuses "zk: G2 16"
 head -c 15 "$stock/kinds.log" >"$work/log"
 refuses "zk: G1"
 
+# ---- a log from the middle of a history: each record has a digest, and a closed session's record lists its
+# nodes; the tree before the log is not known, so the report says of neither that it is another
+for log in follower/log.2000000d8 servers/one/log.100000114; do
+    "$zk" mend "examples/directories/$log" "$work/mended" </dev/null >"$work/told"
+    [ "$(sed -n '1s/records //p' "$work/told")" -gt 100 ]
+    [ "$(sed -n '2s/unchanged //p' "$work/told")" -lt 20 ]
+    grep -q '^closePaths ' "$work/told"
+    if grep -i 'digest\|other' "$work/told"; then
+        echo "mend: $log: what is not known is reported" >&2
+        exit 1
+    fi
+done
+
 # ---- outputs that fail, and rejected command lines
 [ "$(ends "$zk" mend "$stock/kinds.log" /dev/full)" = "1 zk: write" ]
 status=0

@@ -25,7 +25,8 @@ use Rattle.zk_table.specs.declared.txn.Op.TheVariants as ops
 use Rattle.zk_table.specs.declared.txn.Txn.{Txn}
 use Rattle.zk_mend.specs.Mending.{IsMended}
 use Rattle.zk_mend.specs.NewerLogs.{LogPosition, start_place, after_all, after_record, owners_next, newer_entry, txns_in, closes_others, lists_others, AllMayCome, HasNewerEntry, MayCome}
-use Rattle.zk_mend.specs.Telling.{added, told_after, unchanged_told}
+use Rattle.zk_directory.specs.Continuing.{starts_history}
+use Rattle.zk_mend.specs.Telling.{added, told_after, told_by, told_of, unchanged_told}
 use Rattle.zk_mend.specs.declared.fault.MendFault.{MendFault}
 use Rattle.zk_mend.specs.declared.conversion_report.ConversionReport.{ConversionReport}
 
@@ -137,6 +138,15 @@ told_all : (place : LogPosition) (count : ℕ) (txns : List Txn) → place.told 
 told_all place count [] e = e ∙ ap (λ k. unchanged_told (capped k)) (omega arith)
 told_all place count (txn ∷ txns) e = told_all (after_record place (own txn)) (count + 1) txns (told_next place count txn e) ∙ ap (λ k. unchanged_told (capped k)) (omega arith)
 
+-- no digest and no list of paths was counted
+kept_by : (starts : Bool) (count : ℕ) → told_by starts (unchanged_told count) ≡ unchanged_told count
+kept_by true count = refl
+kept_by false count = refl
+
+told_kept : (txns : List Txn) (count : ℕ) → told_of txns (unchanged_told count) ≡ unchanged_told count
+told_kept [] count = refl
+told_kept (txn ∷ txns) count = kept_by (starts_history txn.zxid) count
+
 -- ---- whole logs
 
 from_none : (txns : List Txn) → length txns ≡ 0 + length txns
@@ -160,6 +170,7 @@ old_logs_come_back bytes dbid txns ending l =
           stops = subst (λ k. Ends k h.rest ending) at h.stops;
         };
         journal = sym (same_txns txns);
-        told = ap (λ k. unchanged_told (capped k)) (from_none txns) ∙ sym (told_all start_place 0 txns refl);
+        told = ap (λ k. unchanged_told (capped k)) (from_none txns) ∙ sym (told_kept (txns_in (map own txns)) (capped (0 + length txns)))
+            ∙ ap (told_of (txns_in (map own txns))) (sym (told_all start_place 0 txns refl));
       };
     }

@@ -20,6 +20,7 @@ use Rattle.zk_newer_records.specs.declared.newer_record.NewerRecord.{NewerRecord
 use Rattle.zk_table.specs.declared.txn.Txn.{Txn}
 use Rattle.zk_mend.specs.Mending.{IsMended, IsUnmended, IsUnmendedAt}
 use Rattle.zk_mend.specs.NewerLogs.{LogPosition, start_place, after_all, after_record, newer_entry, txns_in, refusal, IsRefusedRecord, IsMendFault, MayCome, MendStops, Mends}
+use Rattle.zk_mend.specs.Telling.{told_of}
 use Rattle.zk_mend.specs.declared.fault.MendFault.{MendFault}
 use Rattle.zk_mend.specs.declared.fault.MendFault.TheVariants as faults
 use Rattle.zk_mend.specs.declared.mended.Mended.{Mended}
@@ -214,7 +215,7 @@ mends_in_one_way bytes first second g h =
     (same_dbid g.body h.body first.dbid second.dbid g.dbid_fits h.dbid_fits (sym g.spelled ∙ h.spelled))
     (g.entries.journal ∙ ap txns_in o.0 ∙ sym h.entries.journal)
     (ok_same first.ending second.ending o.1)
-    (g.entries.told ∙ ap (λ l. (after_all start_place l).told) o.0 ∙ sym h.entries.told)
+    (g.entries.told ∙ ap (λ l. told_of (txns_in l) (after_all start_place l).told) o.0 ∙ sym h.entries.told)
 
 -- the fault of a file is in its header, or after it
 unmended : (bytes : List ℕ) (fault : MendFault) → IsUnmended bytes fault → ((fault ≡ faults.Log log_faults.Header) × HasNoHeader bytes) ⊎ IsUnmendedAt bytes fault

@@ -10,7 +10,9 @@ use Rattle.zk_log.specs.declared.loaded.Ending.{Ending}
 use Rattle.zk_log.specs.declared.source.Source.{Source}
 use Rattle.zk_mend.proofs.Refusals.{refusal_own}
 use Rattle.zk_mend.specs.Mending.{Answers, AnswersBody, Tells}
-use Rattle.zk_mend.specs.NewerLogs.{after_all, start_place, Mends}
+use Rattle.zk_mend.specs.NewerLogs.{after_all, start_place, txns_in, Mends}
+use Rattle.zk_mend.specs.Telling.{told_of}
+use Rattle.zk_table.specs.declared.txn.Txn.{Txn}
 use Rattle.zk_mend.specs.Walking.{Walks}
 use Rattle.zk_mend.specs.declared.fault.MendFault.{MendFault}
 use Rattle.zk_mend.specs.declared.fault.MendFault.TheVariants as faults
@@ -20,13 +22,13 @@ use Rattle.zk_mend.specs.declared.walk.Walk.{Walk}
 -- ---- the entries
 
 -- the converted log of an iteration that reached the ending
-pub body_mended : (body : Option (List ℕ)) (walk : Walk) (ending : Ending) (mended : Mended) → Walks body (Ok ending) walk → mended.ending ≡ ending → mended.journal ≡ walk.journal → mended.told ≡ walk.told → AnswersBody body (Ok mended)
+pub body_mended : (body : Option (List ℕ)) (walk : Walk) (ending : Ending) (mended : Mended) → Walks body (Ok ending) walk → mended.ending ≡ ending → mended.journal ≡ walk.journal → mended.told ≡ told_of walk.journal walk.told → AnswersBody body (Ok mended)
 body_mended None walk ending mended w ending_e journal_e told_e = tt
 body_mended (Some body) walk ending mended w ending_e journal_e told_e = record {
   newers = w.newers;
   mends = subst (λ (e : Ending). Mends start_place body w.newers (Ok e)) (sym ending_e) w.mends;
   journal = journal_e ∙ w.journal;
-  told = told_e ∙ w.is_at.told;
+  told = told_e ∙ ap (λ (l : List Txn). told_of l walk.told) w.journal ∙ ap (told_of (txns_in w.newers)) w.is_at.told;
 }
 
 -- the fault of one that did not

@@ -8,6 +8,7 @@ use Rattle.zk_log.specs.declared.fault.LogFault.TheVariants as log_faults
 use Rattle.zk_log.specs.declared.source.Source.{Source}
 use Rattle.zk_newer_records.specs.declared.newer_record.NewerRecord.{NewerRecord}
 use Rattle.zk_mend.specs.NewerLogs.{start_place, after_all, txns_in, Mends}
+use Rattle.zk_mend.specs.Telling.{told_of}
 use Rattle.zk_mend.specs.declared.fault.MendFault.{MendFault}
 use Rattle.zk_mend.specs.declared.fault.MendFault.TheVariants as faults
 use Rattle.zk_mend.specs.declared.mended.Mended.{Mended}
@@ -20,7 +21,7 @@ pub record IsMendedBody (body : List ℕ) (mended : Mended) : Type 0 where
   pub newers : List NewerRecord
   pub mends : Mends start_place body newers (Ok mended.ending)
   pub journal : mended.journal ≡ txns_in newers
-  pub told : mended.told ≡ (after_all start_place newers).told
+  pub told : mended.told ≡ told_of (txns_in newers) (after_all start_place newers).told
 
 -- A 3.5 to 3.8 server's log: the header, and such entries.
 pub record IsMended (bytes : List ℕ) (mended : Mended) : Type 0 where

@@ -1,9 +1,11 @@
 -- The report on a converted log: how often each change occurs, and where it occurs first.
-use Rattle.std.specs.Prelude.{ℕ, ℤ, ◌+◌, ◌-◌, ◌^◌, min, Bool, false, not, Option, Some, None, nat_eq, if◌then◌else◌}
+use Rattle.std.specs.Prelude.{ℕ, ℤ, ◌+◌, ◌-◌, ◌^◌, min, Bool, true, false, not, List, [], ◌∷◌, Option, Some, None, nat_eq, if◌then◌else◌}
 use Rattle.std.specs.Int.{w64, cast_unsigned}
+use Rattle.zk_directory.specs.Continuing.{starts_history}
 use Rattle.zk_newer_records.specs.Changes.{count_of, is_unchanged, once}
 use Rattle.zk_newer_records.specs.declared.changes.Change.TheVariants as changes
 use Rattle.zk_newer_records.specs.declared.newer_record.NewerRecord.{NewerRecord}
+use Rattle.zk_table.specs.declared.txn.Txn.{Txn}
 use Rattle.zk_mend.specs.declared.conversion_report.ChangeCount.{ChangeCount}
 use Rattle.zk_mend.specs.declared.conversion_report.ConversionReport.{ConversionReport}
 
@@ -72,3 +74,19 @@ told_after told at newer sum others = record {
   other_paths = tally_after told.other_paths (once others) at;
   kept_body = tally_after told.kept_body (count_of changes.KeptBody newer) at;
 }
+
+-- ---- the whole log
+
+-- what rests on the tree before the log is not known: whether digests are its own, and which nodes a
+-- session has
+abbrev pub without_tree : ConversionReport → ConversionReport
+without_tree told = record told { digest = no_tally; other_digest = no_tally; other_paths = no_tally }
+
+abbrev pub told_by : Bool → ConversionReport → ConversionReport
+told_by true told = told
+told_by false told = without_tree told
+
+-- the report on a log of these transactions, of which the first may come from the middle of a history
+abbrev pub told_of : List Txn → ConversionReport → ConversionReport
+told_of [] told = told
+told_of (txn ∷ txns) told = told_by (starts_history txn.zxid) told

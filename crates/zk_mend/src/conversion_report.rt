@@ -1,9 +1,11 @@
 //! The report on a converted log.
 
 ghost use Rattle.std.specs.Prelude.{◌≡◌};
-ghost use Rattle.zk_mend.specs.Telling.{no_tally, nothing_told, tally_after, told_after, added, claims, claims_other};
+ghost use Rattle.zk_mend.specs.Telling.{no_tally, nothing_told, tally_after, told_after, told_by, told_of, without_tree, added, claims, claims_other};
 
+use zk_directory::starts_history;
 use zk_newer_records::{Change, NewerRecord};
+use zk_table::Txn;
 
 /// How often a change occurs, and the offset in the file of its first entry.
 #[derive(Clone, Copy, Debug, PartialEq, Eq)]
@@ -104,6 +106,38 @@ impl ConversionReport {
         self.other_paths.add(u64::from(lists_others), at);
         self.kept_body.add(newer.count(Change::KeptBody) as u64, at);
     }
+
+    /// The report without what rests on the tree before the log.
+    fn without_tree(self) -> ConversionReport
+        ensures { result ≡ without_tree self }
+    {
+        let none = ChangeCount::new();
+        ConversionReport {
+            digest: none,
+            other_digest: none,
+            other_paths: none,
+            ..self
+        }
+    }
+}
+
+/// The report on a log of these transactions.
+///
+/// Of a log that starts in the middle of a history, digests and lists of paths are about a tree that
+/// is not known: they are not counted.
+pub(crate) fn told_of(txns: &[Txn], told: ConversionReport) -> ConversionReport
+    ensures { result ≡ told_of txns.now told }
+{
+    match txns {
+        [txn, ..] => told_by(starts_history(txn.zxid), told),
+        [] => told,
+    }
+}
+
+fn told_by(starts: bool, told: ConversionReport) -> ConversionReport
+    ensures { result ≡ told_by starts told }
+{
+    if starts { told } else { told.without_tree() }
 }
 
 /// Whether a server's digest equals `sum`.
