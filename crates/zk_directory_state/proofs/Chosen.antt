@@ -2,9 +2,10 @@
 use Rattle.std.proofs.Common.{◌≡◌, ◌⊎◌, ℕ, ℤ, ◌+◌, ◌<◌, ◌≤◌, inl, inr, Bor, List, [], ◌∷◌, ◌++◌, length, map, drop, take, get_or, Option, None, Result, Ok, Err, refl, sym, ap, ◌∙◌, subst}
 use Rattle.std.proofs.lemmas.List.{drop_more, take_more}
 use Rattle.zk_replay.proofs.Turning.{at_end, next_is}
+use Rattle.zk_directory_state.proofs.Unreading.{a_log}
 use Rattle.zk_directory_state.specs.Attempts.{Leads, LeadsOver, TriesGiven, TriesOver}
 use Rattle.zk_directory_state.specs.Histories.{Chooses, ChoosesOf, Follows, Folders, IsLatestAt, IsLatestIn, IsWithoutSnapshot, NextBy, RestoresWithout, TriesNext, latest_in, later_at, with_broken}
-use Rattle.zk_directory_state.specs.Logs.{AreGiven, IsUnread, bytes_of, logs_from}
+use Rattle.zk_directory_state.specs.Logs.{AreGiven, AreUnreadFiles, IsUnreadLog, bytes_of, logs_from}
 use Rattle.zk_directory_state.specs.declared.attempt.Attempt.{Attempt}
 use Rattle.zk_directory_state.specs.declared.attempt.Attempt.TheVariants as attempts
 use Rattle.zk_directory_state.specs.declared.history.Broken.{Broken}
@@ -58,7 +59,7 @@ passed_on folders zxids i zxid over new lt is so_far t = λ answer rest.
     so_far answer (tried folders answer zxids i zxid over.broken.items over.early t.0 lt is t.1 (follows_more zxid over new answer (Chooses folders answer (drop (i + 1) zxids)) t.0 t.2 rest))
 
 failed_by : (folders : Folders) (zxids : List ℤ) (i : ℕ) (zxid : ℤ) (over : PassedOver) (fault : HistoryFault) → i < length zxids → zxid ≡ get_or zxids i zxid → IsPassedTo folders zxids i over
-    → (t : IsUnread fault ⊎ TriesGiven folders.snapshot_bytes folders.log_bytes zxid folders.upto folders.logged (Err fault)) → ChoosesOf folders zxids [] None (Err fault)
+    → (t : AreUnreadFiles folders.snapshot_bytes folders.log_bytes fault ⊎ TriesGiven folders.snapshot_bytes folders.log_bytes zxid folders.upto folders.logged (Err fault)) → ChoosesOf folders zxids [] None (Err fault)
 failed_by folders zxids i zxid over fault lt is so_far (inl unread) = inl unread
 failed_by folders zxids i zxid over fault lt is so_far (inr tries) = inr (so_far (Err fault) (tried folders (Err fault) zxids i zxid over.broken.items over.early (Err fault) lt is tries refl))
 
@@ -71,8 +72,8 @@ pub without : (folders : Folders) (zxids : List ℤ) (i : ℕ) (over : PassedOve
 without folders zxids i over restored shown le so_far r same none broken =
     so_far (Ok shown) (subst (λ l. Chooses folders (Ok shown) l over.broken.items over.early) (sym (at_end zxids i le)) (Ok restored, r, (same, none, broken)))
 
-fails_by : (folders : Folders) (zxids : List ℤ) (i : ℕ) (over : PassedOver) (fault : HistoryFault) → length zxids ≤ i → IsPassedTo folders zxids i over → (r : IsUnread fault ⊎ IsWithoutSnapshot folders over.broken.items over.early (Err fault)) → ChoosesOf folders zxids [] None (Err fault)
-fails_by folders zxids i over fault le so_far (inl unread) = inl unread
+fails_by : (folders : Folders) (zxids : List ℤ) (i : ℕ) (over : PassedOver) (fault : HistoryFault) → length zxids ≤ i → IsPassedTo folders zxids i over → (r : IsUnreadLog folders.log_bytes fault ⊎ IsWithoutSnapshot folders over.broken.items over.early (Err fault)) → ChoosesOf folders zxids [] None (Err fault)
+fails_by folders zxids i over fault le so_far (inl unread) = inl (a_log folders.snapshot_bytes folders.log_bytes fault unread)
 fails_by folders zxids i over fault le so_far (inr r) = inr (so_far (Err fault) (subst (λ l. Chooses folders (Err fault) l over.broken.items over.early) (sym (at_end zxids i le)) (Err fault, r, refl)))
 
 pub fails_without : (folders : Folders) (zxids : List ℤ) (i : ℕ) (over : PassedOver) (fault : HistoryFault) → length zxids ≤ i → IsPassedTo folders zxids i over → RestoresWithout folders over.broken.items over.early (Err fault) → ChoosesOf folders zxids [] None (Err fault)

@@ -7,7 +7,8 @@ use Rattle.zk_directory.specs.Continuing.{continues}
 use Rattle.zk_directory_state.specs.Evidence.{beyond, end_fault, gap_fault, is_beyond, is_first, is_new, proved, proved_by}
 use Rattle.zk_directory_state.specs.Histories.{AnswersFrom, AnswersUpto, AnswersWithout, AreIn, Chooses, ChoosesOf, FindsUpto, Follows, Folders, Holds, HoldsNone, IsHistory, IsUpto, IsWithoutSnapshot, blank_by, blank_fault, candidates, fault_without, first_broken, first_early, first_missing, missing, purged_fault, restored_by, start_fault, upto_by, with_broken, without_by}
 use Rattle.zk_directory_state.specs.declared.evidence.Start.{Start}
-use Rattle.zk_directory_state.specs.Logs.{IsUnread, logs_from}
+use Rattle.zk_directory_state.proofs.Unreading.{a_file, a_log, the_logs, the_snapshots}
+use Rattle.zk_directory_state.specs.Logs.{AreUnlisted, AreUnreadFiles, IsUnreadIn, IsUnreadLog, logs_from}
 use Rattle.zk_directory_state.specs.declared.attempt.Attempt.{Attempt}
 use Rattle.zk_directory_state.specs.declared.attempt.Attempt.TheVariants as attempts
 use Rattle.zk_directory_state.specs.declared.history.Broken.{Broken}
@@ -190,12 +191,18 @@ end_fault_not_empty upto restored None e = fault_or_not_empty (is_beyond upto re
 end_fault_not_empty upto restored (Some next) e = gap_not_empty upto restored.position next e
 
 module _ (snapshots : Option (List (List ℕ))) (snapshot_bytes : List ℕ → Option (List ℕ)) (logs : Option (List (List ℕ))) (log_bytes : List ℕ → Option (List ℕ)) (upto : Upto) where
-  pub unread_holds : (fault : HistoryFault) → IsUnread fault → Holds snapshots snapshot_bytes logs log_bytes upto (Err fault)
+  unread_holds : (fault : HistoryFault) → IsUnreadIn snapshots snapshot_bytes logs log_bytes fault → Holds snapshots snapshot_bytes logs log_bytes upto (Err fault)
   unread_holds faults.Empty unread = absurd unread
   unread_holds fault unread = inl unread
 
+  pub snapshots_unlisted : (fault : HistoryFault) → AreUnlisted snapshots fault → Holds snapshots snapshot_bytes logs log_bytes upto (Err fault)
+  snapshots_unlisted fault unread = unread_holds fault (the_snapshots snapshot_bytes log_bytes snapshots logs fault unread)
+
+  pub logs_unlisted : (fault : HistoryFault) → AreUnlisted logs fault → Holds snapshots snapshot_bytes logs log_bytes upto (Err fault)
+  logs_unlisted fault unread = unread_holds fault (the_logs snapshot_bytes log_bytes snapshots logs fault unread)
+
   -- a fault that is not that of an empty directory
-  holds_fault : (fault : HistoryFault) → (fault ≡ faults.Empty → ⊥) → (h : IsUnread fault ⊎ IsHistory snapshots snapshot_bytes logs log_bytes upto (Err fault)) → Holds snapshots snapshot_bytes logs log_bytes upto (Err fault)
+  holds_fault : (fault : HistoryFault) → (fault ≡ faults.Empty → ⊥) → (h : IsUnreadIn snapshots snapshot_bytes logs log_bytes fault ⊎ IsHistory snapshots snapshot_bytes logs log_bytes upto (Err fault)) → Holds snapshots snapshot_bytes logs log_bytes upto (Err fault)
   holds_fault faults.Empty never h = absurd (never refl)
   holds_fault fault never h = h
 
@@ -204,8 +211,8 @@ module _ (snapshots : Option (List (List ℕ))) (snapshot_bytes : List ℕ → O
   holds_by held logged zxid answer are_snapshots are_logs some is_upto answered = record { held = held; logged = logged; are_snapshots = are_snapshots; are_logs = are_logs; some = some_files (length held + length logged) some; zxid = zxid; is_upto = is_upto; answered = answered }
 
   -- the question has no zxid
-  upto_fails_by : (held logged : List ℤ) (fault : HistoryFault) → AreIn snapshot_zxid snapshots held → AreIn log_zxid logs logged → false ≡ (length held + length logged == 0) → (finds : IsUnread fault ⊎ IsUpto log_bytes logged upto (Err fault)) → Holds snapshots snapshot_bytes logs log_bytes upto (Err fault)
-  upto_fails_by held logged fault are_snapshots are_logs some (inl unread) = unread_holds fault unread
+  upto_fails_by : (held logged : List ℤ) (fault : HistoryFault) → AreIn snapshot_zxid snapshots held → AreIn log_zxid logs logged → false ≡ (length held + length logged == 0) → (finds : IsUnreadLog log_bytes fault ⊎ IsUpto log_bytes logged upto (Err fault)) → Holds snapshots snapshot_bytes logs log_bytes upto (Err fault)
+  upto_fails_by held logged fault are_snapshots are_logs some (inl unread) = unread_holds fault (a_file snapshot_bytes log_bytes snapshots logs fault (a_log snapshot_bytes log_bytes fault unread))
   upto_fails_by held logged fault are_snapshots are_logs some (inr is) =
       holds_fault fault (λ e. upto_not_empty log_bytes logged upto (subst (λ (f : HistoryFault). IsUpto log_bytes logged upto (Err f)) e is)) (inr (holds_by held logged (Err fault) (Err fault) are_snapshots are_logs some is refl))
 
@@ -218,8 +225,8 @@ module _ (snapshots : Option (List (List ℕ))) (snapshot_bytes : List ℕ → O
   shown_holds shown (Some fault) never h = holds_fault fault (λ e. never (ap (λ (f : HistoryFault). let o : Option HistoryFault = Some f in o) e)) (inr h)
 
   fails_by : (held logged : List ℤ) (zxid : Option ℤ) (fault : HistoryFault) → AreIn snapshot_zxid snapshots held → AreIn log_zxid logs logged → false ≡ (length held + length logged == 0) → IsUpto log_bytes logged upto (Ok zxid)
-      → (c : IsUnread fault ⊎ Chooses (record { snapshot_bytes = snapshot_bytes; log_bytes = log_bytes; held = held; logged = logged; upto = zxid }) (Err fault) (candidates zxid held) [] None) → Holds snapshots snapshot_bytes logs log_bytes upto (Err fault)
-  fails_by held logged zxid fault are_snapshots are_logs some is_upto (inl unread) = unread_holds fault unread
+      → (c : AreUnreadFiles snapshot_bytes log_bytes fault ⊎ Chooses (record { snapshot_bytes = snapshot_bytes; log_bytes = log_bytes; held = held; logged = logged; upto = zxid }) (Err fault) (candidates zxid held) [] None) → Holds snapshots snapshot_bytes logs log_bytes upto (Err fault)
+  fails_by held logged zxid fault are_snapshots are_logs some is_upto (inl unread) = unread_holds fault (a_file snapshot_bytes log_bytes snapshots logs fault unread)
   fails_by held logged zxid fault are_snapshots are_logs some is_upto (inr chosen) =
       let folders : Folders = record { snapshot_bytes = snapshot_bytes; log_bytes = log_bytes; held = held; logged = logged; upto = zxid } in
       holds_fault fault (λ e. chosen_not_empty folders (candidates zxid held) [] None (subst (λ (f : HistoryFault). Chooses folders (Err f) (candidates zxid held) [] None) e chosen))

@@ -6,9 +6,12 @@ pub mod Joined
 pub mod Leading
 pub mod Searching
 pub mod Wholes
+pub mod Unreading
 pub mod Chosen
 pub mod Held
-pub mod Folded
 pub mod Starting
 pub mod Spanning
+pub mod Stepping
+pub mod Walking
+pub mod Losing
 pub mod Noticing

@@ -1,13 +1,15 @@
 -- The lines of several files, one after another.
-use Rattle.std.proofs.Common.{◌≡◌, ℕ, ◌+◌, ◌-◌, ◌<◌, ◌≤◌, ℤ, pos, List, [], ◌∷◌, ◌++◌, length, drop, map, get_or, slice_get, Option, Some, None, Result, Ok, Err, String, refl, sym, ap, ◌∙◌, subst, append_assoc, append-nil}
+use Rattle.std.proofs.Common.{◌≡◌, inl, inr, ℕ, ◌+◌, ◌-◌, ◌<◌, ◌≤◌, ℤ, pos, List, [], ◌∷◌, ◌++◌, length, drop, map, get_or, slice_get, Option, Some, None, Result, Ok, Err, String, refl, sym, ap, ◌∙◌, subst, append_assoc, append-nil}
 use Rattle.std.proofs.lemmas.List.{drop_all, drop_more}
 use Rattle.std.specs.Global.{Global}
 use Rattle.std.specs.String.{string_bytes}
 use Rattle.zk_directory_state.specs.Files.{AddsLogs, AddsSnapshots, AreLogLines, AreSnapshotLines, LinesOf, ListsFiles, PushesLog, PushesSnapshot, ends_by, ends_text, gap_text, gaps_text, last_after, later_of}
 use Rattle.zk_directory_state.specs.Folders.{IsGiven}
 use Rattle.zk_directory_state.specs.Names.{AreZxidsBy, log_zxid, snapshot_zxid}
-use Rattle.zk_directory_state.specs.declared.file_listing.FilesFault.{FilesFault}
-use Rattle.zk_directory_state.specs.declared.file_listing.FilesFault.TheVariants as faults
+use Rattle.zk_directory_state.specs.Logs.{AreUnlisted}
+use Rattle.zk_directory_state.proofs.Unreading.{a_file, the_logs, the_snapshots}
+use Rattle.zk_directory_state.specs.declared.fault.HistoryFault.{HistoryFault}
+use Rattle.zk_directory_state.specs.declared.fault.HistoryFault.TheVariants as faults
 use Rattle.zk_format.specs.Spelling.{id_digits}
 use Rattle.zk_directory.specs.declared.file.FileEntry.{FileEntry}
 
@@ -71,9 +73,9 @@ ends_of entries first last old mid new p q e f =
 
 -- ---- all files
 
-pub lists_of : (snapshots logs : Option (List (List ℕ))) (snapshot_bytes log_bytes : List ℕ → Option (List ℕ)) (snapshot_names log_names : List (String Global)) (held logged : List ℤ) (result : Result (String Global) FilesFault)
+pub lists_of : (snapshots logs : Option (List (List ℕ))) (snapshot_bytes log_bytes : List ℕ → Option (List ℕ)) (snapshot_names log_names : List (String Global)) (held logged : List ℤ) (result : Result (String Global) HistoryFault)
     → IsGiven snapshots (map string_bytes snapshot_names) → IsGiven logs (map string_bytes log_names) → AreZxidsBy (λ name. snapshot_zxid (string_bytes name)) snapshot_names held → AreZxidsBy (λ name. log_zxid (string_bytes name)) log_names logged
-    → LinesOf snapshot_bytes log_bytes held logged result → ListsFiles snapshots snapshot_bytes logs log_bytes result
+    → LinesOf snapshot_bytes log_bytes held logged snapshot_names log_names result → ListsFiles snapshots snapshot_bytes logs log_bytes result
 lists_of snapshots logs snapshot_bytes log_bytes snapshot_names log_names held logged (Ok text) g h p q l = record {
   snapshot_names = snapshot_names;
   log_names = log_names;
@@ -89,7 +91,10 @@ lists_of snapshots logs snapshot_bytes log_bytes snapshot_names log_names held l
   logs_listed = l.3;
   lines = l.4;
 }
-lists_of snapshots logs snapshot_bytes log_bytes snapshot_names log_names held logged (Err faults.Empty) g h p q l = absurd (l refl)
-lists_of snapshots logs snapshot_bytes log_bytes snapshot_names log_names held logged (Err faults.Read) g h p q l = tt
-lists_of snapshots logs snapshot_bytes log_bytes snapshot_names log_names held logged (Err (faults.File file)) g h p q l = tt
-lists_of snapshots logs snapshot_bytes log_bytes snapshot_names log_names held logged (Err faults.NoMemory) g h p q l = tt
+lists_of snapshots logs snapshot_bytes log_bytes snapshot_names log_names held logged (Err fault) g h p q l = inr (a_file snapshot_bytes log_bytes snapshots logs fault l)
+
+pub snapshots_unlisted : (snapshots logs : Option (List (List ℕ))) (snapshot_bytes log_bytes : List ℕ → Option (List ℕ)) (fault : HistoryFault) → AreUnlisted snapshots fault → ListsFiles snapshots snapshot_bytes logs log_bytes (Err fault)
+snapshots_unlisted snapshots logs snapshot_bytes log_bytes fault unlisted = inr (the_snapshots snapshot_bytes log_bytes snapshots logs fault unlisted)
+
+pub logs_unlisted : (snapshots logs : Option (List (List ℕ))) (snapshot_bytes log_bytes : List ℕ → Option (List ℕ)) (fault : HistoryFault) → AreUnlisted logs fault → ListsFiles snapshots snapshot_bytes logs log_bytes (Err fault)
+logs_unlisted snapshots logs snapshot_bytes log_bytes fault unlisted = inr (the_logs snapshot_bytes log_bytes snapshots logs fault unlisted)

@@ -5,7 +5,7 @@ use Rattle.zk_replay.specs.Bases.{exact_from, snapshot_fault}
 use Rattle.zk_replay.specs.declared.exact.Exact.{Exact}
 use Rattle.zk_replay.specs.declared.fault.BaseFault.{BaseFault}
 use Rattle.zk_replay.specs.declared.fault.BaseFault.TheVariants as base_faults
-use Rattle.zk_directory_state.specs.Logs.{AreGiven, IsUnread, bytes_of, logs_from}
+use Rattle.zk_directory_state.specs.Logs.{AreGiven, AreUnreadFiles, IsUnreadLog, bytes_of, logs_from}
 use Rattle.zk_directory_state.specs.declared.attempt.Attempt.{Attempt}
 use Rattle.zk_directory_state.specs.declared.attempt.Attempt.TheVariants.{Serves, Passed, Early}
 use Rattle.zk_directory_state.specs.Folders.{IsGiven}
@@ -136,7 +136,7 @@ pub record TriesGiven (snapshot_bytes log_bytes : List ℕ → Option (List ℕ)
 -- what the snapshot of this zxid leads to, unless a file could not be read
 abbrev pub Tries : (List ℕ → Option (List ℕ)) → (List ℕ → Option (List ℕ)) → ℤ → Option ℤ → List ℤ → Result Attempt HistoryFault → Type 0
 Tries snapshot_bytes log_bytes zxid upto logged (Ok attempt) = TriesGiven snapshot_bytes log_bytes zxid upto logged (Ok attempt)
-Tries snapshot_bytes log_bytes zxid upto logged (Err fault) = IsUnread fault ⊎ TriesGiven snapshot_bytes log_bytes zxid upto logged (Err fault)
+Tries snapshot_bytes log_bytes zxid upto logged (Err fault) = AreUnreadFiles snapshot_bytes log_bytes fault ⊎ TriesGiven snapshot_bytes log_bytes zxid upto logged (Err fault)
 
 -- ---- calls within
 
@@ -147,8 +147,8 @@ FindsExact snapshot zxid logs (Err fault) = ((exact_from snapshot zxid).is_told 
 
 abbrev pub TriesOver : (List ℕ → Option (List ℕ)) → Snapshot → ℤ → Option ℤ → List ℤ → Result Attempt HistoryFault → Type 0
 TriesOver log_bytes snapshot zxid upto logged (Ok attempt) = LeadsOver log_bytes snapshot zxid upto logged (Ok attempt)
-TriesOver log_bytes snapshot zxid upto logged (Err fault) = IsUnread fault ⊎ LeadsOver log_bytes snapshot zxid upto logged (Err fault)
+TriesOver log_bytes snapshot zxid upto logged (Err fault) = IsUnreadLog log_bytes fault ⊎ LeadsOver log_bytes snapshot zxid upto logged (Err fault)
 
 abbrev pub TriesBytesOf : (List ℕ → Option (List ℕ)) → List ℕ → ℤ → Option ℤ → List ℤ → Result Attempt HistoryFault → Type 0
 TriesBytesOf log_bytes bytes zxid upto logged (Ok attempt) = TriesBytes log_bytes bytes (all_of bytes) zxid upto logged (Ok attempt)
-TriesBytesOf log_bytes bytes zxid upto logged (Err fault) = IsUnread fault ⊎ TriesBytes log_bytes bytes (all_of bytes) zxid upto logged (Err fault)
+TriesBytesOf log_bytes bytes zxid upto logged (Err fault) = IsUnreadLog log_bytes fault ⊎ TriesBytes log_bytes bytes (all_of bytes) zxid upto logged (Err fault)

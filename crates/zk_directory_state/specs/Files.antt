@@ -1,15 +1,18 @@
 -- The lines of the files of a data directory: definitions of this project.
-use Rattle.std.specs.Prelude.{◌≡◌, ◌≢◌, ◌+◌, ◌-◌, ℕ, ℤ, Bool, ◌&&◌, not, int_lt, List, [], ◌∷◌, ◌++◌, length, map, slice_get, Option, Some, None, Result, Ok, Err, String, if◌then◌else◌, codes}
+use Rattle.std.specs.Prelude.{◌≡◌, ◌⊎◌, ◌+◌, ◌-◌, ℕ, ℤ, Bool, ◌&&◌, not, int_lt, List, [], ◌∷◌, ◌++◌, length, map, slice_get, Option, Some, None, Result, Ok, Err, String, if◌then◌else◌, codes}
 use Rattle.std.specs.Fmt.{decimal}
 use Rattle.std.specs.Global.{Global}
+use Rattle.std.specs.List.{flat_map}
 use Rattle.std.specs.String.{string_bytes}
 use Rattle.zk_replay.specs.Bases.{exact_from}
 use Rattle.zk_replay.specs.declared.exact.Exact.{Exact}
 use Rattle.zk_directory.specs.Continuing.{continues}
 use Rattle.zk_directory_state.specs.Folders.{IsGiven}
-use Rattle.zk_directory_state.specs.declared.file_listing.FilesFault.{FilesFault}
-use Rattle.zk_directory_state.specs.declared.file_listing.FilesFault.TheVariants as faults
+use Rattle.zk_directory_state.specs.Logs.{AreUnreadFiles, IsUnreadIn}
 use Rattle.zk_directory_state.specs.Names.{AreZxidsBy, snapshot_name, snapshot_zxid, log_name, log_zxid}
+use Rattle.zk_directory_state.specs.UnreadFiles.{unread_log, unread_snapshot}
+use Rattle.zk_directory_state.specs.declared.fault.HistoryFault.{HistoryFault}
+use Rattle.zk_directory_state.specs.declared.fault.HistoryFault.TheVariants as faults
 use Rattle.zk_format.specs.Spelling.{id_digits}
 use Rattle.zk_jute.specs.declared.fault.JuteFault.{JuteFault}
 use Rattle.zk_log.specs.declared.loaded.Ending.{Ending}
@@ -116,6 +119,10 @@ log_line zxid last file = log_head zxid file ++ gaps_text last file.entries.item
 
 -- ---- all files
 
+-- of snapshots, and then of logs
+abbrev pub unread_lines : List (String Global) → List (String Global) → List ℕ
+unread_lines snapshot_names log_names = flat_map (λ name. unread_snapshot (string_bytes name)) snapshot_names ++ flat_map (λ name. unread_log (string_bytes name)) log_names
+
 -- one line more, of the bytes that the folder gives
 pub record AddsSnapshot (bytes_in : List ℕ → Option (List ℕ)) (zxid : ℤ) (line : List ℕ) : Type 0 where
   pub bytes : List ℕ
@@ -142,7 +149,7 @@ AreLogLines bytes_in [] last text = text ≡ []
 AreLogLines bytes_in (zxid ∷ zxids) last text = (line : List ℕ) × (after : Option ℤ) × (rest : List ℕ) × AddsLog bytes_in zxid last line after × AreLogLines bytes_in zxids after rest × (text ≡ line ++ rest)
 
 -- The lines of the snapshots of a folder, and of the logs of a folder: by the names and the bytes
--- that these give.
+-- that these give. At the end those of files that are not read.
 pub record IsFilesText (snapshots : Option (List (List ℕ))) (snapshot_bytes : List ℕ → Option (List ℕ)) (logs : Option (List (List ℕ))) (log_bytes : List ℕ → Option (List ℕ)) (text : List ℕ) : Type 0 where
   pub snapshot_names : List (String Global)
   pub log_names : List (String Global)
@@ -156,7 +163,7 @@ pub record IsFilesText (snapshots : Option (List (List ℕ))) (snapshot_bytes : 
   pub are_logs : AreZxidsBy (λ name. log_zxid (string_bytes name)) log_names log_zxids
   pub snapshots_listed : AreSnapshotLines snapshot_bytes snapshot_zxids snapshot_lines
   pub logs_listed : AreLogLines log_bytes log_zxids None log_lines
-  pub lines : text ≡ snapshot_lines ++ log_lines
+  pub lines : text ≡ snapshot_lines ++ log_lines ++ unread_lines snapshot_names log_names
 
 -- there is no snapshot and no log among the names that the folders give
 pub record HoldsNone (snapshots logs : Option (List (List ℕ))) : Type 0 where
@@ -170,11 +177,10 @@ pub record HoldsNone (snapshots logs : Option (List (List ℕ))) : Type 0 where
   pub are_logs : AreZxidsBy (λ name. log_zxid (string_bytes name)) log_names log_zxids
   pub none : length snapshot_zxids + length log_zxids ≡ 0
 
--- the lines, or that there is no file
-abbrev pub ListsFiles : Option (List (List ℕ)) → (List ℕ → Option (List ℕ)) → Option (List (List ℕ)) → (List ℕ → Option (List ℕ)) → Result (String Global) FilesFault → Type 0
+-- the lines, or why there are none: there is no file, or one cannot be read
+abbrev pub ListsFiles : Option (List (List ℕ)) → (List ℕ → Option (List ℕ)) → Option (List (List ℕ)) → (List ℕ → Option (List ℕ)) → Result (String Global) HistoryFault → Type 0
 ListsFiles snapshots snapshot_bytes logs log_bytes (Ok text) = IsFilesText snapshots snapshot_bytes logs log_bytes (string_bytes text)
-ListsFiles snapshots snapshot_bytes logs log_bytes (Err faults.Empty) = HoldsNone snapshots logs
-ListsFiles snapshots snapshot_bytes logs log_bytes (Err fault) = Unit {0}
+ListsFiles snapshots snapshot_bytes logs log_bytes (Err fault) = (HoldsNone snapshots logs × (fault ≡ faults.Empty)) ⊎ IsUnreadIn snapshots snapshot_bytes logs log_bytes fault
 
 -- ---- its parts
 
@@ -192,8 +198,8 @@ AddsSnapshots bytes_in zxids old new = (lines : List ℕ) × AreSnapshotLines by
 abbrev pub AddsLogs : (List ℕ → Option (List ℕ)) → List ℤ → Option ℤ → List ℕ → List ℕ → Type 0
 AddsLogs bytes_in zxids last old new = (lines : List ℕ) × AreLogLines bytes_in zxids last lines × (new ≡ old ++ lines)
 
--- the lines of these snapshots and logs
-abbrev pub LinesOf : (List ℕ → Option (List ℕ)) → (List ℕ → Option (List ℕ)) → List ℤ → List ℤ → Result (String Global) FilesFault → Type 0
-LinesOf snapshot_bytes log_bytes held logged (Ok text) =
-    (snapshot_lines : List ℕ) × (log_lines : List ℕ) × AreSnapshotLines snapshot_bytes held snapshot_lines × AreLogLines log_bytes logged None log_lines × (string_bytes text ≡ snapshot_lines ++ log_lines)
-LinesOf snapshot_bytes log_bytes held logged (Err fault) = fault ≢ faults.Empty
+-- the lines of these snapshots and logs, and those of the other files with these names
+abbrev pub LinesOf : (List ℕ → Option (List ℕ)) → (List ℕ → Option (List ℕ)) → List ℤ → List ℤ → List (String Global) → List (String Global) → Result (String Global) HistoryFault → Type 0
+LinesOf snapshot_bytes log_bytes held logged snapshot_names log_names (Ok text) =
+    (snapshot_lines : List ℕ) × (log_lines : List ℕ) × AreSnapshotLines snapshot_bytes held snapshot_lines × AreLogLines log_bytes logged None log_lines × (string_bytes text ≡ snapshot_lines ++ log_lines ++ unread_lines snapshot_names log_names)
+LinesOf snapshot_bytes log_bytes held logged snapshot_names log_names (Err fault) = AreUnreadFiles snapshot_bytes log_bytes fault

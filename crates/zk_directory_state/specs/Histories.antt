@@ -9,7 +9,7 @@ use Rattle.zk_directory_state.specs.Attempts.{TriesGiven, history_fault}
 use Rattle.std.specs.Ordering.{int_eq}
 use Rattle.zk_directory_state.specs.Evidence.{IsStart, is_first, is_new, proved}
 use Rattle.zk_directory_state.specs.declared.evidence.Start.{Start}
-use Rattle.zk_directory_state.specs.Logs.{AreGiven, IsUnread, bytes_of}
+use Rattle.zk_directory_state.specs.Logs.{AreGiven, AreUnreadFiles, IsUnreadIn, IsUnreadLog, bytes_of}
 use Rattle.zk_directory_state.specs.declared.attempt.Attempt.{Attempt}
 use Rattle.zk_directory_state.specs.declared.attempt.Attempt.TheVariants as attempts
 use Rattle.zk_directory_state.specs.declared.history.Broken.{Broken}
@@ -228,26 +228,26 @@ pub record HoldsNone (snapshots logs : Option (List (List ℕ))) : Type 0 where
   pub are_logs : AreIn log_zxid logs logged
   pub none : length held + length logged ≡ 0
 
--- what a directory holds, unless a file could not be read
+-- what a directory holds, or what of it cannot be read
 abbrev pub Holds : Option (List (List ℕ)) → (List ℕ → Option (List ℕ)) → Option (List (List ℕ)) → (List ℕ → Option (List ℕ)) → Upto → Result Shown HistoryFault → Type 0
 Holds snapshots snapshot_bytes logs log_bytes upto (Ok shown) = IsHistory snapshots snapshot_bytes logs log_bytes upto (Ok shown)
 Holds snapshots snapshot_bytes logs log_bytes upto (Err faults.Empty) = HoldsNone snapshots logs
-Holds snapshots snapshot_bytes logs log_bytes upto (Err fault) = IsUnread fault ⊎ IsHistory snapshots snapshot_bytes logs log_bytes upto (Err fault)
+Holds snapshots snapshot_bytes logs log_bytes upto (Err fault) = IsUnreadIn snapshots snapshot_bytes logs log_bytes fault ⊎ IsHistory snapshots snapshot_bytes logs log_bytes upto (Err fault)
 
 -- ---- calls within
 
 -- unless a file could not be read
 abbrev pub FindsUpto : (List ℕ → Option (List ℕ)) → List ℤ → Upto → Result (Option ℤ) HistoryFault → Type 0
 FindsUpto bytes_in logged upto (Ok zxid) = IsUpto bytes_in logged upto (Ok zxid)
-FindsUpto bytes_in logged upto (Err fault) = IsUnread fault ⊎ IsUpto bytes_in logged upto (Err fault)
+FindsUpto bytes_in logged upto (Err fault) = IsUnreadLog bytes_in fault ⊎ IsUpto bytes_in logged upto (Err fault)
 
 abbrev pub FindsTime : (List ℕ → Option (List ℕ)) → ℤ → List ℤ → Result ℤ HistoryFault → Type 0
 FindsTime bytes_in time logged (Ok latest) = IsUptoTime bytes_in time logged (Ok (Some latest))
-FindsTime bytes_in time logged (Err fault) = IsUnread fault ⊎ IsUptoTime bytes_in time logged (Err fault)
+FindsTime bytes_in time logged (Err fault) = IsUnreadLog bytes_in fault ⊎ IsUptoTime bytes_in time logged (Err fault)
 
 abbrev pub RestoresWithout : Folders → List Broken → Option Early → Result Restored HistoryFault → Type 0
 RestoresWithout folders broken early (Ok restored) = IsWithoutSnapshot folders broken early (Ok restored)
-RestoresWithout folders broken early (Err fault) = IsUnread fault ⊎ IsWithoutSnapshot folders broken early (Err fault)
+RestoresWithout folders broken early (Err fault) = IsUnreadLog folders.log_bytes fault ⊎ IsWithoutSnapshot folders broken early (Err fault)
 
 -- one snapshot was tried
 abbrev pub NextBy : ℤ → PassedOver → Result Attempt HistoryFault → Next → Type 0
@@ -258,8 +258,8 @@ NextBy zxid over attempt next = ⊥
 
 abbrev pub TriesNext : Folders → ℤ → PassedOver → Result Next HistoryFault → Type 0
 TriesNext folders zxid over (Ok next) = (attempt : Result Attempt HistoryFault) × TriesGiven folders.snapshot_bytes folders.log_bytes zxid folders.upto folders.logged attempt × NextBy zxid over attempt next
-TriesNext folders zxid over (Err fault) = IsUnread fault ⊎ TriesGiven folders.snapshot_bytes folders.log_bytes zxid folders.upto folders.logged (Err fault)
+TriesNext folders zxid over (Err fault) = AreUnreadFiles folders.snapshot_bytes folders.log_bytes fault ⊎ TriesGiven folders.snapshot_bytes folders.log_bytes zxid folders.upto folders.logged (Err fault)
 
 abbrev pub ChoosesOf : Folders → List ℤ → List Broken → Option Early → Result Shown HistoryFault → Type 0
 ChoosesOf folders zxids broken early (Ok shown) = Chooses folders (Ok shown) zxids broken early
-ChoosesOf folders zxids broken early (Err fault) = IsUnread fault ⊎ Chooses folders (Err fault) zxids broken early
+ChoosesOf folders zxids broken early (Err fault) = AreUnreadFiles folders.snapshot_bytes folders.log_bytes fault ⊎ Chooses folders (Err fault) zxids broken early

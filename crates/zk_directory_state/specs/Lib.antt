@@ -5,6 +5,7 @@ pub mod Names
 pub mod FaultLines
 pub mod Outcomes
 pub mod ServerFiles
+pub mod UnreadFiles
 pub mod Counts
 pub mod Directories
 pub mod Ends
@@ -12,12 +13,14 @@ pub mod Evidence
 pub mod Joins
 pub mod Restorations
 pub mod States
+pub mod Walks
 pub mod Windows
 pub mod Attempts
 pub mod Histories
 pub mod Ranges
 pub mod Spans
 pub mod Logs
+pub mod Losses
 pub mod Notices
 pub mod Showing
 pub mod Reports

@@ -3,8 +3,6 @@ use Rattle.std.specs.Prelude.{ℕ, zero, suc, ℤ, List, Option, Some, Result, O
 use Rattle.std.specs.Global.{Global}
 use Rattle.std.specs.String.{string_bytes}
 use Rattle.zk_directory_state.specs.Files.{ListsFiles}
-use Rattle.zk_directory_state.specs.declared.file_listing.FilesFault.{FilesFault}
-use Rattle.zk_directory_state.specs.declared.file_listing.FilesFault.TheVariants as files_faults
 use Rattle.zk_directory_state.specs.FaultLines.{beyond_line, fault_line}
 use Rattle.zk_directory_state.specs.declared.fault.HistoryFault.{HistoryFault}
 use Rattle.zk_directory_state.specs.declared.fault.HistoryFault.TheVariants as faults
@@ -38,18 +36,12 @@ Rejects written told fault output output' faults faults' result = LeavesSink wri
 
 -- ---- `zk files`
 
-abbrev pub history_fault : FilesFault → HistoryFault
-history_fault files_faults.Empty = faults.Empty
-history_fault files_faults.Read = faults.Read
-history_fault (files_faults.File file) = faults.Unreadable file
-history_fault files_faults.NoMemory = faults.NoMemory
-
-abbrev pub OutputsFiles : {O E : Type 0} → (O → Option (List ℕ)) → (E → Option (List ℕ)) → Result (String Global) FilesFault → Sink O → Sink O → Sink E → Sink E → Result ℕ NoMemory → Type 0
+abbrev pub OutputsFiles : {O E : Type 0} → (O → Option (List ℕ)) → (E → Option (List ℕ)) → Result (String Global) HistoryFault → Sink O → Sink O → Sink E → Sink E → Result ℕ NoMemory → Type 0
 OutputsFiles written told (Ok text) output output' faults faults' result = Outputs written told (string_bytes text) output output' faults faults' result
-OutputsFiles written told (Err fault) output output' faults faults' result = Rejects written told (history_fault fault) output output' faults faults' result
+OutputsFiles written told (Err fault) output output' faults faults' result = Rejects written told fault output output' faults faults' result
 
 -- the files are listed
 pub record TellsFiles {O E : Type 0} (written : O → Option (List ℕ)) (told : E → Option (List ℕ)) (snapshots : Option (List (List ℕ))) (snapshot_bytes : List ℕ → Option (List ℕ)) (logs : Option (List (List ℕ))) (log_bytes : List ℕ → Option (List ℕ)) (output output' : Sink O) (faults faults' : Sink E) (result : Result ℕ NoMemory) : Type 0 where
-  pub answer : Result (String Global) FilesFault
+  pub answer : Result (String Global) HistoryFault
   pub lists : ListsFiles snapshots snapshot_bytes logs log_bytes answer
   pub outputs : OutputsFiles written told answer output output' faults faults' result

@@ -1,19 +1,15 @@
 -- The transactions that the logs of a directory hold, from the first one to the last, and what they
 -- prove of a range that is asked for.
-use Rattle.std.specs.Prelude.{◌≡◌, ℕ, ℤ, Bool, true, false, not, ◌&&◌, ◌||◌, int_lt, List, [], ◌∷◌, ◌++◌, Option, Some, None, Result, Ok, Err, String, codes, if◌then◌else◌}
-use Rattle.std.specs.Global.{Global}
-use Rattle.std.specs.String.{string_bytes}
+use Rattle.std.specs.Prelude.{◌≡◌, ℕ, ℤ, Bool, true, false, not, ◌&&◌, ◌||◌, int_lt, List, [], ◌∷◌, ◌++◌, Option, Some, None, codes, if◌then◌else◌}
+use Rattle.zk_directory.specs.declared.file.LogFileFault.{LogFileFault}
 use Rattle.zk_directory_state.specs.declared.fault.HistoryFault.{HistoryFault}
 use Rattle.zk_directory_state.specs.declared.fault.HistoryFault.TheVariants as faults
-use Rattle.zk_directory_state.specs.Evidence.{is_first}
 use Rattle.zk_directory_state.specs.Histories.{blank_fault}
-use Rattle.zk_directory_state.specs.declared.evidence.Start.{Start}
 use Rattle.zk_directory_state.specs.declared.range.Bound.{Bound}
 use Rattle.zk_directory_state.specs.declared.range.Bound.TheVariants.{Zxid, Time}
 use Rattle.zk_directory_state.specs.declared.range.Range.{Range}
 use Rattle.zk_directory_state.specs.declared.span.Moment.{Moment}
 use Rattle.zk_directory_state.specs.declared.span.Span.{Span}
-use Rattle.zk_directory_state.specs.declared.span.Spanned.{Spanned}
 use Rattle.zk_format.specs.Spelling.{id_digits}
 use Rattle.zk_json.specs.Times.{IsTimeText}
 use Rattle.zk_newer_records.specs.declared.newer_record.NewerRecord.{NewerRecord}
@@ -23,14 +19,10 @@ use Rattle.zk_newer_records.specs.declared.newer_record.NewerRecord.{NewerRecord
 abbrev pub moment_of : NewerRecord → Moment
 moment_of newer = record { zxid = newer.txn.zxid; time = newer.txn.time }
 
--- of these records, or else this one
-abbrev pub last_moment : Moment → List NewerRecord → Moment
-last_moment moment [] = moment
-last_moment moment (newer ∷ records) = last_moment (moment_of newer) records
-
-abbrev pub span_of : List NewerRecord → Option Span
-span_of [] = None
-span_of (newer ∷ records) = Some (record { first = moment_of newer; last = last_moment (moment_of newer) records })
+-- with one more
+abbrev pub span_after : Option Span → NewerRecord → Span
+span_after None newer = record { first = moment_of newer; last = moment_of newer }
+span_after (Some span) newer = record { first = span.first; last = moment_of newer }
 
 -- ---- bounds
 
@@ -59,12 +51,7 @@ comes_after (Some bound) moment = is_after bound moment
 
 -- ---- what is asked for
 
--- no transaction was before the first entry of the logs
-abbrev pub is_whole : List ℤ → Option Start → Bool
-is_whole logged None = false
-is_whole logged (Some start) = is_first logged start
-
--- logs without a transaction say nothing of what led to a snapshot
+-- logs without a transaction do not show what led to a snapshot
 abbrev pub unlogged_fault : List ℤ → List ℤ → Option HistoryFault
 unlogged_fault [] logged = blank_fault [] logged
 unlogged_fault (zxid ∷ held) logged = Some faults.NoTransaction
@@ -76,10 +63,10 @@ outside_fault range whole span =
     if comes_after range.from span.last then Some (faults.Beyond span.last.zxid (Some span.last.time)) else
     (if not whole && ends_before range.to span.first then Some (faults.Purged span.first.zxid) else None)
 
--- why the logs do not answer a question about a range
-abbrev pub range_fault : Range → List ℤ → List ℤ → Option Start → Option Span → Option HistoryFault
-range_fault range held logged start None = unlogged_fault held logged
-range_fault range held logged start (Some span) = outside_fault range (is_whole logged start) span
+-- logs of which none has an intact entry, with the last fault of one
+abbrev pub empty_fault : Option (ℤ × LogFileFault) → List ℤ → List ℤ → Option HistoryFault
+empty_fault None held logged = unlogged_fault held logged
+empty_fault (Some fault) held logged = Some (faults.Log fault.0 fault.1)
 
 -- ---- what is said of the answer
 
@@ -98,23 +85,6 @@ abbrev pub IsNoticeBy : Bool → Span → List ℕ → Type 0
 IsNoticeBy true span notice = IsRangeLine span notice
 IsNoticeBy false span notice = notice ≡ []
 
-abbrev pub IsNotice : Range → Bool → Option Span → List ℕ → Type 0
-IsNotice range whole None notice = notice ≡ []
-IsNotice range whole (Some span) notice = IsNoticeBy (is_part range whole span) span notice
-
--- ---- calls within
-
--- the notice on the answer, or why there is none
-abbrev pub Notices : Range → List ℤ → List ℤ → Option Start → Option Span → Result (String Global) HistoryFault → Type 0
-Notices range held logged start span (Ok notice) = (range_fault range held logged start span ≡ None) × IsNotice range (is_whole logged start) span (string_bytes notice)
-Notices range held logged start span (Err faults.NoMemory) = Unit {0}
-Notices range held logged start span (Err fault) = range_fault range held logged start span ≡ Some fault
-
-abbrev pub span_after : Option Span → NewerRecord → Span
-span_after None newer = record { first = moment_of newer; last = moment_of newer }
-span_after (Some span) newer = record { first = span.first; last = moment_of newer }
-
--- a record is folded, and is the last one
-pub record Extends {S : Type 0} (follows : S → NewerRecord → S → Type 0) (old : Spanned S) (newer : NewerRecord) (new : Spanned S) : Type 0 where
-  pub folded : follows old.fold newer new.fold
-  pub span : new.span ≡ Some (span_after old.span newer)
+abbrev pub IsRangeNotice : Range → Bool → Option Span → List ℕ → Type 0
+IsRangeNotice range whole None notice = notice ≡ []
+IsRangeNotice range whole (Some span) notice = IsNoticeBy (is_part range whole span) span notice

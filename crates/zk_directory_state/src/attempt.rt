@@ -137,6 +137,7 @@ fn try_bytes<L: Folder>(
 }
 
 /// What the snapshot of this zxid leads to.
+#[tactic(auto, using(crate::proofs::Unreading::snapshot_fails, crate::proofs::Unreading::tries_bytes))]
 pub(crate) fn try_snapshot<S: Folder, L: Folder>(
     alloc: Global,
     snapshots: &S,

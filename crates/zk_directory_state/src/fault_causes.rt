@@ -1,6 +1,6 @@
 //! The faults of a restoration, with the files that they are about.
 ghost use Rattle.std.specs.Prelude.{◌≡◌};
-ghost use Rattle.zk_directory_state.specs.Attempts.{broken_by, history_fault, log_at, passed_fault};
+ghost use Rattle.zk_directory_state.specs.Attempts.{broken_by, fault_by, history_fault, log_at, passed_fault};
 
 use crate::{DirectoryFault, HistoryFault, PassedFault, RestoreFault};
 use zk_replay::BaseFault;
@@ -16,13 +16,12 @@ pub(crate) fn log_at(logged: &[i64], place: usize) -> i64
     }
 }
 
-/// The fault of a directory, from that of a restoration: `snapshot` is the zxid in the name of the
-/// snapshot, or 0 for the empty tree, and `logged` has those in the names of the logs.
-pub fn history_fault(failed: DirectoryFault, snapshot: i64, logged: &[i64]) -> HistoryFault
-    ensures { result ≡ history_fault failed snapshot logged.now }
+/// The fault of a directory, from that of a restoration from the snapshot of this zxid, or 0 for the
+/// empty tree, and of the log with that zxid in its name.
+pub(crate) fn fault_by(fault: RestoreFault, snapshot: i64, log: i64) -> HistoryFault
+    ensures { result ≡ fault_by snapshot log fault }
 {
-    let log = log_at(logged, failed.log);
-    match failed.fault {
+    match fault {
         RestoreFault::Purged { first } => HistoryFault::Purged { first },
         RestoreFault::Gap { from, to } => HistoryFault::Gap { from, to },
         RestoreFault::Differs { at } => HistoryFault::Differs { log, at },
@@ -39,6 +38,14 @@ pub fn history_fault(failed: DirectoryFault, snapshot: i64, logged: &[i64]) -> H
         },
         RestoreFault::NoMemory => HistoryFault::NoMemory,
     }
+}
+
+/// The fault of a directory, from that of a restoration: `snapshot` is the zxid in the name of the
+/// snapshot, or 0 for the empty tree, and `logged` has those in the names of the logs.
+pub fn history_fault(failed: DirectoryFault, snapshot: i64, logged: &[i64]) -> HistoryFault
+    ensures { result ≡ history_fault failed snapshot logged.now }
+{
+    fault_by(failed.fault, snapshot, log_at(logged, failed.log))
 }
 
 /// Why a snapshot that cannot be read is passed over; `None` if allocation failed.

@@ -1,11 +1,10 @@
 //! `zk files`.
-ghost use Rattle.std.specs.Prelude.{◌≡◌, ◌-◌, ◌<◌, ◌^◌};
-ghost use Rattle.zk_directory_state.specs.Outcomes.{TellsFiles, history_fault};
+ghost use Rattle.std.specs.Prelude.{◌-◌, ◌<◌, ◌^◌};
+ghost use Rattle.zk_directory_state.specs.Outcomes.{TellsFiles};
 ghost use Rattle.zk_records.specs.Sinks.{write_failures_of};
 
-use crate::fault::HistoryFault;
 use crate::telling::{put_text, tell_fault};
-use crate::{FilesFault, Folder, files_text};
+use crate::{Folder, files_text};
 use std::alloc::Global;
 use std::io::Write;
 use zk_log::Sink;
@@ -27,17 +26,6 @@ pub fn files<S: Folder, L: Folder, O: Write, E: Write>(
 {
     match files_text(alloc, snapshots, logs) {
         Ok(text) => Ok(put_text(text.as_str(), output, faults)),
-        Err(fault) => tell_fault(alloc, &history_fault(fault), faults),
-    }
-}
-
-fn history_fault(fault: FilesFault) -> HistoryFault
-    ensures { result ≡ history_fault fault }
-{
-    match fault {
-        FilesFault::Empty => HistoryFault::Empty,
-        FilesFault::Read => HistoryFault::Read,
-        FilesFault::File(file) => HistoryFault::Unreadable(file),
-        FilesFault::NoMemory => HistoryFault::NoMemory,
+        Err(fault) => tell_fault(alloc, &fault, faults),
     }
 }

@@ -334,7 +334,7 @@ pub(crate) fn has_no_files(held: &[i64], logged: &[i64]) -> bool
 /// - [`HistoryFault::Gap`], [`HistoryFault::Differs`] or [`HistoryFault::Log`] if the logs do not
 ///   continue one another up to that transaction;
 /// - [`HistoryFault::Unreadable`] or [`HistoryFault::Read`] if a file or folder cannot be read.
-#[tactic(auto, using(crate::proofs::Held::no_files, crate::proofs::Held::unread_holds))]
+#[tactic(auto, using(crate::proofs::Held::no_files, crate::proofs::Held::snapshots_unlisted, crate::proofs::Held::logs_unlisted))]
 pub fn shown_of<S: Folder, L: Folder>(
     alloc: Global,
     snapshots: &S,

@@ -1,10 +1,11 @@
 //! The entries of log files, joined into one history.
-ghost use Rattle.std.specs.Prelude.{◌≡◌};
-ghost use Rattle.zk_directory.specs.Chains.{history_of};
-ghost use Rattle.zk_directory_state.specs.Joins.{TakesEntry, end_of, fault_at, is_wanted};
+ghost use Rattle.std.specs.Prelude.{◌≡◌, OnOk};
+ghost use Rattle.zk_directory.specs.Chains.{history_of, with_entry};
+ghost use Rattle.zk_directory_state.specs.Joins.{TakesEntry, end_of, fault_at, is_wanted, told_of};
 
 use crate::restore_fault::RestoreFault;
 use zk_directory::{Chain, ChainFault, FileEntry, LogEntry, LogFile, Turn};
+use zk_path::NoMemory;
 
 /// A fault of a chain at an entry of this offset.
 fn fault_at(at: u64, fault: ChainFault) -> RestoreFault
@@ -31,6 +32,19 @@ pub fn take_entry<'a>(chain: &mut Chain<'a>, entry: &FileEntry<'a>) -> Result<Tu
         Ok(turn) => Ok(turn),
         Err(fault) => Err(fault_at(entry.at, fault)),
     }
+}
+
+/// Takes an entry that does not continue the history all the same.
+pub fn take_on<'a>(chain: &mut Chain<'a>, entry: &FileEntry<'a>) -> Result<(), NoMemory>
+    ensures { OnOk result (history_of chain.new ≡ with_entry (history_of chain.old) (told_of entry.now)) }
+{
+    let zxid = entry.newer.txn.zxid;
+    chain.taken.push(LogEntry {
+        zxid,
+        bytes: entry.bytes,
+    })?;
+    chain.position = Some(zxid);
+    Ok(())
 }
 
 /// Whether an entry that was not taken yet is asked for.

@@ -2,7 +2,7 @@
 ghost use Rattle.std.specs.Prelude.{◌≡◌, ◌++◌, ◌∷◌, [], IfOk, IfErr, OnOk, map};
 ghost use Rattle.std.specs.String.{string_bytes};
 ghost use Rattle.zk_directory_state.specs.Histories.{AreIn};
-ghost use Rattle.zk_directory_state.specs.Logs.{AreGiven, IsUnread, bytes_of, items_of};
+ghost use Rattle.zk_directory_state.specs.Logs.{AreGiven, AreUnlisted, IsUnread, IsUnreadFile, IsUnreadLog, IsUnreadSnapshot, bytes_of, items_of};
 ghost use Rattle.zk_directory_state.specs.Folders.{IsGiven};
 ghost use Rattle.zk_directory_state.specs.Names.{log_name, log_zxid, snapshot_name, snapshot_zxid};
 
@@ -13,9 +13,10 @@ use std::alloc::Global;
 use zk_directory::FileName;
 use zk_path::NoMemory;
 
-fn names_of<F: Folder>(alloc: Global, folder: &F) -> Result<Vec<String>, HistoryFault>
+pub(crate) fn names_of<F: Folder>(alloc: Global, folder: &F) -> Result<Vec<String>, HistoryFault>
     ensures given { IfOk result (λ names. IsGiven (F.names_in folder.now) (map string_bytes names.items)) }
     ensures unread { IfErr result (λ fault. IsUnread fault) }
+    ensures unlisted { IfErr result (λ fault. AreUnlisted (F.names_in folder.now) fault) }
 {
     match folder.names(alloc) {
         Ok(names) => Ok(names),
@@ -30,6 +31,7 @@ fn names_of<F: Folder>(alloc: Global, folder: &F) -> Result<Vec<String>, History
 pub fn snapshots_in<F: Folder>(alloc: Global, folder: &F) -> Result<Vec<i64>, HistoryFault>
     ensures given { IfOk result (λ held. AreIn snapshot_zxid (F.names_in folder.now) held.items) }
     ensures unread { IfErr result (λ fault. IsUnread fault) }
+    ensures unlisted { IfErr result (λ fault. AreUnlisted (F.names_in folder.now) fault) }
 {
     let names = names_of(alloc, folder)?;
     Ok(snapshot_zxids(alloc, names.as_slice())?)
@@ -41,6 +43,7 @@ pub fn snapshots_in<F: Folder>(alloc: Global, folder: &F) -> Result<Vec<i64>, Hi
 pub fn logs_in<F: Folder>(alloc: Global, folder: &F) -> Result<Vec<i64>, HistoryFault>
     ensures given { IfOk result (λ logged. AreIn log_zxid (F.names_in folder.now) logged.items) }
     ensures unread { IfErr result (λ fault. IsUnread fault) }
+    ensures unlisted { IfErr result (λ fault. AreUnlisted (F.names_in folder.now) fault) }
 {
     let names = names_of(alloc, folder)?;
     Ok(log_zxids(alloc, names.as_slice())?)
@@ -54,6 +57,7 @@ fn read_file<F: Folder>(
 ) -> Result<Vec<u8>, HistoryFault>
     ensures given { IfOk result (λ bytes. IsGiven (F.bytes_in folder.now name.now) bytes.items) }
     ensures unread { IfErr result (λ fault. IsUnread fault) }
+    ensures file { IfErr result (λ fault. IsUnreadFile (F.bytes_in folder.now name.now) file fault) }
 {
     match folder.read(alloc, name) {
         Ok(bytes) => Ok(bytes),
@@ -63,13 +67,17 @@ fn read_file<F: Folder>(
 }
 
 /// The bytes of the snapshot of this zxid.
-pub(crate) fn read_snapshot_file<F: Folder>(
+///
+/// Fails with [`HistoryFault::Unreadable`] if it cannot be read.
+#[tactic(auto, using(crate::proofs::Unreading::unread_snapshot))]
+pub fn read_snapshot_file<F: Folder>(
     alloc: Global,
     folder: &F,
     zxid: i64,
 ) -> Result<Vec<u8>, HistoryFault>
     ensures given { IfOk result (λ bytes. IsGiven (F.bytes_in folder.now (snapshot_name zxid)) bytes.items) }
     ensures unread { IfErr result (λ fault. IsUnread fault) }
+    ensures file { IfErr result (λ fault. IsUnreadSnapshot (F.bytes_in folder.now) fault) }
 {
     let mut name = String::new(alloc);
     push_snapshot_name(&mut name, zxid)?;
@@ -77,6 +85,7 @@ pub(crate) fn read_snapshot_file<F: Folder>(
 }
 
 /// The bytes of the log of this zxid.
+#[tactic(auto, using(crate::proofs::Unreading::unread_log))]
 pub(crate) fn read_log<F: Folder>(
     alloc: Global,
     folder: &F,
@@ -84,6 +93,7 @@ pub(crate) fn read_log<F: Folder>(
 ) -> Result<Vec<u8>, HistoryFault>
     ensures given { IfOk result (λ bytes. IsGiven (F.bytes_in folder.now (log_name zxid)) bytes.items) }
     ensures unread { IfErr result (λ fault. IsUnread fault) }
+    ensures file { IfErr result (λ fault. IsUnreadLog (F.bytes_in folder.now) fault) }
 {
     let mut name = String::new(alloc);
     push_log_name(&mut name, zxid)?;
@@ -108,6 +118,7 @@ pub fn read_logs<F: Folder>(
 ) -> Result<Vec<Vec<u8>>, HistoryFault>
     ensures given { IfOk result (λ loaded. AreGiven (F.bytes_in folder.now) logged.now (map items_of loaded.items)) }
     ensures unread { IfErr result (λ fault. IsUnread fault) }
+    ensures file { IfErr result (λ fault. IsUnreadLog (F.bytes_in folder.now) fault) }
 {
     let mut loaded = Vec::new(alloc);
     for zxid in logged {

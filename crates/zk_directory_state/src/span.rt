@@ -1,17 +1,17 @@
 //! The transactions that logs hold, and what is said of a range that goes beyond them.
 ghost use Rattle.std.specs.Prelude.{◌≡◌, IfOk};
 ghost use Rattle.std.specs.String.{string_bytes};
-ghost use Rattle.zk_directory_state.specs.Spans.{Extends, IsNotice, IsRangeLine, Notices, begins_before, comes_after, ends_before, is_after, is_before, is_part, is_whole, moment_of, outside_fault, range_fault, range_line, span_after, unlogged_fault};
+ghost use Rattle.zk_directory_state.specs.Spans.{IsRangeLine, IsRangeNotice, begins_before, comes_after, empty_fault, ends_before, is_after, is_before, is_part, moment_of, outside_fault, range_line, span_after, unlogged_fault};
 ghost use Rattle.zk_json.specs.Times.{IsTimeText};
 
 use crate::HistoryFault;
-use crate::evidence::{Start, is_first};
 use crate::history::blank_fault;
 use crate::range::{Bound, Range};
 use std::alloc::Global;
+use zk_directory::LogFileFault;
 use zk_format::push_id;
 use zk_json::push_time;
-use zk_newer_records::{NewerRecord, RecordFold};
+use zk_newer_records::NewerRecord;
 use zk_path::NoMemory;
 
 /// A transaction, and its time, in milliseconds since 1970.
@@ -28,7 +28,7 @@ pub struct Span {
     pub last: Moment,
 }
 
-fn moment_of(newer: &NewerRecord) -> Moment
+pub(crate) fn moment_of(newer: &NewerRecord) -> Moment
     ensures { result ≡ moment_of newer.now }
 {
     Moment {
@@ -37,27 +37,8 @@ fn moment_of(newer: &NewerRecord) -> Moment
     }
 }
 
-// ---- records
-
-/// A fold, and which transactions it has taken.
-#[derive(Drop)]
-pub(crate) struct Spanned<F> {
-    pub(crate) fold: F,
-    /// `None` before the first one.
-    pub(crate) span: Option<Span>,
-}
-
-impl<F: RecordFold> RecordFold for Spanned<F> {
-    ghost follows = { Extends F.follows };
-
-    fn take(&mut self, newer: &NewerRecord) -> Result<(), NoMemory> {
-        self.fold.take(newer)?;
-        self.span = Some(span_after(self.span, newer));
-        Ok(())
-    }
-}
-
-fn span_after(span: Option<Span>, newer: &NewerRecord) -> Span
+/// With one more record.
+pub(crate) fn span_after(span: Option<Span>, newer: &NewerRecord) -> Span
     ensures { result ≡ span_after span newer.now }
 {
     let last = moment_of(newer);
@@ -122,17 +103,6 @@ fn comes_after(bound: Option<Bound>, moment: Moment) -> bool
 
 // ---- the range that is asked for
 
-/// Whether no transaction was before the first entry of the logs, which have these zxids in their
-/// names.
-fn is_whole(logged: &[i64], start: Option<Start>) -> bool
-    ensures { result ≡ is_whole logged.now start }
-{
-    match start {
-        Some(start) => is_first(logged, start),
-        None => false,
-    }
-}
-
 /// The fault of logs without a transaction.
 fn unlogged_fault(held: &[i64], logged: &[i64]) -> Option<HistoryFault>
     ensures { result ≡ unlogged_fault held.now logged.now }
@@ -145,7 +115,7 @@ fn unlogged_fault(held: &[i64], logged: &[i64]) -> Option<HistoryFault>
 }
 
 /// The fault of a range that lies wholly beyond the transactions of the logs.
-fn outside_fault(range: Range, is_whole: bool, span: Span) -> Option<HistoryFault>
+pub(crate) fn outside_fault(range: Range, is_whole: bool, span: Span) -> Option<HistoryFault>
     ensures { result ≡ outside_fault range is_whole span }
 {
     if comes_after(range.from, span.last) {
@@ -162,18 +132,16 @@ fn outside_fault(range: Range, is_whole: bool, span: Span) -> Option<HistoryFaul
     }
 }
 
-/// Why logs do not answer a question about a range.
-fn range_fault(
-    range: Range,
+/// The fault of logs of which none has an intact entry; `fault` is the last one of a log.
+pub(crate) fn empty_fault(
+    fault: Option<(i64, LogFileFault)>,
     held: &[i64],
     logged: &[i64],
-    start: Option<Start>,
-    span: Option<Span>,
 ) -> Option<HistoryFault>
-    ensures { result ≡ range_fault range held.now logged.now start span }
+    ensures { result ≡ empty_fault fault held.now logged.now }
 {
-    match span {
-        Some(span) => outside_fault(range, is_whole(logged, start), span),
+    match fault {
+        Some((log, fault)) => Some(HistoryFault::Log { log, fault }),
         None => unlogged_fault(held, logged),
     }
 }
@@ -189,7 +157,7 @@ fn is_part(range: Range, is_whole: bool, span: Span) -> bool
 
 /// The text of a time.
 #[tactic(auto, using(crate::proofs::Spanning::clock))]
-fn clock_text(alloc: Global, time: i64) -> Result<String, NoMemory>
+pub(crate) fn clock_text(alloc: Global, time: i64) -> Result<String, NoMemory>
     ensures { IfOk result (λ clock. IsTimeText time (string_bytes clock)) }
 {
     let mut clock = String::new(alloc);
@@ -226,39 +194,16 @@ fn range_line(alloc: Global, span: Span) -> Result<String, NoMemory>
 }
 
 /// The notice on an answer, of logs that hold these transactions.
-fn notice_by(
+pub(crate) fn range_notice(
     alloc: Global,
     range: Range,
     is_whole: bool,
     span: Option<Span>,
 ) -> Result<String, NoMemory>
-    ensures { IfOk result (λ notice. IsNotice range is_whole span (string_bytes notice)) }
+    ensures { IfOk result (λ notice. IsRangeNotice range is_whole span (string_bytes notice)) }
 {
     match span {
         Some(span) if is_part(range, is_whole, span) => range_line(alloc, span),
         _ => Ok(String::new(alloc)),
-    }
-}
-
-/// The notice on the answer to a question about a range. `held` and `logged` have the zxids in the
-/// names of the snapshots and logs.
-///
-/// Fails with
-/// - [`HistoryFault::Beyond`] if the range begins after the last transaction;
-/// - [`HistoryFault::Purged`] if it ends before the first one, and others were before that;
-/// - [`HistoryFault::NoTransaction`] if there is none.
-pub(crate) fn notice_on(
-    alloc: Global,
-    range: Range,
-    held: &[i64],
-    logged: &[i64],
-    start: Option<Start>,
-    span: Option<Span>,
-) -> Result<String, HistoryFault>
-    ensures { Notices range held.now logged.now start span result }
-{
-    match range_fault(range, held, logged, start, span) {
-        Some(fault) => Err(fault),
-        None => Ok(notice_by(alloc, range, is_whole(logged, start), span)?),
     }
 }

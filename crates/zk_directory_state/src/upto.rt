@@ -1,7 +1,7 @@
 //! Up to which transaction a directory is shown.
 ghost use Rattle.std.specs.Prelude.{◌≡◌, pos, IfOk, IfErr};
 ghost use Rattle.zk_directory_state.specs.Histories.{FindsTime, FindsUpto, HaveEntry, IsLatestAt, IsLatestIn, later_at, latest_in};
-ghost use Rattle.zk_directory_state.specs.Logs.{IsUnread};
+ghost use Rattle.zk_directory_state.specs.Logs.{IsUnreadLog};
 
 use crate::evidence::start_of;
 use crate::logs::{read_log, read_logs, slices_of};
@@ -63,7 +63,7 @@ fn last_at<L: Folder>(
 /// Whether one of these logs has an entry.
 fn have_entry<L: Folder>(alloc: Global, logs: &L, logged: &[i64]) -> Result<bool, HistoryFault>
     ensures have { IfOk result (λ has. HaveEntry (L.bytes_in logs.now) logged.now has) }
-    ensures unread { IfErr result (λ fault. IsUnread fault) }
+    ensures unread { IfErr result (λ fault. IsUnreadLog (L.bytes_in logs.now) fault) }
 {
     let loaded = read_logs(alloc, logs, logged)?;
     let slices = slices_of(alloc, loaded.as_slice())?;
@@ -79,7 +79,7 @@ fn zxid_at<L: Folder>(
     time: i64,
 ) -> Result<i64, HistoryFault>
     ensures latest { IfOk result (λ latest. IsLatestAt (L.bytes_in logs.now) time (pos 0) logged.now latest) }
-    ensures unread { IfErr result (λ fault. IsUnread fault) }
+    ensures unread { IfErr result (λ fault. IsUnreadLog (L.bytes_in logs.now) fault) }
 {
     let mut latest = 0;
     for log in logged {
@@ -98,7 +98,7 @@ fn zxid_in<L: Folder>(
     zxid: i64,
 ) -> Result<i64, HistoryFault>
     ensures latest { IfOk result (λ latest. IsLatestIn (L.bytes_in logs.now) log time zxid latest) }
-    ensures unread { IfErr result (λ fault. IsUnread fault) }
+    ensures unread { IfErr result (λ fault. IsUnreadLog (L.bytes_in logs.now) fault) }
 {
     let bytes = read_log(alloc, logs, log)?;
     let file = read_log_file(alloc, bytes.as_slice())?;
