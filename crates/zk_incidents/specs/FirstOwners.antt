@@ -6,7 +6,7 @@ use Rattle.zk_directory_state.specs.Folders.{IsGiven}
 use Rattle.zk_directory_state.specs.Names.{snapshot_name, snapshot_zxid}
 use Rattle.zk_directory_state.specs.declared.fault.HistoryFault.{HistoryFault}
 use Rattle.zk_directory_state.specs.Histories.{AreIn}
-use Rattle.zk_directory_state.specs.Logs.{IsUnread}
+use Rattle.zk_directory_state.specs.Logs.{AreUnlisted, IsUnreadSnapshot}
 use Rattle.zk_incidents.specs.Owners.{Owned, with_owner}
 use Rattle.zk_jute.specs.declared.fault.JuteFault.{JuteFault}
 use Rattle.zk_replay.specs.Bases.{shown_owner}
@@ -54,12 +54,12 @@ pub record AreFirstOwners (snapshots : Option (List (List ℕ))) (snapshot_bytes
 
 abbrev pub Finds : (List ℕ → Option (List ℕ)) → ℤ → Result (Option Owned) HistoryFault → Type 0
 Finds bytes_in zxid (Ok found) = Owns bytes_in zxid found
-Finds bytes_in zxid (Err fault) = IsUnread fault
+Finds bytes_in zxid (Err fault) = IsUnreadSnapshot bytes_in fault
 
 abbrev pub FindsFirst : (List ℕ → Option (List ℕ)) → List ℤ → Result Owned HistoryFault → Type 0
 FindsFirst bytes_in zxids (Ok owned) = OwnsFirst bytes_in zxids owned
-FindsFirst bytes_in zxids (Err fault) = IsUnread fault
+FindsFirst bytes_in zxids (Err fault) = IsUnreadSnapshot bytes_in fault
 
 abbrev pub FindsOwners : Option (List (List ℕ)) → (List ℕ → Option (List ℕ)) → Result Owned HistoryFault → Type 0
 FindsOwners snapshots snapshot_bytes (Ok owned) = AreFirstOwners snapshots snapshot_bytes owned
-FindsOwners snapshots snapshot_bytes (Err fault) = IsUnread fault
+FindsOwners snapshots snapshot_bytes (Err fault) = IsUnreadSnapshot snapshot_bytes fault ⊎ AreUnlisted snapshots fault

@@ -1,6 +1,7 @@
 -- What `zk history` writes.
-use Rattle.std.specs.Prelude.{ℕ, Bool, List, Option, Result, Ok, Err}
+use Rattle.std.specs.Prelude.{◌⊎◌, ℕ, Bool, List, Option, Result, Ok, Err}
 use Rattle.std.specs.String.{string_bytes}
+use Rattle.zk_directory_state.specs.Logs.{IsUnreadSnapshot}
 use Rattle.zk_directory_state.specs.Notices.{OutputsNoticed}
 use Rattle.zk_directory_state.specs.Ranges.{unbounded}
 use Rattle.zk_directory_state.specs.Records.{Answers, HaveNoAnswer}
@@ -18,9 +19,13 @@ abbrev pub IsHistoryIn : List ℕ → Bool → Option (List (List ℕ)) → (Lis
 IsHistoryIn root below snapshots snapshot_bytes logs log_bytes text notice =
     (records : List NewerRecord) × Answers unbounded snapshots logs log_bytes records notice × ((owned : Owned) × AreFirstOwners snapshots snapshot_bytes owned × IsHistoryFrom root below owned records text)
 
+-- why there are none: a snapshot cannot be read, or the logs have no answer
+abbrev pub HasNoHistory : Option (List (List ℕ)) → (List ℕ → Option (List ℕ)) → Option (List (List ℕ)) → (List ℕ → Option (List ℕ)) → HistoryFault → Type 0
+HasNoHistory snapshots snapshot_bytes logs log_bytes fault = IsUnreadSnapshot snapshot_bytes fault ⊎ HaveNoAnswer unbounded snapshots logs log_bytes fault
+
 abbrev pub FindsHistory : List ℕ → Bool → Option (List (List ℕ)) → (List ℕ → Option (List ℕ)) → Option (List (List ℕ)) → (List ℕ → Option (List ℕ)) → Result Noticed HistoryFault → Type 0
 FindsHistory root below snapshots snapshot_bytes logs log_bytes (Ok noticed) = IsHistoryIn root below snapshots snapshot_bytes logs log_bytes (string_bytes noticed.text) (string_bytes noticed.notices)
-FindsHistory root below snapshots snapshot_bytes logs log_bytes (Err fault) = HaveNoAnswer unbounded snapshots logs log_bytes fault
+FindsHistory root below snapshots snapshot_bytes logs log_bytes (Err fault) = HasNoHistory snapshots snapshot_bytes logs log_bytes fault
 
 -- the history of a node is written, or why there is none
 pub record TellsHistory {O E : Type 0} (written : O → Option (List ℕ)) (told : E → Option (List ℕ)) (root : List ℕ) (below : Bool) (snapshots : Option (List (List ℕ))) (snapshot_bytes : List ℕ → Option (List ℕ)) (logs : Option (List (List ℕ))) (log_bytes : List ℕ → Option (List ℕ)) (output output' : Sink O) (faults faults' : Sink E) (result : Result ℕ NoMemory) : Type 0 where

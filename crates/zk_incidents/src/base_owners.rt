@@ -1,15 +1,11 @@
 //! The owners of ephemeral nodes before the first transaction of a directory's logs.
-ghost use Rattle.std.specs.Prelude.{◌≡◌, [], IfErr, IfOk, OnOk};
-ghost use Rattle.zk_directory_state.specs.Folders.{IsGiven};
-ghost use Rattle.zk_directory_state.specs.Names.{snapshot_name};
-ghost use Rattle.zk_directory_state.specs.Logs.{IsUnread};
+ghost use Rattle.std.specs.Prelude.{◌≡◌, [], IfOk, OnOk};
 ghost use Rattle.zk_incidents.specs.FirstOwners.{Finds, FindsFirst, FindsOwners, OwnsBy, owned_in, with_stored};
 ghost use Rattle.zk_snapshot.specs.Reading.{all_of};
 
 use crate::owners::Owners;
 use std::alloc::Global;
-use zk_directory::FileName;
-use zk_directory_state::{Folder, FolderFault, HistoryFault, push_snapshot_name, snapshots_in};
+use zk_directory_state::{Folder, HistoryFault, read_snapshot_file, snapshots_in};
 use zk_path::NoMemory;
 use zk_replay::shown_owner;
 use zk_snapshot::{SnapshotFault, Stored, read_snapshot};
@@ -35,20 +31,6 @@ fn owners_in(alloc: Global, stored: &[Stored]) -> Result<Owners, NoMemory>
     Ok(owners)
 }
 
-/// The bytes of the snapshot of this zxid.
-fn read_file<S: Folder>(alloc: Global, snapshots: &S, zxid: i64) -> Result<Vec<u8>, HistoryFault>
-    ensures given { IfOk result (λ bytes. IsGiven (S.bytes_in snapshots.now (snapshot_name zxid)) bytes.items) }
-    ensures unread { IfErr result (λ fault. IsUnread fault) }
-{
-    let mut name = String::new(alloc);
-    push_snapshot_name(&mut name, zxid)?;
-    match snapshots.read(alloc, name.as_str()) {
-        Ok(bytes) => Ok(bytes),
-        Err(FolderFault::Read) => { Err(HistoryFault::Unreadable(FileName::Snapshot { zxid })) }
-        Err(FolderFault::NoMemory) => Err(HistoryFault::NoMemory),
-    }
-}
-
 /// The owners in a snapshot of these bytes; `None` if it is broken.
 fn owners_from(alloc: Global, bytes: &[u8]) -> Result<Option<Owners>, NoMemory>
     ensures { IfOk result (λ found. OwnsBy (all_of bytes.now) found) }
@@ -71,7 +53,7 @@ fn owners_at<S: Folder>(
 ) -> Result<Option<Owners>, HistoryFault>
     ensures { Finds (S.bytes_in snapshots.now) zxid result }
 {
-    let bytes = read_file(alloc, snapshots, zxid)?;
+    let bytes = read_snapshot_file(alloc, snapshots, zxid)?;
     Ok(owners_from(alloc, bytes.as_slice())?)
 }
 

@@ -13,7 +13,7 @@ use zk_log::Sink;
 use zk_path::NoMemory;
 
 /// The history of a node in a directory.
-#[tactic(auto, using(crate::proofs::Finished::history_told))]
+#[tactic(auto, using(crate::proofs::Finished::history_told, crate::proofs::Owning::owners_fail))]
 fn history_of<S: Folder, L: Folder>(
     alloc: Global,
     snapshots: &S,

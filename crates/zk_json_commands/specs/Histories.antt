@@ -3,10 +3,11 @@ use Rattle.std.specs.Prelude.{◌≡◌, ℕ, Bool, List, [], ◌∷◌, ◌++�
 use Rattle.std.specs.String.{string_bytes}
 use Rattle.zk_directory_state.specs.Notices.{OutputsNoticed}
 use Rattle.zk_directory_state.specs.Ranges.{unbounded}
-use Rattle.zk_directory_state.specs.Records.{Answers, HaveNoAnswer}
+use Rattle.zk_directory_state.specs.Records.{Answers}
 use Rattle.zk_directory_state.specs.declared.notices.Noticed.{Noticed}
 use Rattle.zk_directory_state.specs.declared.fault.HistoryFault.{HistoryFault}
 use Rattle.zk_incidents.specs.FirstOwners.{AreFirstOwners}
+use Rattle.zk_incidents.specs.HistoryReports.{HasNoHistory}
 use Rattle.zk_incidents.specs.Histories.{is_expiry, op_word, seen}
 use Rattle.zk_incidents.specs.Owners.{Owned, owned_after}
 use Rattle.zk_json.specs.Incidents.{IsHistoryLine}
@@ -41,7 +42,7 @@ IsHistoryIn root below snapshots snapshot_bytes logs log_bytes text notice =
 
 abbrev pub FindsHistory : List ℕ → Bool → Option (List (List ℕ)) → (List ℕ → Option (List ℕ)) → Option (List (List ℕ)) → (List ℕ → Option (List ℕ)) → Result Noticed HistoryFault → Type 0
 FindsHistory root below snapshots snapshot_bytes logs log_bytes (Ok noticed) = IsHistoryIn root below snapshots snapshot_bytes logs log_bytes (string_bytes noticed.text) (string_bytes noticed.notices)
-FindsHistory root below snapshots snapshot_bytes logs log_bytes (Err fault) = HaveNoAnswer unbounded snapshots logs log_bytes fault
+FindsHistory root below snapshots snapshot_bytes logs log_bytes (Err fault) = HasNoHistory snapshots snapshot_bytes logs log_bytes fault
 
 -- the history of a node is written, or why there is none
 pub record TellsHistory {O E : Type 0} (written : O → Option (List ℕ)) (told : E → Option (List ℕ)) (root : List ℕ) (below : Bool) (snapshots : Option (List (List ℕ))) (snapshot_bytes : List ℕ → Option (List ℕ)) (logs : Option (List (List ℕ))) (log_bytes : List ℕ → Option (List ℕ)) (output output' : Sink O) (faults faults' : Sink E) (result : Result ℕ NoMemory) : Type 0 where

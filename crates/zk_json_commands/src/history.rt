@@ -14,7 +14,7 @@ use zk_log::Sink;
 use zk_path::NoMemory;
 
 /// The lines of a node's history in a directory.
-#[tactic(auto, using(crate::proofs::Finished::history_told))]
+#[tactic(auto, using(crate::proofs::Finished::history_told, zk_incidents::proofs::Owning::owners_fail))]
 fn lines_of<S: Folder, L: Folder>(
     alloc: Global,
     snapshots: &S,

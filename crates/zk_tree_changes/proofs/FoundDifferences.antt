@@ -21,16 +21,11 @@ module _ (snapshots : Option (List (List ℕ))) (snapshot_bytes : List ℕ → O
       → string_bytes notices ≡ notices_of upto shown.restored → (let moment : Moment = record { machine = machine; notices = notices } in FindsMoment snapshots snapshot_bytes logs log_bytes upto (Ok moment))
   moment_found upto shown machine notices h is are = (shown, h, ap (λ (m : MachineView). m.state) is, ap (λ (m : MachineView). m.failed) is, are)
 
-  pub no_moment : (upto : Upto) (fault : HistoryFault) → Holds snapshots snapshot_bytes logs log_bytes upto (Err fault) → FindsMoment snapshots snapshot_bytes logs log_bytes upto (Err fault)
-  no_moment upto fault h = inr h
-
   pub no_old : (from to : Upto) (fault : HistoryFault) → FindsMoment snapshots snapshot_bytes logs log_bytes from (Err fault) → AreNotCompared snapshots snapshot_bytes logs log_bytes from to fault
-  no_old from to fault (inl unread) = inl unread
-  no_old from to fault (inr held) = inr (inl held)
+  no_old from to fault held = inr (inl held)
 
   pub no_new : (from to : Upto) (fault : HistoryFault) → FindsMoment snapshots snapshot_bytes logs log_bytes to (Err fault) → AreNotCompared snapshots snapshot_bytes logs log_bytes from to fault
-  no_new from to fault (inl unread) = inl unread
-  no_new from to fault (inr held) = inr (inr held)
+  no_new from to fault held = inr (inr held)
 
   pub compared : (from to : Upto) (old new : Moment) (start changes : Track) (notices : String Global) → FindsMoment snapshots snapshot_bytes logs log_bytes from (Ok old) → FindsMoment snapshots snapshot_bytes logs log_bytes to (Ok new)
       → start ≡ track_between old.machine.state new.machine.state → FollowsLogged logs log_bytes start changes → string_bytes notices ≡ notices_of_both (string_bytes old.notices) (string_bytes new.notices)

@@ -10,7 +10,7 @@ use Rattle.zk_tree_changes.specs.Changes.{Track, followed_all, stamp_at, start_t
 use Rattle.zk_tree_changes.specs.Differences.{differences}
 use Rattle.zk_tree_changes.specs.Texts.{AreLines}
 use Rattle.zk_directory_state.specs.Histories.{AreIn, Holds}
-use Rattle.zk_directory_state.specs.Logs.{AreGiven, IsUnread, bytes_of}
+use Rattle.zk_directory_state.specs.Logs.{AreGiven, AreUnreadLogs, bytes_of}
 use Rattle.zk_directory_state.specs.Notices.{OutputsNoticed, notices_of}
 use Rattle.zk_directory_state.specs.declared.history.Shown.{Shown}
 use Rattle.zk_directory_state.specs.declared.notices.Noticed.{Noticed}
@@ -66,9 +66,9 @@ pub record AreCompared (snapshots : Option (List (List ℕ))) (snapshot_bytes : 
   pub are_changes : changes ≡ followed_all (track_between old new) records
   pub are_notices : notices ≡ notices_of_both (notices_of from shown_old.restored) (notices_of to shown_new.restored)
 
--- unless a file could not be read, the fault of the first state that there is not
+-- the fault of the first state that there is not, or of a log that cannot be read
 abbrev pub AreNotCompared : Option (List (List ℕ)) → (List ℕ → Option (List ℕ)) → Option (List (List ℕ)) → (List ℕ → Option (List ℕ)) → Upto → Upto → HistoryFault → Type 0
-AreNotCompared snapshots snapshot_bytes logs log_bytes from to fault = IsUnread fault ⊎ (Holds snapshots snapshot_bytes logs log_bytes from (Err fault) ⊎ Holds snapshots snapshot_bytes logs log_bytes to (Err fault))
+AreNotCompared snapshots snapshot_bytes logs log_bytes from to fault = AreUnreadLogs logs log_bytes fault ⊎ (Holds snapshots snapshot_bytes logs log_bytes from (Err fault) ⊎ Holds snapshots snapshot_bytes logs log_bytes to (Err fault))
 
 -- machines in both states
 abbrev pub FindsCompared : Option (List (List ℕ)) → (List ℕ → Option (List ℕ)) → Option (List (List ℕ)) → (List ℕ → Option (List ℕ)) → Upto → Upto → Result Compared HistoryFault → Type 0
@@ -101,7 +101,7 @@ pub record TellsDifference {O E : Type 0} (written : O → Option (List ℕ)) (t
 abbrev pub FindsMoment : Option (List (List ℕ)) → (List ℕ → Option (List ℕ)) → Option (List (List ℕ)) → (List ℕ → Option (List ℕ)) → Upto → Result Moment HistoryFault → Type 0
 FindsMoment snapshots snapshot_bytes logs log_bytes upto (Ok moment) =
     (shown : Shown) × Holds snapshots snapshot_bytes logs log_bytes upto (Ok shown) × (moment.machine.state ≡ shown.restored.table.state) × (moment.machine.failed ≡ false) × (string_bytes moment.notices ≡ notices_of upto shown.restored)
-FindsMoment snapshots snapshot_bytes logs log_bytes upto (Err fault) = IsUnread fault ⊎ Holds snapshots snapshot_bytes logs log_bytes upto (Err fault)
+FindsMoment snapshots snapshot_bytes logs log_bytes upto (Err fault) = Holds snapshots snapshot_bytes logs log_bytes upto (Err fault)
 
 -- the records of logs are followed
 abbrev pub FollowsLogs : List (Bor (List ℕ)) → Track → Track → Type 0

@@ -1,10 +1,9 @@
 -- What `zk restore` writes: the script of a node and those below it, as of a transaction.
-use Rattle.std.specs.Prelude.{◌≡◌, ◌⊎◌, ◌++◌, ℕ, List, Option, Some, None, Result, Ok, Err, String, true, false, codes}
+use Rattle.std.specs.Prelude.{◌≡◌, ◌++◌, ℕ, List, Option, Some, None, Result, Ok, Err, String, true, false, codes}
 use Rattle.std.specs.FinMap.{contains_key}
 use Rattle.std.specs.Global.{Global}
 use Rattle.std.specs.String.{string_bytes}
 use Rattle.zk_directory_state.specs.Histories.{Holds}
-use Rattle.zk_directory_state.specs.Logs.{IsUnread}
 use Rattle.zk_directory_state.specs.Notices.{OutputsWith, notices_of}
 use Rattle.zk_directory_state.specs.declared.history.Shown.{Shown}
 use Rattle.zk_directory_state.specs.declared.upto.Upto.{Upto}
@@ -30,10 +29,10 @@ pub record IsScript (snapshots : Option (List (List ℕ))) (snapshot_bytes : Lis
   pub is : IsScriptIn shown.restored.table.state path script.text
   pub notices : string_bytes script.notices ≡ notices_of upto shown.restored
 
--- unless a file could not be read, the fault of a state that there is not
+-- or the fault of a state that there is not
 abbrev pub FindsScript : Option (List (List ℕ)) → (List ℕ → Option (List ℕ)) → Option (List (List ℕ)) → (List ℕ → Option (List ℕ)) → Upto → List ℕ → Result Script HistoryFault → Type 0
 FindsScript snapshots snapshot_bytes logs log_bytes upto path (Ok script) = IsScript snapshots snapshot_bytes logs log_bytes upto path script
-FindsScript snapshots snapshot_bytes logs log_bytes upto path (Err fault) = IsUnread fault ⊎ Holds snapshots snapshot_bytes logs log_bytes upto (Err fault)
+FindsScript snapshots snapshot_bytes logs log_bytes upto path (Err fault) = Holds snapshots snapshot_bytes logs log_bytes upto (Err fault)
 
 -- the line for a node that a state does not have
 unfoldable pub missing_line : List ℕ → List ℕ

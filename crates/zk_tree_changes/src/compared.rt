@@ -30,7 +30,7 @@ struct Moment {
 }
 
 /// The state of a directory up to a transaction.
-#[tactic(auto, using(crate::proofs::FoundDifferences::moment_found, crate::proofs::FoundDifferences::no_moment))]
+#[tactic(auto, using(crate::proofs::FoundDifferences::moment_found))]
 fn moment_of<S: Folder, L: Folder>(
     alloc: Global,
     snapshots: &S,

@@ -2,7 +2,7 @@
 ghost use Rattle.std.specs.Prelude.{◌≡◌, IfErr, IfOk, OnErr, OnOk, map};
 ghost use Rattle.zk_tree_changes.specs.DifferenceReports.{FollowsLogged, FollowsLogs};
 ghost use Rattle.zk_tree_changes.specs.Changes.{followed_all};
-ghost use Rattle.zk_directory_state.specs.Logs.{IsUnread};
+ghost use Rattle.zk_directory_state.specs.Logs.{AreUnreadLogs};
 
 use crate::LastChanges;
 use std::alloc::Global;
@@ -11,13 +11,14 @@ use zk_directory_state::{Folder, HistoryFault, logs_in, read_logs, slices_of};
 use zk_path::NoMemory;
 
 /// Follows the records of a folder's logs.
+#[tactic(auto, using(zk_directory_state::proofs::Unreading::log_names, zk_directory_state::proofs::Unreading::log_file))]
 pub(crate) fn follow_logged<L: Folder>(
     alloc: Global,
     logs: &L,
     changes: &mut LastChanges,
 ) -> Result<(), HistoryFault>
     ensures followed { OnOk result (FollowsLogged (L.names_in logs.now) (L.bytes_in logs.now) changes.old changes.new) }
-    ensures unread { IfErr result (λ fault. IsUnread fault) }
+    ensures unread { IfErr result (λ fault. AreUnreadLogs (L.names_in logs.now) (L.bytes_in logs.now) fault) }
 {
     let logged = logs_in(alloc, logs)?;
     let loaded = read_logs(alloc, logs, logged.as_slice())?;

@@ -38,7 +38,7 @@ fn script_text(alloc: Global, path: &str, shown: &Shown) -> Result<Option<String
 
 /// The script of the node at a path and those below it, as a directory holds them up to a
 /// transaction.
-#[tactic(auto, using(crate::proofs::FoundScripts::script_found, crate::proofs::FoundScripts::no_script))]
+#[tactic(auto, using(crate::proofs::FoundScripts::script_found))]
 fn script_of<S: Folder, L: Folder>(
     alloc: Global,
     snapshots: &S,

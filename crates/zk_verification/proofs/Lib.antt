@@ -5,3 +5,4 @@ pub mod Loaded
 pub mod Written
 pub mod Reported
 pub mod Found
+pub mod Unlisted

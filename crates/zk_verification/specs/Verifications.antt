@@ -5,7 +5,7 @@ use Rattle.std.specs.Borrow.{Bor}
 use Rattle.std.specs.Global.{Global}
 use Rattle.zk_directory.specs.declared.names.FileName.TheVariants as names
 use Rattle.zk_directory_state.specs.Histories.{AreIn, HoldsNone}
-use Rattle.zk_directory_state.specs.Logs.{IsUnread, bytes_of}
+use Rattle.zk_directory_state.specs.Logs.{AreUnlistedIn, bytes_of}
 use Rattle.zk_directory_state.specs.Folders.{IsGiven}
 use Rattle.zk_directory_state.specs.Names.{log_name, log_zxid, snapshot_name, snapshot_zxid}
 use Rattle.zk_directory_state.specs.declared.fault.HistoryFault.{HistoryFault}
@@ -99,8 +99,7 @@ pub record IsChecked (snapshots : Option (List (List ℕ))) (snapshot_bytes : Li
 -- the marks; or there is no file, a folder cannot be read, or allocation failed
 abbrev pub FindsMarks : Option (List (List ℕ)) → (List ℕ → Option (List ℕ)) → Option (List (List ℕ)) → (List ℕ → Option (List ℕ)) → Result (Vec Mark Global) HistoryFault → Type 0
 FindsMarks snapshots snapshot_bytes logs log_bytes (Ok all) = IsChecked snapshots snapshot_bytes logs log_bytes all.items
-FindsMarks snapshots snapshot_bytes logs log_bytes (Err faults.Empty) = HoldsNone snapshots logs
-FindsMarks snapshots snapshot_bytes logs log_bytes (Err fault) = IsUnread fault
+FindsMarks snapshots snapshot_bytes logs log_bytes (Err fault) = AreUnlistedIn snapshots logs fault ⊎ (HoldsNone snapshots logs × (fault ≡ faults.Empty))
 
 -- ---- calls within
 

@@ -166,6 +166,7 @@ fn reversed(alloc: Global, zxids: &[i64]) -> Result<Vec<i64>, NoMemory>
 /// Fails with
 /// - [`HistoryFault::Empty`] if there is no snapshot and no log;
 /// - [`HistoryFault::Read`] if a folder cannot be read.
+#[tactic(auto, using(crate::proofs::Unlisted::snapshots_unlisted, crate::proofs::Unlisted::logs_unlisted, crate::proofs::Unlisted::none_held))]
 pub fn marks_of<S: Folder, L: Folder>(
     alloc: Global,
     snapshots: &S,

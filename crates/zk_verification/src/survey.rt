@@ -12,7 +12,7 @@ use zk_directory::{
     Chain, ChainFault, FileEntry, FileName, IntactLog, LogEntry, LogFileFault, Resumption, Turn,
     read_intact_log,
 };
-use zk_directory_state::HistoryFault;
+use zk_directory_state::{HistoryFault, take_on};
 use zk_log::Ending;
 use zk_path::NoMemory;
 
@@ -138,9 +138,7 @@ impl<'a> Survey<'a> {
     fn add_taken(&mut self, entry: &FileEntry<'a>) -> Result<(), NoMemory>
         ensures { OnOk result (surveyed_by self.new ≡ with_taken (surveyed_by self.old) entry.now) }
     {
-        let next = entry_of(entry);
-        self.chain.taken.push(next)?;
-        self.chain.position = Some(next.zxid);
+        take_on(&mut self.chain, entry)?;
         self.last = Some(moment_of(entry));
         Ok(())
     }
