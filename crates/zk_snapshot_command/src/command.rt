@@ -89,6 +89,7 @@ fn put_state<O: Write, E: Write>(
 ///
 /// Nothing is written before the state is proved and its snapshot encoded as far as the first part.
 /// The bytes are written in parts of at most 65,536.
+#[tactic(auto, using(crate::proofs::Rereading::base_read))]
 pub fn write_snapshot<S: Folder, L: Folder, O: Write, E: Write>(
     alloc: Global,
     snapshots: &S,

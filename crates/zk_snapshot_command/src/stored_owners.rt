@@ -1,38 +1,40 @@
 //! The owners that a server stores in the state that a data directory holds.
 ghost use Rattle.std.specs.Prelude.{◌≡◌, IfOk, IfErr};
 ghost use Rattle.std.specs.FinMap as finite;
-ghost use Rattle.zk_directory_state.specs.Logs.{IsUnread, logs_from};
-ghost use Rattle.zk_snapshot_command.specs.DirectoryOwners.{AreOwnersFrom, AreOwnersIn, AreOwnersOver, AreStored, base_of};
+ghost use Rattle.zk_directory_state.specs.Logs.{AreUnreadFiles, IsUnreadIn, IsUnreadLog, IsUnreadSnapshot, logs_from};
+ghost use Rattle.zk_snapshot_command.specs.DirectoryOwners.{AreOwnersFrom, AreOwnersIn, AreOwnersOver, AreStored, IsBase, IsStoredBase, base_of, reread_fault};
 
 use std::alloc::Global;
 use zk_directory::{FileName, first_log};
 use zk_directory_state::{
-    Folder, FolderFault, HistoryFault, Origin, Shown, logs_in, push_snapshot_name, read_logs,
-    slices_of,
+    Folder, HistoryFault, Origin, Shown, logs_in, read_logs, read_snapshot_file, slices_of,
 };
 use zk_snapshot::{SnapshotFault, read_snapshot};
 use zk_stored_owners::{Owners, follow_logs};
 
-/// The owners in the snapshot of this zxid.
+/// Why a snapshot that was read before cannot be read again: the file has changed, or allocation
+/// failed.
+fn reread_fault(zxid: i64, fault: SnapshotFault) -> HistoryFault
+    ensures { result ≡ reread_fault zxid fault }
+{
+    match fault {
+        SnapshotFault::NoMemory => HistoryFault::NoMemory,
+        _ => HistoryFault::Unreadable(FileName::Snapshot { zxid }),
+    }
+}
+
+/// The owners in the snapshot of this zxid, which was read before.
 ///
 /// Fails with [`HistoryFault::Unreadable`] if it cannot be read again.
 fn stored_in<S: Folder>(alloc: Global, snapshots: &S, zxid: i64) -> Result<Owners, HistoryFault>
+    requires { IsStoredBase (S.bytes_in snapshots.now) zxid }
     ensures stored { IfOk result (λ owners. AreStored (S.bytes_in snapshots.now) zxid (finite.get owners)) }
-    ensures unread { IfErr result (λ fault. IsUnread fault) }
+    ensures unread { IfErr result (λ fault. IsUnreadSnapshot (S.bytes_in snapshots.now) fault) }
 {
-    let mut name = String::new(alloc);
-    push_snapshot_name(&mut name, zxid)?;
-    let unread = HistoryFault::Unreadable(FileName::Snapshot { zxid });
-    let bytes = match snapshots.read(alloc, name.as_str()) {
-        Ok(bytes) => bytes,
-        Err(FolderFault::Read) => return Err(unread),
-        Err(FolderFault::NoMemory) => return Err(HistoryFault::NoMemory),
-    };
+    let bytes = read_snapshot_file(alloc, snapshots, zxid)?;
     match read_snapshot(alloc, bytes.as_slice()) {
         Ok(snapshot) => Ok(Owners::stored(alloc, snapshot.contents.nodes.as_slice())?),
-        Err(SnapshotFault::NoMemory) => Err(HistoryFault::NoMemory),
-        // The file was a snapshot when the state was restored.
-        Err(_) => Err(unread),
+        Err(fault) => Err(reread_fault(zxid, fault)),
     }
 }
 
@@ -46,7 +48,7 @@ fn owners_from<L: Folder>(
     logged: &[i64],
 ) -> Result<Owners, HistoryFault>
     ensures followed { IfOk result (λ after. AreOwnersFrom (L.bytes_in logs.now) upto from (finite.get owners) logged.now (finite.get after)) }
-    ensures unread { IfErr result (λ fault. IsUnread fault) }
+    ensures unread { IfErr result (λ fault. IsUnreadLog (L.bytes_in logs.now) fault) }
 {
     let loaded = read_logs(alloc, logs, logged)?;
     let slices = slices_of(alloc, loaded.as_slice())?;
@@ -62,6 +64,7 @@ fn logs_from(logged: &[i64], zxid: i64) -> &[i64]
 }
 
 /// The owners over the snapshot of a zxid, or over the empty tree, up to another zxid.
+#[tactic(auto, using(zk_directory_state::proofs::Unreading::a_snapshot, zk_directory_state::proofs::Unreading::a_log))]
 fn owners_over<S: Folder, L: Folder>(
     alloc: Global,
     snapshots: &S,
@@ -70,8 +73,9 @@ fn owners_over<S: Folder, L: Folder>(
     upto: i64,
     logged: &[i64],
 ) -> Result<Owners, HistoryFault>
+    requires { IsBase (S.bytes_in snapshots.now) base }
     ensures owners { IfOk result (λ owners. AreOwnersOver (S.bytes_in snapshots.now) (L.bytes_in logs.now) upto logged.now base (finite.get owners)) }
-    ensures unread { IfErr result (λ fault. IsUnread fault) }
+    ensures unread { IfErr result (λ fault. AreUnreadFiles (S.bytes_in snapshots.now) (L.bytes_in logs.now) fault) }
 {
     match base {
         Some(zxid) => {
@@ -97,14 +101,16 @@ fn base_of(origin: Option<Origin>) -> Option<i64>
 /// at, and of the records after it. The files are read again.
 ///
 /// Fails with [`HistoryFault::Unreadable`] or [`HistoryFault::Read`] if one cannot be read.
+#[tactic(auto, using(zk_directory_state::proofs::Unreading::a_file, zk_directory_state::proofs::Unreading::the_logs))]
 pub(crate) fn owners_in<S: Folder, L: Folder>(
     alloc: Global,
     snapshots: &S,
     logs: &L,
     shown: &Shown,
 ) -> Result<Owners, HistoryFault>
+    requires { IsBase (S.bytes_in snapshots.now) (base_of shown.now.origin) }
     ensures owners { IfOk result (λ owners. AreOwnersIn (S.bytes_in snapshots.now) (L.names_in logs.now) (L.bytes_in logs.now) shown.now (finite.get owners)) }
-    ensures unread { IfErr result (λ fault. IsUnread fault) }
+    ensures unread { IfErr result (λ fault. IsUnreadIn (S.names_in snapshots.now) (S.bytes_in snapshots.now) (L.names_in logs.now) (L.bytes_in logs.now) fault) }
 {
     let logged = logs_in(alloc, logs)?;
     let upto = shown.restored.position.unwrap_or(0);

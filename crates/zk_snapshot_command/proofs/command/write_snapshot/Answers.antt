@@ -1,7 +1,7 @@
 use Rattle.std.proofs.Common.{Err, refl}
 use Rattle.std.proofs.KnownBytes.{Keeps-refl}
-use Rattle.zk_directory_state.proofs.Held.{unread_holds}
 use Rattle.zk_records.specs.Sinks.{writer_of}
+use Rattle.zk_snapshot_command.proofs.Rereading.{unread_holds}
 use Rattle.zk_snapshot_command.proofs.command.write_snapshot.Goals as goal
 
 pub returns : goal.returns
