@@ -4,3 +4,4 @@ pub mod Listed
 pub mod Written
 pub mod Reported
 pub mod Seen
+pub mod AllReported

@@ -2,7 +2,7 @@
 use Rattle.std.proofs.Common.{◌≡◌, ℕ, ℤ, List, [], ◌++◌, length, Option, Some, Result, Ok, Err, inl, inr, refl, ap, ◌∙◌, arith}
 use Rattle.std.specs.String.{string_bytes}
 use Rattle.zk_comparison.specs.Notices.{AppendsNotices}
-use Rattle.zk_comparison.specs.Reports.{AreLogsOf, AreNoticesOf, Broken, Empty, FindsComparison, FindsLoaded, FindsOfLogs, FindsSurvey, IsComparison, Keeps, Unread, end_in, fault_of}
+use Rattle.zk_comparison.specs.Reports.{AreLogsOf, AreNoticesOf, Broken, Empty, FindsComparison, FindsLoaded, FindsOfLogs, FindsSurvey, IsComparison, Keeps, Unlisted, end_in, fault_of}
 use Rattle.zk_comparison.specs.Sources.{Source}
 use Rattle.zk_comparison.specs.Trees.{FindsTrees}
 use Rattle.zk_comparison.specs.declared.trees.Trees.{Trees}
@@ -12,7 +12,8 @@ use Rattle.zk_directory_state.specs.Names.{log_zxid, snapshot_zxid}
 use Rattle.zk_directory_state.specs.declared.fault.HistoryFault.{HistoryFault}
 use Rattle.zk_directory_state.specs.declared.fault.HistoryFault.TheVariants as faults
 use Rattle.zk_directory_state.specs.Histories.{AreIn}
-use Rattle.zk_directory_state.specs.Logs.{IsUnread}
+use Rattle.zk_directory_state.proofs.Unreading.{names_of_logs, snapshot_names}
+use Rattle.zk_directory_state.specs.Logs.{AreUnlisted, AreUnlistedIn}
 use Rattle.zk_verification.specs.Surveys.{AreSurveyed, Surveyed, start_survey, surveyed_by}
 use Rattle.zk_verification.specs.declared.log_bytes.LogBytes.{LogBytes}
 use Rattle.zk_verification.specs.declared.mark.Mark.{Mark}
@@ -20,8 +21,14 @@ use Rattle.zk_verification.specs.declared.survey.Survey.{Survey}
 
 -- ---- a directory without logs
 
-pub unread : (source : Source) (fault : HistoryFault) → IsUnread fault → Keeps source fault
-unread source fault u = Unread u
+pub unlisted : (source : Source) (fault : HistoryFault) → AreUnlistedIn source.snapshots source.logs fault → Keeps source fault
+unlisted source fault u = Unlisted u
+
+pub snapshots_unlisted : (source : Source) (fault : HistoryFault) → AreUnlisted source.snapshots fault → Keeps source fault
+snapshots_unlisted source fault u = Unlisted (snapshot_names source.snapshots source.logs fault u)
+
+pub logs_unlisted : (source : Source) (fault : HistoryFault) → AreUnlisted source.logs fault → Keeps source fault
+logs_unlisted source fault u = Unlisted (names_of_logs source.snapshots source.logs fault u)
 
 pub no_files : (source : Source) (held logged : List ℤ) → AreIn snapshot_zxid source.snapshots held → AreIn log_zxid source.logs logged → length held ≡ 0 → length logged ≡ 0 → Keeps source faults.Empty
 no_files source held logged s l a b = Empty (record { held = held; logged = logged; are_snapshots = s; are_logs = l; none = omega (arith, a, b) }) refl
@@ -71,7 +78,7 @@ compared_in first second ours theirs (Ok compared) l m f = record {
   is = f.is;
   is_end = f.is_end;
 }
-compared_in first second ours theirs (Err faults.NoMemory) l m f = inl (Unread tt)
+compared_in first second ours theirs (Err faults.NoMemory) l m f = inl (Unlisted tt)
 compared_in first second ours theirs (Err fault) l m (inl e) = inl (Broken e.0 (record { loaded = ours; are_logs = l; is_survey = e.1; is_fault = e.2 }))
 compared_in first second ours theirs (Err fault) l m (inr e) = inr (Broken e.0 (record { loaded = theirs; are_logs = m; is_survey = e.1; is_fault = e.2 }))
 
@@ -89,5 +96,13 @@ reported first second compared report trees l t are noted = record {
   are_notices = noted;
 }
 
-pub trees_unread : (first second : Source) (end : Option ℤ) (fault : HistoryFault) → FindsTrees first second end (Err fault) → FindsComparison first second (Err fault)
-trees_unread first second end fault u = inl (Unread u)
+pub trees_unseen : (first second : Source) (compared : Report) (fault : HistoryFault) → FindsOfLogs first second (Ok compared) → FindsTrees first second compared.end (Err fault) → FindsComparison first second (Err fault)
+trees_unseen first second compared fault l u = inr (inr (record { compared = compared; of_logs = l; unseen = u }))
+
+-- the logs of one cannot be compared
+pub logs_kept : (first second : Source) (fault : HistoryFault) → FindsOfLogs first second (Err fault) → FindsComparison first second (Err fault)
+logs_kept first second fault (inl k) = inl k
+logs_kept first second fault (inr k) = inr (inl k)
+
+pub no_memory : (first second : Source) → FindsComparison first second (Err faults.NoMemory)
+no_memory first second = inl (Unlisted tt)

@@ -1,5 +1,5 @@
 -- The trees of two directories, as far as their files prove them.
-use Rattle.std.proofs.Common.{◌≡◌, ◌<◌, ◌+◌, ℕ, ℤ, Bool, true, false, cond, List, [], ◌∷◌, ◌++◌, length, map, take, get_or, drop, Option, Some, None, Ok, Err, String, sym, ap, ◌∙◌, append_assoc, append-nil}
+use Rattle.std.proofs.Common.{◌≡◌, ◌<◌, ◌+◌, ℕ, ℤ, Bool, true, false, cond, List, [], ◌∷◌, ◌++◌, length, map, take, get_or, drop, Option, Some, None, Ok, Err, String, inl, inr, refl, sym, ap, ◌∙◌, append_assoc, append-nil}
 use Rattle.std.proofs.lemmas.List.{drop_more}
 use Rattle.std.specs.Borrow.{Bor}
 use Rattle.std.specs.FinMap.{get}
@@ -14,7 +14,6 @@ use Rattle.zk_comparison.specs.declared.finding.Finding.{Finding}
 use Rattle.zk_comparison.specs.declared.finding.Finding.TheVariants.{Tree}
 use Rattle.zk_comparison.specs.declared.trees.Sight.{Sight}
 use Rattle.zk_comparison.specs.declared.trees.Trees.{Trees}
-use Rattle.zk_directory_state.specs.Logs.{IsUnread}
 use Rattle.zk_directory_state.specs.Notices.{notices_of}
 use Rattle.zk_directory_state.specs.declared.fault.HistoryFault.{HistoryFault}
 use Rattle.zk_directory_state.specs.declared.fault.HistoryFault.TheVariants as faults
@@ -34,11 +33,12 @@ seen source directory zxid shown sight s is = record { answer = Ok shown; sees =
 pub not_seen : (source : Source) (directory : Directory) (zxid : ℤ) (fault : HistoryFault) (sight : Sight) → Sees source zxid (Err fault) → IsSight directory zxid (Err fault) sight → FindsSight source directory zxid (Ok sight)
 not_seen source directory zxid fault sight s is = record { answer = Err fault; sees = s; is = is }
 
-pub unread : (fault : HistoryFault) → is_unread fault ≡ true → IsUnread fault
-unread (faults.Unreadable file) is = tt
-unread faults.Read is = tt
-unread faults.NoMemory is = tt
-unread fault is = cc
+pub unseen : (source : Source) (directory : Directory) (zxid : ℤ) (fault : HistoryFault) → is_unread fault ≡ true → Sees source zxid (Err fault) → FindsSight source directory zxid (Err fault)
+unseen source directory zxid fault is s = (is, s)
+
+-- allocation may fail at any time
+pub out_of_memory : (source : Source) (directory : Directory) (zxid : ℤ) → FindsSight source directory zxid (Err faults.NoMemory)
+out_of_memory source directory zxid = (refl, inl tt)
 
 pub state_seen : (directory : Directory) (zxid : ℤ) (shown : Shown) (machine : MachineView) (notices : String Global) → (let begun : MachineView = record { state = shown.restored.table.state; steps = 0; failed = false } in machine ≡ begun) → string_bytes notices ≡ notices_of (Zxid zxid) shown.restored → (let sight : Sight = record { machine = Some machine; notices = notices } in IsSight directory zxid (Ok shown) sight)
 state_seen directory zxid shown machine notices is are = record {
@@ -48,6 +48,15 @@ state_seen directory zxid shown machine notices is are = record {
 }
 
 -- ---- both
+
+pub first_unseen : (first second : Source) (directory : Directory) (zxid : ℤ) (fault : HistoryFault) → FindsSight first directory zxid (Err fault) → FindsTrees first second (Some zxid) (Err fault)
+first_unseen first second directory zxid fault u = inl u
+
+pub second_unseen : (first second : Source) (directory : Directory) (zxid : ℤ) (fault : HistoryFault) → FindsSight second directory zxid (Err fault) → FindsTrees first second (Some zxid) (Err fault)
+second_unseen first second directory zxid fault u = inr u
+
+pub no_memory_for_trees : (first second : Source) (zxid : ℤ) → FindsTrees first second (Some zxid) (Err faults.NoMemory)
+no_memory_for_trees first second zxid = inl (refl, inl tt)
 
 pub compared_trees : (first second : Source) (zxid : ℤ) (ours theirs : Sight) (trees : Trees) → FindsSight first First zxid (Ok ours) → FindsSight second Second zxid (Ok theirs) → trees.findings.items ≡ trees_by zxid (nodes_in ours.machine) (nodes_in theirs.machine) → string_bytes trees.notices ≡ string_bytes ours.notices ++ string_bytes theirs.notices → FindsTrees first second (Some zxid) (Ok trees)
 compared_trees first second zxid ours theirs trees o t are noted = record {

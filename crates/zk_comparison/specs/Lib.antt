@@ -9,3 +9,4 @@ pub mod Notices
 pub mod Sources
 pub mod Trees
 pub mod Reports
+pub mod Several

@@ -6,7 +6,7 @@ use Rattle.zk_comparison.specs.Comparisons.{judged_of, limits_of, losses_of}
 use Rattle.zk_comparison.specs.Findings.{findings_of, is_disagreement}
 use Rattle.zk_comparison.specs.Notices.{AreNotices}
 use Rattle.zk_comparison.specs.Sources.{Source}
-use Rattle.zk_comparison.specs.Trees.{AreTreesAt}
+use Rattle.zk_comparison.specs.Trees.{AreTreesAt, AreUnseenAt}
 use Rattle.zk_comparison.specs.declared.comparison.Report.{Report}
 use Rattle.zk_comparison.specs.declared.finding.Directory.TheVariants.{First, Second}
 use Rattle.zk_comparison.specs.declared.finding.Finding.{Finding}
@@ -16,7 +16,7 @@ use Rattle.zk_directory_state.specs.Outcomes.{Rejects}
 use Rattle.zk_directory_state.specs.declared.fault.HistoryFault.{HistoryFault}
 use Rattle.zk_directory_state.specs.declared.fault.HistoryFault.TheVariants as faults
 use Rattle.zk_directory_state.specs.Histories.{AreIn, HoldsNone}
-use Rattle.zk_directory_state.specs.Logs.{IsUnread}
+use Rattle.zk_directory_state.specs.Logs.{AreUnlistedIn}
 use Rattle.zk_directory_state.specs.Notices.{OutputsWith}
 use Rattle.zk_log_commands.specs.Writing.{LeavesSink}
 use Rattle.zk_path.specs.declared.memory.NoMemory.{NoMemory}
@@ -68,8 +68,8 @@ pub record IsSurvey (source : Source) (surveyed : Surveyed) (fault : Option Hist
 
 -- the fault keeps a directory from being compared
 pub data Keeps (source : Source) (fault : HistoryFault) : Type 0 where
-  -- a folder cannot be read, or allocation failed
-  Unread : (unread : IsUnread fault) → Keeps source fault
+  -- the names of a folder cannot be read, or allocation failed
+  Unlisted : (unlisted : AreUnlistedIn source.snapshots source.logs fault) → Keeps source fault
   -- there is no snapshot and no log
   Empty : (none : HoldsNone source.snapshots source.logs) (is : fault ≡ faults.Empty) → Keeps source fault
   -- a fault of the logs
@@ -115,9 +115,15 @@ pub record IsReport (first second : Source) (findings : List Finding) (notices :
   pub are_findings : findings ≡ compared.findings.items ++ said
   pub are_notices : notices ≡ string_bytes compared.notices ++ noted
 
+-- a file that the trees at their end rest on cannot be read
+pub record IsUnfinished (first second : Source) (fault : HistoryFault) : Type 0 where
+  pub compared : Report
+  pub of_logs : IsOfLogs first second compared
+  pub unseen : AreUnseenAt first second compared.end fault
+
 abbrev pub FindsComparison : Source → Source → Result Report HistoryFault → Type 0
 FindsComparison first second (Ok compared) = IsReport first second compared.findings.items (string_bytes compared.notices)
-FindsComparison first second (Err fault) = Keeps first fault ⊎ Keeps second fault
+FindsComparison first second (Err fault) = Keeps first fault ⊎ (Keeps second fault ⊎ IsUnfinished first second fault)
 
 -- ---- what is written
 

@@ -1,5 +1,5 @@
 -- The trees of two directories, after the last transaction of the range in common.
-use Rattle.std.specs.Prelude.{◌≡◌, ℕ, ℤ, Bool, true, false, List, [], ◌∷◌, ◌++◌, length, map, take, Option, Some, None, Result, Ok, Err, codes}
+use Rattle.std.specs.Prelude.{◌≡◌, ◌⊎◌, ℕ, ℤ, Bool, true, false, List, [], ◌∷◌, ◌++◌, length, map, take, Option, Some, None, Result, Ok, Err, codes}
 use Rattle.std.specs.FinMap.{get}
 use Rattle.std.specs.List.{filter}
 use Rattle.std.specs.String.{string_bytes}
@@ -14,7 +14,6 @@ use Rattle.zk_comparison.specs.declared.trees.Sight.{Sight}
 use Rattle.zk_comparison.specs.declared.trees.Trees.{Trees}
 use Rattle.zk_directory_state.specs.FaultLines.{fault_text}
 use Rattle.zk_directory_state.specs.Histories.{Holds}
-use Rattle.zk_directory_state.specs.Logs.{IsUnread}
 use Rattle.zk_directory_state.specs.Notices.{notices_of}
 use Rattle.zk_directory_state.specs.declared.fault.HistoryFault.{HistoryFault}
 use Rattle.zk_directory_state.specs.declared.fault.HistoryFault.TheVariants as faults
@@ -61,6 +60,16 @@ abbrev pub tree_notices : Directory → ℤ → Result Shown HistoryFault → Li
 tree_notices directory zxid (Ok shown) = notices_of (Zxid zxid) shown.restored
 tree_notices directory zxid (Err fault) = front_of (codes "tree") directory ++ fault_text fault ++ codes "\n"
 
+-- a file or a folder that the state rests on cannot be read, or allocation failed
+abbrev pub is_unread : HistoryFault → Bool
+is_unread (faults.Unreadable file) = true
+is_unread faults.Read = true
+is_unread faults.NoMemory = true
+is_unread fault = false
+
+abbrev pub IsUnseen : Source → ℤ → HistoryFault → Type 0
+IsUnseen source zxid fault = (is_unread fault ≡ true) × Sees source zxid (Err fault)
+
 -- ---- both
 
 -- of two states; nothing is said if there is only one
@@ -80,6 +89,11 @@ pub record AreTrees (first second : Source) (zxid : ℤ) (said : List Finding) (
 abbrev pub AreTreesAt : Source → Source → Option ℤ → List Finding → List ℕ → Type 0
 AreTreesAt first second None said notices = (said ≡ []) × (notices ≡ [])
 AreTreesAt first second (Some zxid) said notices = AreTrees first second zxid said notices
+
+-- the fault keeps the trees there from being compared
+abbrev pub AreUnseenAt : Source → Source → Option ℤ → HistoryFault → Type 0
+AreUnseenAt first second None fault = ⊥
+AreUnseenAt first second (Some zxid) fault = IsUnseen first zxid fault ⊎ IsUnseen second zxid fault
 
 -- ---- calls within
 
@@ -101,18 +115,12 @@ pub record IsSightOf (source : Source) (directory : Directory) (zxid : ℤ) (sig
   pub sees : Sees source zxid answer
   pub is : IsSight directory zxid answer sight
 
-abbrev pub is_unread : HistoryFault → Bool
-is_unread (faults.Unreadable file) = true
-is_unread faults.Read = true
-is_unread faults.NoMemory = true
-is_unread fault = false
-
 -- unless a file could not be read
 abbrev pub FindsSight : Source → Directory → ℤ → Result Sight HistoryFault → Type 0
 FindsSight source directory zxid (Ok sight) = IsSightOf source directory zxid sight
-FindsSight source directory zxid (Err fault) = IsUnread fault
+FindsSight source directory zxid (Err fault) = IsUnseen source zxid fault
 
 -- the same of both
 abbrev pub FindsTrees : Source → Source → Option ℤ → Result Trees HistoryFault → Type 0
 FindsTrees first second end (Ok trees) = AreTreesAt first second end trees.findings.items (string_bytes trees.notices)
-FindsTrees first second end (Err fault) = IsUnread fault
+FindsTrees first second end (Err fault) = AreUnseenAt first second end fault

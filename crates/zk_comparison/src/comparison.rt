@@ -36,7 +36,7 @@ pub(crate) struct Report {
 }
 
 /// The logs of a directory. The first folder has the snapshots, and may be the same.
-#[tactic(auto, using(crate::proofs::Reported::no_files, crate::proofs::Reported::unread))]
+#[tactic(auto, using(crate::proofs::Reported::no_files, crate::proofs::Reported::snapshots_unlisted, crate::proofs::Reported::logs_unlisted, crate::proofs::Reported::unlisted))]
 fn load<S: Folder, L: Folder>(
     alloc: Global,
     snapshots: &S,
@@ -204,8 +204,9 @@ fn with_trees(mut compared: Report, mut trees: Trees) -> Result<Report, NoMemory
 /// - [`HistoryFault::Empty`] if a directory has no snapshot and no log;
 /// - [`HistoryFault::NoTransaction`] if its logs have no transaction;
 /// - [`HistoryFault::Differs`] if they hold two histories;
-/// - [`HistoryFault::Read`] if a folder cannot be read.
-#[tactic(auto, using(crate::proofs::Reported::reported, crate::proofs::Reported::trees_unread))]
+/// - [`HistoryFault::Read`] if the names of a folder cannot be read;
+/// - [`HistoryFault::Unreadable`] if a file cannot be read that a tree there rests on.
+#[tactic(auto, using(crate::proofs::Reported::reported, crate::proofs::Reported::logs_kept, crate::proofs::Reported::trees_unseen, crate::proofs::Reported::no_memory))]
 pub(crate) fn compare_directories<A: Folder, B: Folder, C: Folder, D: Folder>(
     alloc: Global,
     first: &A,

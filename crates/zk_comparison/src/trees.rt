@@ -37,7 +37,7 @@ pub(crate) struct Trees {
 /// Compares the trees of two directories after a transaction, if there is one.
 ///
 /// Fails if a file or folder cannot be read.
-#[tactic(auto, using(crate::proofs::Seen::compared_trees))]
+#[tactic(auto, using(crate::proofs::Seen::compared_trees, crate::proofs::Seen::first_unseen, crate::proofs::Seen::second_unseen, crate::proofs::Seen::no_memory_for_trees))]
 pub(crate) fn compare_trees_at<A: Folder, B: Folder, C: Folder, D: Folder>(
     alloc: Global,
     first: &A,
@@ -66,7 +66,7 @@ pub(crate) fn compare_trees_at<A: Folder, B: Folder, C: Folder, D: Folder>(
 /// The tree of a directory after a transaction.
 ///
 /// Fails if a file or folder cannot be read.
-#[tactic(auto, using(crate::proofs::Seen::seen, crate::proofs::Seen::not_seen, crate::proofs::Seen::unread))]
+#[tactic(auto, using(crate::proofs::Seen::seen, crate::proofs::Seen::not_seen, crate::proofs::Seen::unseen, crate::proofs::Seen::out_of_memory))]
 fn sight_of<S: Folder, L: Folder>(
     alloc: Global,
     directory: Directory,
