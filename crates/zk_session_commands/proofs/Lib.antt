@@ -1,0 +1,4 @@
+pub mod Finished
+pub mod Lived
+pub mod Passing
+pub mod Unknowing
