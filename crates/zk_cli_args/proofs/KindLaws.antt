@@ -10,6 +10,8 @@ use Rattle.zk_cli_args.specs.Incidents.{HistoryWords, TopWords, history_after, h
 use Rattle.zk_cli_args.specs.Lines.{name_of}
 use Rattle.zk_cli_args.specs.Restoring.{RestoreWords, restore_after, restore_words}
 use Rattle.zk_cli_args.specs.Serving.{NamesServing}
+use Rattle.zk_cli_args.specs.Sessions.{SessionWords, SessionsWords, session_after, session_words, sessions_after, sessions_of}
+use Rattle.zk_cli_args.specs.Snapshots.{SnapshotWords, snapshot_after, snapshot_words}
 use Rattle.zk_cli_args.specs.Verifying.{VerifyWords, verify_after, verify_of}
 use Rattle.zk_cli_args.specs.declared.command.Order.{Order}
 use Rattle.zk_cli_args.specs.declared.command.Order.TheVariants as orders
@@ -34,6 +36,16 @@ top_name [] given e = absurd (cc e)
 top_name (program ∷ []) given e = absurd (cc e)
 top_name (program ∷ name ∷ words) given e = named name (codes "top") (top_after words) None (bytes_eq name (codes "top")) given refl refl e
 
+pub sessions_name : (words : List (List ℕ)) (given : SessionsWords) → sessions_of words ≡ Some given → name_of words ≡ codes "sessions"
+sessions_name [] given e = absurd (cc e)
+sessions_name (program ∷ []) given e = absurd (cc e)
+sessions_name (program ∷ name ∷ words) given e = named name (codes "sessions") (sessions_after words) None (bytes_eq name (codes "sessions")) given refl refl e
+
+pub session_name : (words : List (List ℕ)) (given : SessionWords) → session_words words ≡ Some given → name_of words ≡ codes "session"
+session_name [] given e = absurd (cc e)
+session_name (program ∷ []) given e = absurd (cc e)
+session_name (program ∷ name ∷ words) given e = named name (codes "session") (session_after words) None (bytes_eq name (codes "session")) given refl refl e
+
 pub compare_name : (words : List (List ℕ)) (given : CompareWords) → compare_of words ≡ Some given → name_of words ≡ codes "compare"
 compare_name [] given e = absurd (cc e)
 compare_name (program ∷ []) given e = absurd (cc e)
@@ -53,6 +65,11 @@ pub restore_name : (words : List (List ℕ)) (given : RestoreWords) → restore_
 restore_name [] given e = absurd (cc e)
 restore_name (program ∷ []) given e = absurd (cc e)
 restore_name (program ∷ name ∷ words) given e = named name (codes "restore") (restore_after words) None (bytes_eq name (codes "restore")) given refl refl e
+
+pub snapshot_name : (words : List (List ℕ)) (given : SnapshotWords) → snapshot_words words ≡ Some given → name_of words ≡ codes "snapshot"
+snapshot_name [] given e = absurd (cc e)
+snapshot_name (program ∷ []) given e = absurd (cc e)
+snapshot_name (program ∷ name ∷ words) given e = named name (codes "snapshot") (snapshot_after words) None (bytes_eq name (codes "snapshot")) given refl refl e
 
 -- ---- the names of jobs, directories and servers
 

@@ -15,7 +15,10 @@ pub mod NamesLaws
 pub mod OptionLaws
 pub mod RestoreLaws
 pub mod ServingLaws
+pub mod SessionLaws
 pub mod ShowLaws
+pub mod SnapshotLaws
+pub mod ComparisonsLaws
 pub mod TopLaws
 pub mod UntilLaws
 pub mod WordsLaws

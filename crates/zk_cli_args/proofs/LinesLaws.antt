@@ -8,6 +8,7 @@ use Rattle.zk_cli_args.specs.Ensembles.{NamesEnsemble, NamesEnsembleBehind, Read
 use Rattle.zk_cli_args.specs.Incidents.{words_of_history}
 use Rattle.zk_cli_args.specs.Lines.{IsAsked, IsSeveral, NamesCommand, NamesEnsembleBy, NamesOnly, ReadsRecorded, ReadsRecordedBy, file_of, name_of}
 use Rattle.zk_cli_args.specs.Options.{ValueBeside, record_of}
+use Rattle.zk_cli_args.specs.Sessions.{words_of_sessions}
 use Rattle.zk_cli_args.specs.Verifying.{words_of_verify}
 use Rattle.zk_cli_args.specs.Serving.{NamesBehind, NamesNoServing, NamesServers, NamesServing, SpellsConnections, SpellsWithin}
 use Rattle.zk_cli_args.specs.declared.command.Order.{Order}
@@ -18,7 +19,7 @@ use Rattle.zk_cli_args.specs.declared.commands.Command.TheVariants as commands
 use Rattle.zk_cli_args.specs.declared.ensemble.Ensemble.{Ensemble}
 use Rattle.zk_cli_args.specs.declared.ensemble_job.EnsembleJob.{EnsembleJob}
 use Rattle.zk_cli_args.proofs.DirectoryLaws.{no_folder_job, no_folder_serving, same_folder}
-use Rattle.zk_cli_args.proofs.KindLaws.{compare_name, diff_name, history_name, is_known, no_debug_folder, no_debug_serving, no_known_folder, no_known_job, no_known_serving, restore_name, top_name, verify_name}
+use Rattle.zk_cli_args.proofs.KindLaws.{compare_name, diff_name, history_name, is_known, no_debug_folder, no_debug_serving, no_known_folder, no_known_job, no_known_serving, restore_name, session_name, sessions_name, snapshot_name, top_name, verify_name}
 use Rattle.zk_cli_args.proofs.NamesLaws.{apart, same_named}
 
 same_given : (x y : Option (List ℕ) × List (List ℕ)) → Some x ≡ Some y → x ≡ y
@@ -132,10 +133,13 @@ names_only words (commands.Debug it) p = record {
 }
 names_only words (commands.History job) p = names_other words (commands.History job) (codes "history") (history_name words (words_of_history job) p) refl p
 names_only words (commands.Top job) p = names_other words (commands.Top job) (codes "top") (top_name words p.given p.parted) refl p
+names_only words (commands.Sessions job) p = names_other words (commands.Sessions job) (codes "sessions") (sessions_name words (words_of_sessions job) p) refl p
+names_only words (commands.Session job) p = names_other words (commands.Session job) (codes "session") (session_name words p.given p.parted) refl p
 names_only words (commands.Compare job) p = names_other words (commands.Compare job) (codes "compare") (compare_name words (words_of_compare job) p) refl p
 names_only words (commands.Verify job) p = names_other words (commands.Verify job) (codes "verify") (verify_name words (words_of_verify job) p) refl p
 names_only words (commands.Diff job) p = names_other words (commands.Diff job) (codes "diff") (diff_name words p.given p.parted) refl p
 names_only words (commands.Restore job) p = names_other words (commands.Restore job) (codes "restore") (restore_name words p.given p.parted) refl p
+names_only words (commands.Snapshot job) p = names_other words (commands.Snapshot job) (codes "snapshot") (snapshot_name words p.given p.parted) refl p
 names_only words (commands.Ensemble job) p = ensemble_only words job (file_of job) refl p
 
 pub asked_named : (words : List (List ℕ)) (command : Command) → IsAsked words command → NamesCommand words command
@@ -146,10 +150,13 @@ asked_named words (commands.Serve it) p = absurd p
 asked_named words (commands.Ensemble job) p = absurd p
 asked_named words (commands.History job) p = p
 asked_named words (commands.Top job) p = p
+asked_named words (commands.Sessions job) p = p
+asked_named words (commands.Session job) p = p
 asked_named words (commands.Compare job) p = p
 asked_named words (commands.Verify job) p = p
 asked_named words (commands.Diff job) p = p
 asked_named words (commands.Restore job) p = p
+asked_named words (commands.Snapshot job) p = p
 
 pub recorded_named : (words : List (List ℕ)) (job : EnsembleJob) → ReadsRecorded words (Some job) → NamesNoJob words → NamesNoFolder words → NamesNoServing words → NamesCommand words (commands.Ensemble job)
 recorded_named words job p no_job no_folder no_serving =

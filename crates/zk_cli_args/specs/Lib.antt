@@ -14,6 +14,9 @@ pub mod Options
 pub mod Parting
 pub mod Restoring
 pub mod Serving
+pub mod Sessions
+pub mod Snapshots
 pub mod Tops
 pub mod Verifying
 pub mod Zxids
+pub mod Comparisons

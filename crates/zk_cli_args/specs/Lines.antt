@@ -13,6 +13,8 @@ use Rattle.zk_cli_args.specs.Incidents.{NamesTop, history_of, words_of_history}
 use Rattle.zk_cli_args.specs.Options.{record_of}
 use Rattle.zk_cli_args.specs.Restoring.{NamesRestore}
 use Rattle.zk_cli_args.specs.Serving.{NamesNoServing, NamesServing}
+use Rattle.zk_cli_args.specs.Sessions.{NamesSession, sessions_of, words_of_sessions}
+use Rattle.zk_cli_args.specs.Snapshots.{NamesSnapshot}
 use Rattle.zk_cli_args.specs.Verifying.{verify_of, words_of_verify}
 use Rattle.zk_cli_args.specs.declared.command.Order.{Order}
 use Rattle.zk_cli_args.specs.declared.debugging.FolderDebug.{FolderDebug}
@@ -29,6 +31,8 @@ use Rattle.zk_cli_args.specs.declared.line.CommandLine.{CommandLine}
 use Rattle.zk_cli_args.specs.declared.ensemble_job.EnsembleJob.{EnsembleJob}
 use Rattle.zk_cli_args.specs.declared.restoration.RestoreJob.{RestoreJob}
 use Rattle.zk_cli_args.specs.declared.serving.Serving.{Serving}
+use Rattle.zk_cli_args.specs.declared.session.SessionJob.{SessionJob}
+use Rattle.zk_cli_args.specs.declared.snapshot.SnapshotJob.{SnapshotJob}
 use Rattle.zk_cli_args.specs.declared.top.TopJob.{TopJob}
 
 -- ---- a debugger, and an ensemble
@@ -66,21 +70,27 @@ NamesCommand words (commands.Look job) = NamesFolder words job.order job.folder.
 NamesCommand words (commands.Debug it) = NamesDebugLine words it × (needs_directory it ≡ true) × NamesNoJob words
 NamesCommand words (commands.History job) = history_of words ≡ Some (words_of_history job)
 NamesCommand words (commands.Top job) = NamesTop words job
+NamesCommand words (commands.Sessions job) = sessions_of words ≡ Some (words_of_sessions job)
+NamesCommand words (commands.Session job) = NamesSession words job
 NamesCommand words (commands.Compare job) = compare_of words ≡ Some (words_of_compare job)
 NamesCommand words (commands.Verify job) = verify_of words ≡ Some (words_of_verify job)
 NamesCommand words (commands.Diff job) = NamesDiff words job
 NamesCommand words (commands.Restore job) = NamesRestore words job
+NamesCommand words (commands.Snapshot job) = NamesSnapshot words job
 NamesCommand words (commands.Serve serving) = NamesServing words serving
 NamesCommand words (commands.Ensemble job) = NamesEnsembleBy words (file_of job) job.ensemble
 
--- no report, and nothing to restore
+-- no report, nothing to restore and no snapshot to write
 pub record AsksNothing (words : List (List ℕ)) : Type 0 where
   pub history : history_of words ≡ None
   pub top : (job : TopJob) → ¬ NamesTop words job
+  pub sessions : sessions_of words ≡ None
+  pub session : (job : SessionJob) → ¬ NamesSession words job
   pub compare : compare_of words ≡ None
   pub verify : verify_of words ≡ None
   pub diff : (job : DiffJob) → ¬ NamesDiff words job
   pub restore : (job : RestoreJob) → ¬ NamesRestore words job
+  pub snapshot : (job : SnapshotJob) → ¬ NamesSnapshot words job
 
 pub record NamesNothing (words : List (List ℕ)) : Type 0 where
   pub job : NamesNoJob words
@@ -122,8 +132,9 @@ name_of (program ∷ name ∷ words) = name
 
 abbrev pub has_json : List ℕ → Bool
 has_json name =
-    (((((bytes_eq name (codes "show") || bytes_eq name (codes "list")) || bytes_eq name (codes "history")) || bytes_eq name (codes "top")) || bytes_eq name (codes "verify")) || bytes_eq name (codes "diff"))
-    || bytes_eq name (codes "compare")
+    ((((((((bytes_eq name (codes "show") || bytes_eq name (codes "list")) || bytes_eq name (codes "files")) || bytes_eq name (codes "history")) || bytes_eq name (codes "top")) || bytes_eq name (codes "verify")) || bytes_eq name (codes "diff"))
+    || bytes_eq name (codes "compare")) || bytes_eq name (codes "sessions"))
+    || bytes_eq name (codes "session")
 
 -- the forms of the command of a name
 abbrev pub has_form : List ℕ → Form → Bool
@@ -199,14 +210,17 @@ abbrev pub ReadsDirectoryDebug : List (List ℕ) → Option FolderDebug → Type
 ReadsDirectoryDebug words (Some it) = NamesDebugLine words it × (needs_directory it ≡ true)
 ReadsDirectoryDebug words None = NamesNoDebug words
 
--- a report, or a script that restores nodes
+-- a report, a script that restores nodes, or a snapshot
 abbrev pub IsAsked : List (List ℕ) → Command → Type 0
 IsAsked words (commands.History job) = history_of words ≡ Some (words_of_history job)
 IsAsked words (commands.Top job) = NamesTop words job
+IsAsked words (commands.Sessions job) = sessions_of words ≡ Some (words_of_sessions job)
+IsAsked words (commands.Session job) = NamesSession words job
 IsAsked words (commands.Compare job) = compare_of words ≡ Some (words_of_compare job)
 IsAsked words (commands.Verify job) = verify_of words ≡ Some (words_of_verify job)
 IsAsked words (commands.Diff job) = NamesDiff words job
 IsAsked words (commands.Restore job) = NamesRestore words job
+IsAsked words (commands.Snapshot job) = NamesSnapshot words job
 IsAsked words command = ⊥
 
 abbrev pub ReadsAsked : List (List ℕ) → Option Command → Type 0

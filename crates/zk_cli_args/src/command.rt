@@ -298,7 +298,7 @@ pub(crate) fn read_upto(alloc: Global, word: &str) -> Result<Option<Option<i64>>
 }
 
 /// The 64 bits of sixteen lower-case hexadecimal digits. Returns `None` for any other word.
-fn read_digits(alloc: Global, word: &str) -> Result<Option<u64>, NoMemory>
+pub(crate) fn read_digits(alloc: Global, word: &str) -> Result<Option<u64>, NoMemory>
     ensures { IfOk result (λ read. ReadsDigits word.now read) }
 {
     let Ok(bytes) = <[u8; 8] as FromHex>::from_hex(word) else {

@@ -11,6 +11,9 @@ use crate::folders::{FolderJob, folder_job_of};
 use crate::history::{HistoryJob, history_of};
 use crate::restoration::{RestoreJob, restore_of};
 use crate::serving::{Serving, serving_of};
+use crate::session::{SessionJob, session_of};
+use crate::sessions::{SessionsJob, sessions_of};
+use crate::snapshot::{SnapshotJob, snapshot_of};
 use crate::top::{TopJob, top_of};
 use crate::verification::{VerifyJob, verify_of};
 use std::alloc::Global;
@@ -31,6 +34,10 @@ pub enum Command<'a> {
     History(HistoryJob<'a>),
     /// Writes the paths or sessions with the most writes.
     Top(TopJob<'a>),
+    /// Writes what the sessions did.
+    Sessions(SessionsJob<'a>),
+    /// Writes what one session did.
+    Session(SessionJob<'a>),
     /// Compares the logs of two data directories.
     Compare(CompareJob<'a>),
     /// Verifies a data directory.
@@ -39,6 +46,8 @@ pub enum Command<'a> {
     Diff(DiffJob<'a>),
     /// Writes the script that restores nodes.
     Restore(RestoreJob<'a>),
+    /// Writes the snapshot of a state of a data directory.
+    Snapshot(SnapshotJob<'a>),
     /// Servers serve connections.
     Serve(Serving),
     /// An ensemble serves ZooKeeper's clients.
@@ -88,7 +97,7 @@ fn named_of<'a>(alloc: Global, words: &[&'a str]) -> Result<Option<Command<'a>>,
     }
 }
 
-/// The report, or the script, that words ask for.
+/// The report, the script or the snapshot that words ask for.
 fn asked_of<'a>(alloc: Global, words: &[&'a str]) -> Result<Option<Command<'a>>, NoMemory>
     ensures { IfOk result (λ read. ReadsAsked (map (λ word. word.now) words.now) read) }
 {
@@ -97,6 +106,12 @@ fn asked_of<'a>(alloc: Global, words: &[&'a str]) -> Result<Option<Command<'a>>,
     }
     if let Some(job) = top_of(alloc, words)? {
         return Ok(Some(Command::Top(job)));
+    }
+    if let Some(job) = sessions_of(alloc, words)? {
+        return Ok(Some(Command::Sessions(job)));
+    }
+    if let Some(job) = session_of(alloc, words)? {
+        return Ok(Some(Command::Session(job)));
     }
     if let Some(job) = compare_of(alloc, words)? {
         return Ok(Some(Command::Compare(job)));
@@ -107,8 +122,11 @@ fn asked_of<'a>(alloc: Global, words: &[&'a str]) -> Result<Option<Command<'a>>,
     if let Some(job) = diff_of(alloc, words)? {
         return Ok(Some(Command::Diff(job)));
     }
-    match restore_of(alloc, words)? {
-        Some(job) => Ok(Some(Command::Restore(job))),
+    if let Some(job) = restore_of(alloc, words)? {
+        return Ok(Some(Command::Restore(job)));
+    }
+    match snapshot_of(alloc, words)? {
+        Some(job) => Ok(Some(Command::Snapshot(job))),
         None => Ok(None),
     }
 }

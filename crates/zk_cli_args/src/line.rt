@@ -149,11 +149,14 @@ fn has_json(name: &str) -> bool
 {
     name == "show"
         || name == "list"
+        || name == "files"
         || name == "history"
         || name == "top"
         || name == "verify"
         || name == "diff"
         || name == "compare"
+        || name == "sessions"
+        || name == "session"
 }
 
 fn has_follow(name: &str, follows: bool) -> bool

@@ -1,5 +1,6 @@
 ghost use Rattle.std.specs.Prelude.{◌≡◌, IfOk, option_map, replicate};
 ghost use Rattle.std.specs.String.{string_bytes};
+ghost use Rattle.zk_cli_args.specs.Sessions.{bare_by, widened};
 ghost use Rattle.zk_cli_args.specs.Zxids.{digits_in, padded, padded_by};
 
 use std::alloc::Global;
@@ -14,6 +15,24 @@ pub(crate) fn padded(alloc: Global, word: &str) -> Result<String, NoMemory>
     ensures { IfOk result (λ plain. string_bytes plain ≡ padded word.now) }
 {
     padded_by(alloc, word, digits_in(word))
+}
+
+/// `0x2a4`, or `2a4` alone, as sixteen digits; a word of no digit or of more as it is.
+#[tactic(auto, unfolding(crate::specs::Sessions::widened))]
+pub(crate) fn widened(alloc: Global, word: &str) -> Result<String, NoMemory>
+    ensures { IfOk result (λ plain. string_bytes plain ≡ widened word.now) }
+{
+    padded_by(alloc, word, Some(bare(word)))
+}
+
+/// What follows `0x`, or the word itself.
+fn bare(word: &str) -> &str
+    ensures { result.now ≡ bare_by word.now (digits_in word.now) }
+{
+    match digits_in(word) {
+        Some(digits) => digits,
+        None => word,
+    }
 }
 
 /// What follows `0x`.

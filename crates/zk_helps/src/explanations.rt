@@ -24,7 +24,7 @@ const OF_LOGS: [Explanation; 13] = [
     },
     Explanation {
         code: "G3",
-        words: "The record at this byte is not one of 3.3 or 3.4. Show the directory of the log, or convert the log: `zk mend FILE OUT`.",
+        words: "The record at this byte is corrupt or of an unknown server; a log of a 3.5 to 3.8 server on standard input must be given as a file.",
     },
     Explanation {
         code: "G4",
@@ -68,10 +68,14 @@ const OF_LOGS: [Explanation; 13] = [
     },
 ];
 
-const OF_DIRECTORIES: [Explanation; 22] = [
+const OF_DIRECTORIES: [Explanation; 23] = [
     Explanation {
         code: "lost",
-        words: "This directory lost transactions between these two, which are not compared: a log is damaged, or a file is missing.",
+        words: "The logs lost transactions between these two, which are left out or not compared: a log is damaged, or a file is missing. `zk verify` names the bytes.",
+    },
+    Explanation {
+        code: "compare",
+        words: "The lines below are about these two directories.",
     },
     Explanation {
         code: "broken",
@@ -159,7 +163,7 @@ const OF_DIRECTORIES: [Explanation; 22] = [
     },
 ];
 
-const OF_TEXTS: [Explanation; 17] = [
+const OF_TEXTS: [Explanation; 18] = [
     Explanation {
         code: "L1",
         words: "In this line a field is missing, empty or additional, or a separator is not one space.",
@@ -195,6 +199,10 @@ const OF_TEXTS: [Explanation; 17] = [
     Explanation {
         code: "length",
         words: "The record of this line would have more than 16,777,216 bytes.",
+    },
+    Explanation {
+        code: "long",
+        words: "A text of the state has 2,147,483,648 bytes or more, or there are 2,147,483,648 sessions or access control lists: a snapshot has no field for that.",
     },
     Explanation {
         code: "script",

@@ -1,14 +1,43 @@
 //! The command line as `clap` reads it.
 
-use crate::helps::{ASKING, EXPLAIN, FlagHelp, OptionHelp, OrderHelp, READING, RUNNING, ValueHelp};
+use crate::helps::{
+    ASKING, EXPLAIN, FlagHelp, HOLDING, LIVES, OptionHelp, OrderHelp, READING, RUNNING, ValueHelp,
+};
 use crate::notes::FAULTS;
 use clap::{Arg, ArgAction, Command};
 use std::alloc::{AllocError, Global};
 
 pub(crate) fn command<'a>(alloc: Global) -> Result<Command<'a>, AllocError> {
-    let reading = with_orders(alloc, program(alloc)?, &READING)?;
-    let asking = with_orders(alloc, reading, &ASKING)?;
-    with_orders(alloc, asking, &RUNNING)
+    let reading = with_reading(alloc, program(alloc)?)?;
+    let asking = with_asking(alloc, reading)?;
+    let living = with_lives(alloc, asking)?;
+    let holding = with_holding(alloc, living)?;
+    with_running(alloc, holding)
+}
+
+/// Adds the commands that read data directories and logs.
+fn with_reading<'a>(alloc: Global, command: Command<'a>) -> Result<Command<'a>, AllocError> {
+    with_orders(alloc, command, &READING)
+}
+
+/// Adds the commands that say what happened in a data directory.
+fn with_asking<'a>(alloc: Global, command: Command<'a>) -> Result<Command<'a>, AllocError> {
+    with_orders(alloc, command, &ASKING)
+}
+
+/// Adds the commands that say what sessions did in a data directory.
+fn with_lives<'a>(alloc: Global, command: Command<'a>) -> Result<Command<'a>, AllocError> {
+    with_orders(alloc, command, &LIVES)
+}
+
+/// Adds the commands that compare data directories, or write what one holds.
+fn with_holding<'a>(alloc: Global, command: Command<'a>) -> Result<Command<'a>, AllocError> {
+    with_orders(alloc, command, &HOLDING)
+}
+
+/// Adds the commands that run servers.
+fn with_running<'a>(alloc: Global, command: Command<'a>) -> Result<Command<'a>, AllocError> {
+    with_orders(alloc, command, &RUNNING)
 }
 
 /// Adds commands.
@@ -75,9 +104,19 @@ fn with_values<'a>(
 }
 
 fn value_arg<'a>(alloc: Global, value: &ValueHelp) -> Arg<'a> {
-    Arg::new(alloc, value.name)
+    named_arg(alloc, value.name)
         .required(value.required)
         .help(value.help)
+}
+
+/// A value of this name, or before `..` any number of values.
+fn named_arg<'a>(alloc: Global, name: &'static str) -> Arg<'a> {
+    match name.strip_suffix("..") {
+        Some(name) => Arg::new(alloc, name)
+            .action(ArgAction::Append)
+            .num_args(1..),
+        None => Arg::new(alloc, name),
+    }
 }
 
 /// Adds options that take no value.

@@ -2,7 +2,8 @@
 
 use crate::notes::{
     ASM_NOTES, COMPARE_NOTES, DEBUG_LINES, DIFF_NOTES, ENSEMBLE_LINES, FILES_NOTES, HISTORY_NOTES,
-    LOG_NOTES, MEND_NOTES, RESTORE_NOTES, RUN_LINES, SERVE_LINES, TOP_NOTES, VERIFY_NOTES,
+    LOG_NOTES, MEND_NOTES, RESTORE_NOTES, RUN_LINES, SERVE_LINES, SESSION_NOTES, SESSIONS_NOTES,
+    SNAPSHOT_NOTES, TOP_NOTES, VERIFY_NOTES,
 };
 
 /// The help of a command.
@@ -22,6 +23,7 @@ pub(crate) struct OrderHelp {
 /// A positional value of a command.
 #[derive(Clone, Copy)]
 pub(crate) struct ValueHelp {
+    /// Before `..`, that of any number of values.
     pub(crate) name: &'static str,
     pub(crate) help: &'static str,
     pub(crate) required: bool,
@@ -50,7 +52,13 @@ pub(crate) struct OptionHelp {
 pub(crate) const READING: [OrderHelp; 6] = [SHOW, LIST, FILES, ASM, MEND, DEBUG];
 
 /// The commands that say what happened in a data directory.
-pub(crate) const ASKING: [OrderHelp; 6] = [VERIFY, HISTORY, DIFF, TOP, COMPARE, RESTORE];
+pub(crate) const ASKING: [OrderHelp; 4] = [VERIFY, HISTORY, DIFF, TOP];
+
+/// The commands that say what sessions did in a data directory.
+pub(crate) const LIVES: [OrderHelp; 2] = [SESSIONS, SESSION];
+
+/// The commands that compare data directories, or write what one holds.
+pub(crate) const HOLDING: [OrderHelp; 3] = [COMPARE, RESTORE, SNAPSHOT];
 
 /// The commands that run servers.
 pub(crate) const RUNNING: [OrderHelp; 3] = [RUN, SERVE, ENSEMBLE];
@@ -88,7 +96,7 @@ const FILES: OrderHelp = OrderHelp {
     about: "Prints a line for each snapshot and each log of a data directory",
     notes: FILES_NOTES,
     values: &[DIR],
-    flags: &[],
+    flags: &[JSON],
     options: &[LOGS],
 };
 
@@ -185,6 +193,33 @@ pub(crate) const TOP: OrderHelp = OrderHelp {
     ],
 };
 
+const SESSIONS: OrderHelp = OrderHelp {
+    name: "sessions",
+    title: "zk sessions",
+    about: "Prints when each session of a data directory was opened, what it wrote, and how it ended",
+    notes: SESSIONS_NOTES,
+    values: &[DIR],
+    flags: &[JSON],
+    options: &[LOGS],
+};
+
+pub(crate) const SESSION: OrderHelp = OrderHelp {
+    name: "session",
+    title: "zk session",
+    about: "Prints what a session of a data directory did",
+    notes: SESSION_NOTES,
+    values: &[
+        ValueHelp {
+            name: "ID",
+            help: "The session: 1 to 16 lower-case hexadecimal digits, alone or after 0x",
+            required: true,
+        },
+        DIR,
+    ],
+    flags: &[JSON],
+    options: &[LOGS],
+};
+
 pub(crate) const RESTORE: OrderHelp = OrderHelp {
     name: "restore",
     title: "zk restore",
@@ -199,20 +234,30 @@ pub(crate) const RESTORE: OrderHelp = OrderHelp {
         },
     ],
     flags: &[],
-    options: &[
-        OptionHelp {
-            name: "at",
-            value: "T",
-            help: "The last transaction of the tree: a zxid, `last` or a time, as for show; the last of all if left out",
-        },
-        LOGS,
-    ],
+    options: &[AT, LOGS],
 };
 
-const COMPARE: OrderHelp = OrderHelp {
+pub(crate) const SNAPSHOT: OrderHelp = OrderHelp {
+    name: "snapshot",
+    title: "zk snapshot",
+    about: "Writes a snapshot of a data directory, as of a transaction, from which a server starts",
+    notes: SNAPSHOT_NOTES,
+    values: &[
+        DIR,
+        ValueHelp {
+            name: "OUT",
+            help: "The snapshot, created or truncated: a path, or @ for standard output",
+            required: true,
+        },
+    ],
+    flags: &[],
+    options: &[AT, LOGS],
+};
+
+pub(crate) const COMPARE: OrderHelp = OrderHelp {
     name: "compare",
     title: "zk compare",
-    about: "Prints what two servers have in common, and where their logs and trees differ",
+    about: "Prints what servers have in common with the first, and where their logs and trees differ",
     notes: COMPARE_NOTES,
     values: &[
         DIR,
@@ -220,6 +265,11 @@ const COMPARE: OrderHelp = OrderHelp {
             name: "DIR2",
             help: "Another server's",
             required: true,
+        },
+        ValueHelp {
+            name: "DIR3..",
+            help: "Those of more servers, each of which is compared with DIR",
+            required: false,
         },
     ],
     flags: &[JSON],
@@ -233,6 +283,41 @@ const COMPARE: OrderHelp = OrderHelp {
             name: "logs2",
             value: "LOGS2",
             help: "The same of DIR2",
+        },
+        OptionHelp {
+            name: "logs3",
+            value: "LOGS3",
+            help: "The same of the third directory",
+        },
+        OptionHelp {
+            name: "logs4",
+            value: "LOGS4",
+            help: "The same of the fourth",
+        },
+        OptionHelp {
+            name: "logs5",
+            value: "LOGS5",
+            help: "The same of the fifth",
+        },
+        OptionHelp {
+            name: "logs6",
+            value: "LOGS6",
+            help: "The same of the sixth",
+        },
+        OptionHelp {
+            name: "logs7",
+            value: "LOGS7",
+            help: "The same of the seventh",
+        },
+        OptionHelp {
+            name: "logs8",
+            value: "LOGS8",
+            help: "The same of the eighth",
+        },
+        OptionHelp {
+            name: "logs9",
+            value: "LOGS9",
+            help: "The same of the ninth",
         },
     ],
 };
@@ -393,6 +478,13 @@ const DIR: ValueHelp = ValueHelp {
     name: "DIR",
     help: "The data directory, or its version-2",
     required: true,
+};
+
+/// The option of the state that is asked for.
+const AT: OptionHelp = OptionHelp {
+    name: "at",
+    value: "T",
+    help: "The last transaction of the tree: a zxid, `last` or a time, as for show; the last of all if left out",
 };
 
 /// The value that names a log to read.

@@ -11,12 +11,13 @@ pub(crate) const LOG_NOTES: &str =
     r#"Errors, on standard error after `zk: `; AT is the byte where the entry begins:
   G1          not a transaction log: a snapshot, compressed or empty
   G2 AT       checksum mismatch: the entry is corrupt
-  G3 AT       no record of 3.4; show the directory of a 3.5 to 3.8 server, or `zk mend` the log
+  G3 AT       no record of a 3.4 to 3.8 server, nor, on standard input, of a 3.4 one
   G4 AT       the zxid is not above the one before
   G5 AT       the length is above 16777216 bytes
   G6          a read failed
   G7          no end after 1048576 reads
-Of a directory these have the file's NAME before AT, and there are more:
+Of a directory these have the file's NAME before AT, and there are more. One log of a 3.5 to 3.8 server is
+read as a directory that has only it:
   D1          no snapshot and no log
   D2 FIRST    no snapshot serves, and the logs begin with FIRST
   D3 FROM TO  the transactions between these two are missing
@@ -33,6 +34,8 @@ and `read` and `write` if a file or directory cannot be opened or written, and `
 With status 0, of what the logs hold, and on what a tree rests beyond the files:
   range FIRST LAST TIME TIME
               a listing is of the transactions from FIRST to LAST; others were before
+  lost LOG FROM NEXT TIME TIME
+              this log is damaged: the transactions between these two are left out
   ends ZXID   no log has a transaction after this snapshot's
   unproved LAST NEXT
               nothing shows that LAST is the last transaction of its epoch
@@ -95,6 +98,18 @@ plain nodes. Comments, which begin with #, name what is left out:
 
 Errors, on standard error after `zk: `, are those of `zk show` of a directory."#;
 
+/// What `zk snapshot` writes, and its errors.
+pub(crate) const SNAPSHOT_NOTES: &str =
+    r#"The snapshot has the tree and the open sessions that `zk show` prints, and the digest of the tree. A
+server starts from it if its name is `snapshot.ZXID` in the server's version-2, with the zxid of the last
+transaction in hexadecimal digits without leading zeros, and no log is there but those that continue it.
+
+OUT is created or truncated once the state is known: an error other than `write` and `memory` leaves it as
+it was.
+
+Errors, on standard error after `zk: `, are those of `zk show` of a directory, and
+  long        a text or a number of the state has no field in a snapshot"#;
+
 /// The lines of `zk history`, and its errors.
 pub(crate) const HISTORY_NOTES: &str =
     r#"A line has the time in UTC, the zxid, the operation as in a listing, and the session. `expired` follows
@@ -106,7 +121,9 @@ ephemeral nodes that the session created in these logs.
 
 Errors, on standard error after `zk: `, are those of `zk list` of a directory. With status 0:
   range FIRST LAST TIME TIME
-              the lines are of the transactions from FIRST to LAST; others were before"#;
+              the lines are of the transactions from FIRST to LAST; others were before
+  lost LOG FROM NEXT TIME TIME
+              this log is damaged: the transactions between these two are left out"#;
 
 /// The lines of `zk compare`, and its errors.
 pub(crate) const COMPARE_NOTES: &str =
@@ -125,12 +142,14 @@ node differs, or if both have no transaction in common.
   node first PATH                   the trees differ: DIR alone has the node; `second`: DIR2 alone; `both`: its
                                     data, ACL or stat differ; of a thousand nodes
   tree ZXID N                       their number, after this transaction
+  compare "DIR" "DIR2"              of three or more directories: the two that the lines below are about
 If A and B are alike, contents differ: see `zk list` of both. With --json a line is an object of JSON.
 
 Lines on standard error say what the answer does not cover:
   zk: lost first FROM NEXT TIME TIME  DIR lost transactions between these two; `second`: DIR2
   zk: broken first G2 FILE AT         a log is broken from here on; also G1 to G6
   zk: tree first D2 ZXID              DIR's files prove no tree after that transaction, and no trees are compared
+  zk: compare "DIR" "DIR2"            of three or more directories: the two that the lines below are about
 The notices of `zk show` on the two trees follow.
 
 Errors, on standard error after `zk: `, are D1, D4 and D8 of a directory, and `read`."#;
@@ -143,7 +162,26 @@ an object of JSON.
 
 Errors, on standard error after `zk: `, are those of `zk list` of a directory. With status 0:
   range FIRST LAST TIME TIME
-              the lines count the transactions from FIRST to LAST; the range asked for goes beyond"#;
+              the lines count the transactions from FIRST to LAST; the range asked for goes beyond
+  lost LOG FROM NEXT TIME TIME
+              this log is damaged: the transactions between these two are left out"#;
+
+/// The lines of `zk sessions`, and its errors.
+pub(crate) const SESSIONS_NOTES: &str =
+    r#"A line is `SESSION opened TIME ZXID timeout MS writes N created N deleted N left N`, and then `open`,
+`closed TIME ZXID` by its client, or `expired TIME ZXID`. Its writes are the nodes that its requests created,
+changed or deleted; the other numbers count its ephemeral nodes. Sessions and ephemeral nodes from before
+the logs are those of the first snapshot; `unknown` is what no file has. With --json a line is an object of
+JSON.
+
+The status is 1 if there is no session. Errors and notices are those of `zk history`."#;
+
+/// The lines of `zk session`, and its errors.
+pub(crate) const SESSION_NOTES: &str =
+    r#"The first line is that of `zk sessions`. A line for each of its transactions follows, as `zk history -r`
+prints them. With --json a line is an object of JSON.
+
+The status is 1 if no file has the session. Errors and notices are those of `zk history`."#;
 
 /// The lines of `zk files`, and its errors.
 pub(crate) const FILES_NOTES: &str = r#"A line has the file's name, and then:
@@ -163,6 +201,8 @@ pub(crate) const FILES_NOTES: &str = r#"A line has the file's name, and then:
   G1, G2 AT, G3 AT, G4 AT, G5 AT
                       why the log is rejected, as `zk list --help` says
   gap FROM TO         the transactions between these two are missing
+  unread NAME         of a name that a server reads too: the file NAME is read in its place
+With --json a line is an object of JSON.
 
 Errors, on standard error after `zk: `; NAME is the file's:
   D1          no snapshot and no log
@@ -257,7 +297,7 @@ Errors among the results:
 Errors, on standard error after `zk: `; AT is the byte where the entry begins:
   G1          not a transaction log: a snapshot, compressed or empty
   G2 AT       checksum mismatch: the entry is corrupt
-  G3 AT       no record of 3.4; `zk mend` converts logs of 3.5 to 3.8 servers
+  G3 AT       no record of a 3.4 to 3.8 server, nor, on standard input, of a 3.4 one
   G4 AT       the zxid is not above the one before
   G5 AT       the length is above 16777216 bytes
   G6          a read failed

@@ -4,7 +4,10 @@ ghost use Rattle.std.specs.Prelude.{◌≢◌, ◌↔◌, IsTrue};
 ghost use Rattle.clap.specs.declared.error.kind.ErrorKind.TheVariants as kinds;
 
 use crate::grammar::{command, order_command};
-use crate::helps::{DEBUG, DIFF, ENSEMBLE, HISTORY, MEND, OrderHelp, RESTORE, SERVE, SHOW, TOP};
+use crate::helps::{
+    COMPARE, DEBUG, DIFF, ENSEMBLE, HISTORY, MEND, OrderHelp, RESTORE, SERVE, SESSION, SHOW,
+    SNAPSHOT, TOP,
+};
 use clap::Error;
 use clap::error::ErrorKind;
 use std::alloc::{AllocError, Global};
@@ -77,8 +80,11 @@ fn order_fault(alloc: Global, words: &[&str], order: &str) -> Result<Error, Allo
         "ensemble" => ensemble_fault(alloc),
         "top" => top_fault(alloc, words),
         "history" => path_fault(alloc),
+        "compare" => compare_fault(alloc),
         "diff" => diff_fault(alloc),
         "restore" => restore_fault(alloc),
+        "snapshot" => snapshot_fault(alloc),
+        "session" => session_fault(alloc),
         "debug" => debug_fault(alloc, words),
         // Of the other words that clap accepts, only a ZXID is an error.
         _ => zxid_fault(alloc, &SHOW),
@@ -110,7 +116,7 @@ fn explain_fault(alloc: Global) -> Result<Error, AllocError> {
 fn form_conflict(alloc: Global) -> Result<Error, AllocError> {
     command(alloc)?.error(
         ErrorKind::ArgumentConflict,
-        "--json is for show, list, history, top, verify, diff and compare, --time iso for list without --json, and --follow for list of a directory; each is given once",
+        "--json is for show, list, files, history, top, sessions, session, verify, diff and compare, --time iso for list without --json, and --follow for list of a directory; each is given once",
     )
 }
 
@@ -171,6 +177,16 @@ fn path_fault(alloc: Global) -> Result<Error, AllocError> {
     )
 }
 
+/// A usage error of `compare` that `clap` accepts.
+fn compare_fault(alloc: Global) -> Result<Error, AllocError> {
+    fault_of(
+        alloc,
+        &COMPARE,
+        ErrorKind::ArgumentConflict,
+        "--logsN names the logs of directory N, and there are fewer directories",
+    )
+}
+
 /// A usage error of `diff` that `clap` accepts.
 fn diff_fault(alloc: Global) -> Result<Error, AllocError> {
     fault_of(
@@ -188,6 +204,26 @@ fn restore_fault(alloc: Global) -> Result<Error, AllocError> {
         &RESTORE,
         ErrorKind::ValueValidation,
         "T is neither a zxid such as 0x2a4, `last`, nor a time such as 2026-11-27T14:03, or PATH is not the path of a node, such as / or /app/lock",
+    )
+}
+
+/// A usage error of `snapshot` that `clap` accepts.
+fn snapshot_fault(alloc: Global) -> Result<Error, AllocError> {
+    fault_of(
+        alloc,
+        &SNAPSHOT,
+        ErrorKind::ValueValidation,
+        "T is neither a zxid such as 0x2a4, `last`, nor a time such as 2026-11-27T14:03",
+    )
+}
+
+/// A usage error of `session` that `clap` accepts.
+fn session_fault(alloc: Global) -> Result<Error, AllocError> {
+    fault_of(
+        alloc,
+        &SESSION,
+        ErrorKind::ValueValidation,
+        "ID is not a session, such as 0x100000b69dd0002",
     )
 }
 
