@@ -3,7 +3,7 @@
 use std::alloc::{AllocError, Global};
 use std::io::{Read, Seek, SeekFrom};
 use std::{fs, io};
-use zk_directory::{FileName, read_file_name};
+use zk_directory::{FileName, read_file_name, read_server_name};
 use zk_directory_state::{
     Folder, FolderFault, HistoryFault, logs_in, name_among, push_log_name, push_snapshot_name,
     server_files,
@@ -83,8 +83,9 @@ impl Folder for DiskFolder<'_> {
 
     ghost bytes_in = { λ _ _. None };
 
-    /// The snapshots and logs that a server reads, each by the name that a server writes: `log.d8` for
-    /// `log.0D8` and `log.d8.bak`.
+    /// The snapshots and logs that a server reads, each by the name that a server writes: `log.d8`
+    /// for `log.0D8` and `log.d8.bak`. After them the names of those that another one is read in
+    /// place of.
     fn names(&self, alloc: Global) -> Result<Vec<String>, FolderFault> {
         let held = self.file_names(alloc)?;
         let Ok(files) = server_files(alloc, held.as_slice()) else {
@@ -94,6 +95,7 @@ impl Folder for DiskFolder<'_> {
         for file in &files {
             push_written_name(&mut names, *file)?;
         }
+        push_unread(&mut names, held.as_slice())?;
         Ok(names)
     }
 
@@ -186,6 +188,30 @@ fn push_written_name(names: &mut Vec<String>, file: FileName) -> Result<(), Fold
         return Err(FolderFault::NoMemory);
     }
     Ok(())
+}
+
+/// Appends the names among these by which a server reads files, of which others are read.
+fn push_unread(unread: &mut Vec<String>, names: &[String]) -> Result<(), FolderFault> {
+    for name in names {
+        if is_unread(name.as_str(), names) {
+            push_name(unread, name.as_str())?;
+        }
+    }
+    Ok(())
+}
+
+/// Whether a server reads a file by this name, and another one among these is read in its place.
+fn is_unread(name: &str, names: &[String]) -> bool {
+    if read_file_name(name).is_some() {
+        return false;
+    }
+    let Some(file) = read_server_name(name) else {
+        return false;
+    };
+    match name_among(file, names) {
+        Some(held) => held.as_str() != name,
+        None => false,
+    }
 }
 
 fn fault_of(error: &io::Error) -> FolderFault {

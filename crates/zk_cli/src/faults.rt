@@ -13,7 +13,12 @@ use zk_path::NoMemory;
 pub(crate) fn faults(rt: &HostRuntime) -> Sink<Explaining<Stderr>>
     ensures { write_failures_of result ≡ 0 }
 {
-    Sink::new(Explaining::new(rt.stderr(), explains(rt)))
+    Sink::new(new_explaining(rt))
+}
+
+/// Standard error, with explanations if they are asked for.
+pub(crate) fn new_explaining(rt: &HostRuntime) -> Explaining<Stderr> {
+    Explaining::new(rt.stderr(), explains(rt))
 }
 
 /// Prints why the program stops. Returns the exit status.

@@ -5,19 +5,24 @@
 mod acting;
 mod asking;
 mod clock;
+mod comparing;
 mod debugging;
 mod disk_folder;
 mod ensemble;
 mod faults;
+mod held_fault;
 mod listening;
+mod new_file;
+mod one_log;
 
-use acting::open_and_act;
-use asking::{ask, follow_logs, tell_comparison};
+use asking::{ask, follow_logs, tell_comparison, write_state};
+use comparing::compare_several;
 use debugging::debug_directory;
 use disk_folder::is_directory;
 use ensemble::run_ensemble;
 use faults::refuse;
 use listening::listen;
+use one_log::act_on_files;
 use std::net::{Net, TcpListener, TcpStream};
 use std::process::ExitCode;
 use std::sync::Wait;
@@ -25,7 +30,8 @@ use std::thread::Threads;
 use std::{env, io, time};
 use zk_cli_args::{
     Command, CommandFault, CommandLine, FolderJob, FolderOrder, Form, Job, Refusal,
-    folder_debug_from, folder_job_from, read_command_line, refusal_of, refusal_of_bytes,
+    folder_debug_from, folder_job_from, read_command_line, read_comparisons, refusal_of,
+    refusal_of_bytes,
 };
 use zk_commands::Question;
 use zk_helps::explain_at;
@@ -60,7 +66,7 @@ fn run<R: Threads + Wait + Net<Listener = TcpListener, Stream = TcpStream> + tim
     match read_command_line(rt.alloc(), texts.as_slice()) {
         Ok(line) if line.follows => run_following(rt, threads, &line, texts.as_slice()),
         Ok(line) => run_command(rt, threads, &line),
-        Err(CommandFault::Refused(refusal)) => Ok(print(rt, &refusal)),
+        Err(CommandFault::Refused(refusal)) => compare_or_print(rt, texts.as_slice(), &refusal),
         Err(CommandFault::NoMemory) => Err(NoMemory),
     }
 }
@@ -78,12 +84,24 @@ fn run_command<
         Command::Debug(job) => debug_directory(rt, &job),
         Command::History(job) => ask(rt, form, &Question::History(job), job.folder, job.logs),
         Command::Top(job) => ask(rt, form, &Question::Top(job), job.folder, job.logs),
+        Command::Sessions(job) => ask(rt, form, &Question::Sessions, job.folder, job.logs),
+        Command::Session(job) => ask(rt, form, &Question::Session(job), job.folder, job.logs),
         Command::Compare(job) => tell_comparison(rt, form, &job),
         Command::Verify(job) => ask(rt, form, &Question::Verify, job.folder, job.logs),
         Command::Diff(job) => ask(rt, form, &Question::Diff(job), job.folder, job.logs),
         Command::Restore(job) => ask(rt, form, &Question::Restore(job), job.folder, job.logs),
+        Command::Snapshot(job) => write_state(rt, &job),
         Command::Serve(serving) => listen(threads, rt, serving),
         Command::Ensemble(job) => run_ensemble(rt, threads, &job.ensemble, job.record),
+    }
+}
+
+/// Compares the directories of a command line with three or more, or prints the message for the line.
+/// Returns the exit status.
+fn compare_or_print(rt: &HostRuntime, words: &[&str], refusal: &Refusal) -> Result<u8, NoMemory> {
+    match read_comparisons(rt.alloc(), words)? {
+        Some(job) => compare_several(rt, &job),
+        None => Ok(print(rt, refusal)),
     }
 }
 
@@ -111,7 +129,7 @@ fn act_or_ask(rt: &HostRuntime, form: Form, job: &Job) -> Result<u8, NoMemory> {
             return debug_directory(rt, &debug);
         }
     }
-    open_and_act(rt, form, job)
+    act_on_files(rt, form, job)
 }
 
 fn look(rt: &HostRuntime, form: Form, job: &FolderJob) -> Result<u8, NoMemory> {

@@ -23,3 +23,4 @@ pub mod Later
 pub mod Outcomes
 pub mod Starts
 pub mod Questions
+pub mod LogFolders

@@ -9,6 +9,7 @@ use Rattle.zk_cli_args.specs.declared.form.Form.{Form}
 use Rattle.zk_cli_args.specs.declared.form.Form.TheVariants as forms
 use Rattle.zk_cli_args.specs.declared.history.HistoryJob.{HistoryJob}
 use Rattle.zk_cli_args.specs.declared.restoration.RestoreJob.{RestoreJob}
+use Rattle.zk_cli_args.specs.declared.session.SessionJob.{SessionJob}
 use Rattle.zk_cli_args.specs.declared.top.By.{By}
 use Rattle.zk_cli_args.specs.declared.top.By.TheVariants as bys
 use Rattle.zk_cli_args.specs.declared.top.TopJob.{TopJob}
@@ -31,9 +32,14 @@ use Rattle.zk_json_commands.specs.Histories as json_histories
 use Rattle.zk_json_commands.specs.States.{TellsState}
 use Rattle.zk_json_commands.specs.Tops as json_tops
 use Rattle.zk_json_commands.specs.Verifications.{TellsReport}
+use Rattle.zk_json_files.specs.Files.{TellsObjects}
 use Rattle.zk_listings.specs.Listings.{TellsLines}
 use Rattle.zk_path.specs.declared.memory.NoMemory.{NoMemory}
 use Rattle.zk_records.specs.declared.sink.Sink.{Sink}
+use Rattle.zk_session_commands.specs.Reports.{TellsSession, TellsSessions}
+use Rattle.zk_session_commands.specs.declared.asked_session.AskedSession.{AskedSession}
+use Rattle.zk_session_lines.specs.declared.line_form.LineForm.{LineForm}
+use Rattle.zk_session_lines.specs.declared.line_form.LineForm.TheVariants as line_forms
 use Rattle.zk_tree_changes.specs.DifferenceReports as differences
 use Rattle.zk_tree_changes.specs.ScriptReports.{TellsScript}
 use Rattle.zk_verification.specs.Outcomes.{TellsVerification}
@@ -59,9 +65,18 @@ key_of bys.Session = keys.Session
 abbrev pub range_of : TopJob → Range
 range_of job = record { from = bound_of job.from; to = bound_of job.to }
 
+-- sessions have one form of lines
+abbrev pub line_form : Form → LineForm
+line_form forms.Json = line_forms.Json
+line_form form = line_forms.Text
+
+abbrev pub asked_of : SessionJob → Form → AskedSession
+asked_of job form = record { session = job.session; form = line_form form }
+
 -- ---- each question
 
 abbrev pub Looks : {O E : Type 0} → (O → Option (List ℕ)) → (E → Option (List ℕ)) → FolderOrder → Form → Directory → Sink O → Sink O → Sink E → Sink E → Result ℕ NoMemory → Type 0
+Looks written told orders.Files forms.Json d output output' faults faults' result = TellsObjects written told d.snapshots d.snapshot_bytes d.logs d.log_bytes output output' faults faults' result
 Looks written told orders.Files form d output output' faults faults' result = TellsFiles written told d.snapshots d.snapshot_bytes d.logs d.log_bytes output output' faults faults' result
 Looks written told orders.List form d output output' faults faults' result = TellsLines written told form d.snapshots d.logs d.log_bytes output output' faults faults' result
 Looks written told (orders.Show until) forms.Json d output output' faults faults' result = TellsState written told d.snapshots d.snapshot_bytes d.logs d.log_bytes (upto_of until) output output' faults faults' result
@@ -93,6 +108,8 @@ abbrev pub Prints : {O E : Type 0} → (O → Option (List ℕ)) → (E → Opti
 Prints written told form (questions.Look order) d output output' faults faults' result = Looks written told order form d output output' faults faults' result
 Prints written told form (questions.History job) d output output' faults faults' result = TellsHistoryIn written told form job d output output' faults faults' result
 Prints written told form (questions.Top job) d output output' faults faults' result = TellsTopIn written told form job d output output' faults faults' result
+Prints written told form questions.Sessions d output output' faults faults' result = TellsSessions written told (line_form form) d.snapshots d.snapshot_bytes d.logs d.log_bytes output output' faults faults' result
+Prints written told form (questions.Session job) d output output' faults faults' result = TellsSession written told (asked_of job form) d.snapshots d.snapshot_bytes d.logs d.log_bytes output output' faults faults' result
 Prints written told form questions.Verify d output output' faults faults' result = TellsVerificationIn written told form d output output' faults faults' result
 Prints written told form (questions.Diff job) d output output' faults faults' result = TellsDifferenceIn written told form job d output output' faults faults' result
 Prints written told form (questions.Restore job) d output output' faults faults' result = TellsRestore written told job d output output' faults faults' result

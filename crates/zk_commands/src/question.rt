@@ -1,18 +1,23 @@
 //! What is asked of a data directory, and what is written for it.
 ghost use Rattle.std.specs.Prelude.{◌≡◌, ◌-◌, ◌<◌, ◌^◌};
-ghost use Rattle.zk_commands.specs.Questions.{Prints, Looks, TellsDifferenceIn, TellsHistoryIn, TellsRestore, TellsTopIn, TellsVerificationIn, bound_of, key_of, range_of, upto_of};
+ghost use Rattle.zk_commands.specs.Questions.{Prints, Looks, TellsDifferenceIn, TellsHistoryIn, TellsRestore, TellsTopIn, TellsVerificationIn, asked_of, bound_of, key_of, line_form, range_of, upto_of};
 ghost use Rattle.zk_commands.specs.Starts.{Directory};
 ghost use Rattle.zk_records.specs.Sinks.{write_failures_of};
 
 use std::alloc::Global;
 use std::io::Write;
-use zk_cli_args::{By, DiffJob, FolderOrder, Form, HistoryJob, RestoreJob, TopJob, Until};
+use zk_cli_args::{
+    By, DiffJob, FolderOrder, Form, HistoryJob, RestoreJob, SessionJob, TopJob, Until,
+};
 use zk_directory_state::{Bound, Folder, Range, Upto, files, show};
 use zk_incidents::{Key, history, top};
 use zk_json_commands::{diff_json, history_json, show_json, top_json, verify_json};
+use zk_json_files::files_json;
 use zk_listings::list_directory;
 use zk_log::Sink;
 use zk_path::NoMemory;
+use zk_session_commands::{AskedSession, session, sessions};
+use zk_session_lines::LineForm;
 use zk_tree_changes::{diff, restore};
 use zk_verification::verify;
 
@@ -25,6 +30,10 @@ pub enum Question<'a> {
     History(HistoryJob<'a>),
     /// Which paths or sessions have the most writes.
     Top(TopJob<'a>),
+    /// What its sessions did.
+    Sessions,
+    /// What one session did.
+    Session(SessionJob<'a>),
     /// What is wrong with it.
     Verify,
     /// What differs between two of its states.
@@ -54,6 +63,10 @@ pub fn ask<S: Folder, L: Folder, O: Write, E: Write>(
         Question::Look(order) => look(alloc, form, *order, snapshots, logs, output, faults),
         Question::History(job) => tell_history(alloc, form, job, snapshots, logs, output, faults),
         Question::Top(job) => tell_top(alloc, form, job, snapshots, logs, output, faults),
+        Question::Sessions => { sessions(alloc, snapshots, logs, line_form(form), output, faults) }
+        Question::Session(job) => {
+            session(alloc, snapshots, logs, asked_of(job, form), output, faults)
+        }
         Question::Verify => tell_verification(alloc, form, snapshots, logs, output, faults),
         Question::Diff(job) => tell_difference(alloc, form, job, snapshots, logs, output, faults),
         Question::Restore(job) => tell_script(alloc, job, snapshots, logs, output, faults),
@@ -76,7 +89,10 @@ fn look<S: Folder, L: Folder, O: Write, E: Write>(
         output.old output.new faults.old faults.new result }
 {
     match order {
-        FolderOrder::Files => files(alloc, snapshots, logs, output, faults),
+        FolderOrder::Files => match form {
+            Form::Json => files_json(alloc, snapshots, logs, output, faults),
+            Form::Lines | Form::Times => files(alloc, snapshots, logs, output, faults),
+        },
         FolderOrder::List => list_directory(alloc, form, snapshots, logs, output, faults),
         FolderOrder::Show { until } => match form {
             Form::Json => show_json(alloc, snapshots, logs, upto_of(until), output, faults),
@@ -228,6 +244,24 @@ fn bound_of(until: Option<Until>) -> Option<Bound>
         Some(Until::Time(time)) => Some(Bound::Time(time)),
         Some(Until::Last) => None,
         None => None,
+    }
+}
+
+fn asked_of(job: &SessionJob, form: Form) -> AskedSession
+    ensures { result ≡ asked_of job.now form }
+{
+    AskedSession {
+        session: job.session,
+        form: line_form(form),
+    }
+}
+
+fn line_form(form: Form) -> LineForm
+    ensures { result ≡ line_form form }
+{
+    match form {
+        Form::Json => LineForm::Json,
+        Form::Lines | Form::Times => LineForm::Text,
     }
 }
 
