@@ -2,7 +2,8 @@
 //! program.
 use std::alloc::Global;
 use zk_cli_args::{
-    Command, CommandLine, ErrorKind, Form, Order, read_command_line, refusal_of_bytes,
+    Command, CommandLine, ComparedFolder, ErrorKind, Form, Order, read_command_line,
+    read_comparisons, refusal_of_bytes,
 };
 
 /// A command line, with single spaces between words: its port, its number of servers and its number
@@ -55,11 +56,11 @@ static FORMS: [Formed; 10] = [
     ("zk list d --json", Some((Form::Json, false))),
     ("zk list --time iso d", Some((Form::Times, false))),
     ("zk list d --follow --json", Some((Form::Json, true))),
-    ("zk history d /a --json", Some((Form::Json, false))),
+    ("zk files d --json", Some((Form::Json, false))),
     // a directory of this name
     ("zk list d --logs --json", Some((Form::Lines, false))),
     // forms that the command does not have
-    ("zk files d --json", None),
+    ("zk restore d /a --json", None),
     ("zk top d --by path --time iso", None),
     ("zk show d last --follow", None),
     ("zk list d --json --time iso", None),
@@ -74,6 +75,73 @@ fn is_formed(alloc: Global, row: &Formed) -> bool {
     match read_command_line(alloc, words.as_slice()) {
         Ok(line) => wanted == Some((line.form, line.follows)),
         Err(_) => wanted.is_none(),
+    }
+}
+
+/// Directories, each with that of its logs.
+type Folders = &'static [(&'static str, Option<&'static str>)];
+
+/// A command line, its form, and the directories that it compares with the first; none for a line of
+/// another command.
+type Compared = (&'static str, Form, Folders);
+
+static COMPARED: [Compared; 7] = [
+    (
+        "zk compare a b c",
+        Form::Lines,
+        &[("a", None), ("b", None), ("c", None)],
+    ),
+    (
+        "zk compare a --logs2 x b c --json --logs=y -- -d",
+        Form::Json,
+        &[
+            ("a", Some("y")),
+            ("b", Some("x")),
+            ("c", None),
+            ("-d", None),
+        ],
+    ),
+    (
+        "zk compare --logs3 x a b c",
+        Form::Lines,
+        &[("a", None), ("b", None), ("c", Some("x"))],
+    ),
+    // the logs of a directory that is not there
+    ("zk compare a b c --logs4 x", Form::Lines, &[]),
+    ("zk compare a b", Form::Lines, &[]),
+    ("zk compare a b c --time iso", Form::Lines, &[]),
+    ("zk verify a b c", Form::Lines, &[]),
+];
+
+fn are_folders(found: &[ComparedFolder<'_>], folders: Folders) -> bool {
+    if found.len() != folders.len() {
+        return false;
+    }
+    for (it, (folder, logs)) in found.iter().zip(folders) {
+        if it.folder != *folder || it.logs != *logs {
+            return false;
+        }
+    }
+    true
+}
+
+/// Whether the command line of a test case compares these directories.
+fn is_compared(alloc: Global, row: &Compared) -> bool {
+    let (text, form, folders) = *row;
+    let Ok(words) = text.split(' ').collect::<Vec<_>>(alloc) else {
+        return false;
+    };
+    match read_comparisons(alloc, words.as_slice()) {
+        Ok(Some(it)) => it.form == form && are_folders(it.folders.as_slice(), folders),
+        Ok(None) => folders.is_empty(),
+        Err(_) => false,
+    }
+}
+
+#[test]
+fn command_lines_compare_several_directories(rt: HostRuntime) {
+    for row in &COMPARED {
+        assert!(rt; is_compared(rt.alloc(), row), "{}", row.0);
     }
 }
 

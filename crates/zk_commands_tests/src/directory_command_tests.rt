@@ -3,9 +3,10 @@ use crate::files::{
     LISTLESS_SNAPSHOT, LOG_1, LOG_6, LOG_8, LOG_WITH_DIGEST, LOG_WITH_OTHER, SNAPSHOT,
 };
 use std::alloc::Global;
+use zk_directory::FileName;
 use zk_directory_state::{
     DirectoryFault, Folder, FolderFault, HistoryFault, RestoreFault, Upto, history_fault, logs_in,
-    read_logs, show, shown_of, slices_of,
+    read_logs, read_snapshot_file, show, shown_of, slices_of,
 };
 use zk_listings::{Form, list_directory};
 use zk_log::{DripOut, Ending, Sink};
@@ -291,6 +292,17 @@ fn logs_of_a_directory(rt: HostRuntime) {
         return;
     };
     assert!(rt; slices.len() == 2 && slices[0] == LOG_1 && slices[1] == LOG_6);
+}
+
+#[test]
+fn a_snapshot_that_cannot_be_read_is_named(rt: HostRuntime) {
+    let alloc = rt.alloc();
+    let folder = MemoryFolder { files: ALL };
+    assert!(rt;
+        matches!(read_snapshot_file(alloc, &folder, 4), Ok(bytes) if bytes.as_slice() == SNAPSHOT)
+    );
+    let unread = HistoryFault::Unreadable(FileName::Snapshot { zxid: 6 });
+    assert!(rt; matches!(read_snapshot_file(alloc, &folder, 6), Err(fault) if fault == unread));
 }
 
 #[test]

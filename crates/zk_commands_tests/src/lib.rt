@@ -18,6 +18,8 @@ mod base_tests;
 #[cfg(test)]
 mod command_tests;
 #[cfg(test)]
+mod comparison_tests;
+#[cfg(test)]
 mod debugger_tests;
 #[cfg(test)]
 mod device_tests;
@@ -29,6 +31,8 @@ mod explanation_tests;
 mod fault_tests;
 #[cfg(test)]
 mod field_tests;
+#[cfg(test)]
+mod file_tests;
 #[cfg(test)]
 mod files;
 #[cfg(test)]
@@ -47,3 +51,5 @@ mod restore_tests;
 mod server_tests;
 #[cfg(test)]
 mod session_tests;
+#[cfg(test)]
+mod snapshot_tests;

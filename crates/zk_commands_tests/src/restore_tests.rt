@@ -7,7 +7,7 @@ use crate::files::{
 use std::alloc::Global;
 use zk_directory::{Chain, LogFileFault, Turn, read_log_file};
 use zk_directory_state::{
-    Base, DirectoryFault, Restore, RestoreFault, Restored, check_end, restore, take_entry,
+    Base, DirectoryFault, Restore, RestoreFault, Restored, check_end, restore, take_entry, take_on,
     window_end,
 };
 use zk_fold::Fold;
@@ -198,6 +198,21 @@ fn entries_are_joined_without_a_state(rt: HostRuntime) {
     assert!(rt; some == Some((2, true)));
     let broken = taken_of(alloc, Chain::new(alloc, Some(6), None), BROKEN_LOG_6);
     assert!(rt; broken == Some((1, false)));
+}
+
+/// The number of a log's entries, taken after the transaction 99, and the zxid of the last one.
+fn taken_after_99(alloc: Global, bytes: &'static [u8]) -> Option<(usize, Option<i64>)> {
+    let mut chain = Chain::new(alloc, Some(99), None);
+    let file = read_log_file(alloc, bytes).ok()?;
+    for entry in &file.entries {
+        take_on(&mut chain, entry).ok()?;
+    }
+    Some((chain.taken.len(), chain.position))
+}
+
+#[test]
+fn entries_that_continue_no_others_are_taken(rt: HostRuntime) {
+    assert!(rt; taken_after_99(rt.alloc(), LOG_6) == Some((4, Some(9))));
 }
 
 /// The position after the entries of a log, and whether the window is over.

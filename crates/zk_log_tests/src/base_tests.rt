@@ -20,7 +20,7 @@ pub(crate) fn draft_of(alloc: Global, bytes: &[u8]) -> Option<Result<Draft, Base
 }
 
 /// Settles the draft of a snapshot at the zxid 16 (hexadecimal 10).
-fn settled(alloc: Global, bytes: &[u8]) -> Option<Result<Fold, BaseFault>> {
+pub(crate) fn settled(alloc: Global, bytes: &[u8]) -> Option<Result<Fold, BaseFault>> {
     match draft_of(alloc, bytes)? {
         Ok(draft) => Some(settle(alloc, draft, 16)),
         Err(fault) => Some(Err(fault)),

@@ -38,6 +38,8 @@ mod name_tests;
 #[cfg(test)]
 mod newer_tests;
 #[cfg(test)]
+mod owner_tests;
+#[cfg(test)]
 mod replay_tests;
 #[cfg(test)]
 mod snapshot_tests;
