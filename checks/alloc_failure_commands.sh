@@ -1,7 +1,7 @@
 #!/usr/bin/env bash
 # Lets each allocation fail in turn, from the first on until a run meets none, while the proved program shows
 # examples/first_log_head.log, lists the first log, assembles its listing, and mends two logs of 3.8 servers; and the same for a log
-# with a path of 200 bytes and contents that are longer than a buffer of output. Each run must end with the whole output, or with
+# with a path of 200 bytes and contents that are longer than a buffer of output, of which it also writes a snapshot. Each run must end with the whole output, or with
 # `zk: memory`, status 1, and a prefix of the output. A debug script may also go on after a line `B4`: a debugger that failed prints
 # `B5` until it is reset, and then starts again with its breakpoints. If a breakpoint cannot be allocated, the rest is as if its line
 # were not there. Run scripts have a check of their own, `alloc_failure_scripts.py`.
@@ -98,6 +98,12 @@ grep -q "^\"$path\" x6869 " "$work/long.shown"
 refuse_each "$work/long.shown" show "$work/long.log" last
 refuse_each "$work/long.listing" list "$work/long.log"
 refuse_each "$work/long.log" asm "$work/long.listing" @
+# a snapshot of more than one part
+mkdir "$work/long"
+cp "$work/long.log" "$work/long/log.100000001"
+"$zk" snapshot "$work/long" "$work/long.snapshot" --at 0x100000003
+[ "$(stat -c %s "$work/long.snapshot")" -gt 120000 ]
+refuse_each "$work/long.snapshot" snapshot "$work/long" @ --at 0x100000003
 
 # a debug script without breakpoints: a failed line alters no result after it, but by the failed debugger
 "$zk" asm examples/lock.listing "$work/lock.log"

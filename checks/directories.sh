@@ -51,14 +51,16 @@ prints '' --logs "$work/data" -- "$real"
 prints '/^log/d' "$work/snapshots"
 prints '/^snapshot/d' --logs "$work/logs" "$work/logs"
 
-# other files beside
+# other files beside: those that a server reads too are named
 other=$(copied other)
 echo 1 >"$other/acceptedEpoch"
 cp "$real/$snapshot" "$other/snapshot.2000000D6"
 cp "$real/$log" "$other/log.02000000d8"
 cp "$real/$snapshot" "$other/$snapshot.gz"
 touch "$other/$(printf 'log.\377')"
-prints '' "$other"
+prints '$ a snapshot.2000000D6 unread snapshot.2000000d6\
+snapshot.2000000d6.gz unread snapshot.2000000d6\
+log.02000000d8 unread log.2000000d8' "$other"
 
 # a log that is missing leaves a gap; an empty one, as a crash leaves it, has no records
 missing=$(copied missing)
@@ -212,7 +214,10 @@ listed "$real" "$work/data"
 listed "$real" --logs "$work/logs" "$work/snapshots"
 listed "$real" "$other"
 fails "D3 000000020000004f 00000002000000d8" list "$missing"
-fails "G2 $log 8657" list "$corrupt"
+# of a log that is broken, what is intact on both sides
+lost="zk: lost $log 000000020000013d 000000020000013f 2026-11-27T14:58:02.472Z 2026-11-27T14:58:02.694Z"
+[ "$(ends "$zk" list "$corrupt")" = "0 $lost"$'\n'"$range" ]
+"$zk" list "$real" 2>"$work/none" | grep -v '^000000020000013e ' | cmp - "$work/out"
 
 # ---- what is no directory with files
 for command in "show last" "list"; do

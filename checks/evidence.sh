@@ -126,6 +126,51 @@ says "0 " top "$work/first" --by path --to 2020-01-01T00:00
 says "0 " list "$work/blank"
 [ ! -s "$work/out" ]
 
+# ---- a damaged place of a log
+
+# lost LOG AT COUNT: what these bytes of a log of the directory lose: the line for it, and the zxids, by a reader in Python
+lost() {
+    python3 - "$real" "$@" <<'END'
+import datetime, struct, sys
+from pathlib import Path
+directory, log, at, count = Path(sys.argv[1]), sys.argv[2], int(sys.argv[3]), int(sys.argv[4])
+clock = lambda time: f"{datetime.datetime.fromtimestamp(time // 1000, datetime.timezone.utc):%Y-%m-%dT%H:%M:%S}.{time % 1000:03d}Z"
+before, gone, after = None, [], None
+for file in sorted(directory.glob("log.*"), key=lambda file: int(file.name[4:], 16)):
+    data, place = file.read_bytes(), 16
+    while place + 12 < len(data) and (length := struct.unpack_from(">i", data, place + 8)[0]) > 0:
+        entry = struct.unpack_from(">qq", data, place + 24)
+        if file.name == log and place < at + count and at < place + 13 + length:
+            gone.append(f"{entry[0]:016x}")
+        elif not gone:
+            before = entry
+        elif after is None:
+            after = entry
+        place += 13 + length
+shown = lambda it: ("-", "-") if it is None else (f"{it[0]:016x}", clock(it[1]))
+print("zk: lost", log, shown(before)[0], shown(after)[0], shown(before)[1], shown(after)[1])
+print("\\|".join(gone))
+END
+}
+# zeros, as a bad sector leaves them, and one wrong byte: within a log, at its beginning, across its first entry, and at the very end
+for place in "log.10000022d 4096 4096" "log.200000050 8192 512" "log.200000050 16 1" "log.200000050 5000 1" "log.2000000d8 40 1" "log.10000022d 20 1" "log.2000000d8 8718 1"; do
+    # shellcheck disable=SC2086
+    set -- $place
+    damaged=$(copied damaged)
+    head -c "$3" /dev/zero | tr '\0' '\377' >"$work/bytes"
+    [ "$3" = 1 ] || head -c "$3" /dev/zero >"$work/bytes"
+    dd if="$work/bytes" of="$damaged/$1" bs=1 seek="$2" conv=notrunc status=none
+    lost "$@" >"$work/lost"
+    line=$(head -n 1 "$work/lost")
+    gone=$(tail -n 1 "$work/lost")
+    [ "$(ends "$zk" list "$damaged" | head -n 1)" = "0 $line" ]
+    "$zk" list "$real" 2>"$work/unsaid" | grep -v "^\($gone\) " | cmp - "$work/out"
+    [ "$(ends "$zk" history "$damaged" / -r | head -n 1)" = "0 $line" ]
+    "$zk" history "$real" / -r 2>"$work/unsaid" | grep -v " \($gone\) " | cmp - "$work/out"
+    [ "$(ends "$zk" top "$damaged" --by path --json | head -n 1)" = "0 $line" ]
+    rm -rf "$damaged"
+done
+
 # ---- the end of an epoch
 
 # the logs and snapshots after 20000035f are missing, and no record has a digest: a server restores a tree from the others without a
@@ -182,6 +227,21 @@ for name in log.02000000d8 log.2000000d8.bak log.+2000000D8 snapshot.2000000D6 s
     says "0 " files "$other"
     cmp "$work/out" examples/directories/follower.files
 done
+# two names of one file: the one that a server writes is read, and else the first by name
+both=$(copied both)
+cp "$both/log.2000000d8" "$both/log.2000000d8.bak"
+: >"$both/snapshot.2000000D6"
+says "0 " files "$both"
+cmp "$work/out" - <<END
+$(cat examples/directories/follower.files)
+snapshot.2000000D6 unread snapshot.2000000d6
+log.2000000d8.bak unread log.2000000d8
+END
+mv "$both/log.2000000d8" "$both/log.2000000D8"
+says "0 " files "$both"
+[ "$(tail -n 1 "$work/out")" = "log.2000000d8.bak unread log.2000000d8" ]
+says "0 " show "$both" last
+cmp "$work/out" "$work/restored"
 # names that a server leaves out
 mkdir "$work/none"
 touch "$work/none"/{log.,log.xyz,log.-1,log..d8,log_d8,snapshot,snapshot.0x1}
